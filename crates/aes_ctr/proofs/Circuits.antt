@@ -59,7 +59,7 @@ module _ (slices made : List (List ℕ)) (each : All Is32 slices) (each_made : A
   gates_size [] h = All-nil Is32
   gates_size (g ∷ gs) h = All-cons Is32 (slice_of slices made g) (map (slice_of slices made) gs) (gate_size g (left _ _ h)) (gates_size gs (right _ _ h))
 
-  module _ (j p : ℕ) (block : j < 16) (place : p < 16) where
+  module _ (j p : ℕ) (block : j < 16) (offset : p < 16) where
     abbrev q : ℕ
     q = 16 * (j % 2) + p
 

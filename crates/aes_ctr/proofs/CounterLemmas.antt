@@ -55,7 +55,7 @@ counts (suc (suc zero)) h = 204
 counts (suc (suc (suc zero))) h = 240
 counts (suc (suc (suc (suc i)))) h = 0
 
--- these are the bits of j at block j's place, as trying each j tells
+-- these are the bits of j at block j's position, as trying each j tells
 counts_tried : (i : ℕ) → i < 4 → map (λ j. bit_at (counts i (j % 2)) (j / 2)) (range_with_len 0 16) ≡ map (λ j. bit_at j i) (range_with_len 0 16)
 counts_tried zero low = refl
 counts_tried (suc zero) low = refl
@@ -74,7 +74,7 @@ last_bytes even odd = replicate 15 0 ++ even ∷ replicate 15 0 ++ odd ∷ []
 abbrev pub set_in_last : List ℕ → ℕ → List ℕ
 set_in_last slice i = zip2 bit_or slice (last_bytes (counts i 0) (counts i 1))
 
--- every other byte is zero, as trying each place tells
+-- every other byte is zero, as trying each position tells
 zeros_tried : (even odd h : ℕ) → h < 2 → map (λ p. get_or (last_bytes even odd) (16 * h + p) 0) (range_with_len 0 15) ≡ map (λ p. 0) (range_with_len 0 15)
 zeros_tried even odd zero low = refl
 zeros_tried even odd (suc zero) low = refl
@@ -170,8 +170,8 @@ module _ (n j : ℕ) (slices : List (List ℕ)) (are : AreSlices slices) (fits :
         ap (λ (b : ℕ). bit_at b i) (but_last (high_bytes n) ((n + j) % 256) (n % 256) p before)
         ∙ sym (old p i in_block low) ∙ sym (before_last p i before low)
     | inr at ↦
-        let place : 15 ≡ p = omega arith in
-        subst (λ (q : ℕ). bit_at (get_or (high_bytes n ++ ((n + j) % 256) ∷ []) q 0) i ≡ bit_in (get_or (counted slices) i []) j q) place (sym (last i low))
+        let offset : 15 ≡ p = omega arith in
+        subst (λ (q : ℕ). bit_at (get_or (high_bytes n ++ ((n + j) % 256) ∷ []) q 0) i ≡ bit_in (get_or (counted slices) i []) j q) offset (sym (last i low))
   ]
 
   -- becomes that counter and j

@@ -124,7 +124,7 @@ pub record AddUp (s t u : List ℕ) : Type 0 where
   pub second : (p : ℕ) → p < 16 → get_or u p 0 < 256
   pub sum : (p : ℕ) → p < 16 → get_or s p 0 ≡ bit_xor (get_or t p 0) (get_or u p 0)
 
--- a byte of a mixed column: the sum of what four functions give at four places
+-- a byte of a mixed column: the sum of what four functions give at four positions
 abbrev row : (f g h e : ℕ → ℕ) (v : List ℕ) (i j k l : ℕ) → ℕ
 row f g h e v i j k l = bit_xor (bit_xor (bit_xor (f (get_or v i 0)) (g (get_or v j 0))) (h (get_or v k 0))) (e (get_or v l 0))
 

@@ -32,9 +32,9 @@ module _ (f : ℕ → ℕ) (inside : (p : ℕ) → p < 16 → f p < 16) where
       bits (s ∷ rest) p lt =
           let q : ℕ = 16 * (j % 2) + p in
           let half : q / 16 ≡ j % 2 = omega arith in
-          let place : q % 16 ≡ p = omega arith in
+          let offset : q % 16 ≡ p = omega arith in
           ap₂ (λ (x : ℕ) (xs : List ℕ). x ∷ xs)
-          (ap (λ x. bit_at x (j / 2)) (get_or-map-range_with_len (λ i. get_or s (16 * (i / 16) + f (i % 16)) 0) 0 32 q q 0 (omega arith) (zero-add q) ∙ (λ i. get_or s (16 * half i + f (place i)) 0)))
+          (ap (λ x. bit_at x (j / 2)) (get_or-map-range_with_len (λ i. get_or s (16 * (i / 16) + f (i % 16)) 0) 0 32 q q 0 (omega arith) (zero-add q) ∙ (λ i. get_or s (16 * half i + f (offset i)) 0)))
           (bits rest p lt)
 
 -- ---- sums
@@ -117,4 +117,4 @@ module _ (slices : List (List ℕ)) (is : AreSlices slices) where
   pub doubled_block : (j : ℕ) → j < 16 → block_in (map (slice_of slices []) doubled_gates) j ≡ map times_x (block_in slices j)
   doubled_block j within =
       boxed_block times_x (λ bits. map (bit_of bits []) doubled_gates) tried slices (map (slice_of slices []) doubled_gates) j is.eight
-      (λ p place. gates_bits slices [] is.each (All-nil Is32) j p within place doubled_gates there)
+      (λ p offset. gates_bits slices [] is.each (All-nil Is32) j p within offset doubled_gates there)

@@ -25,11 +25,11 @@ shift_left a s = a * 2 ^ s % 2 ^ 8
 abbrev shift_right : ℕ → ℕ → ℕ
 shift_right a s = a / 2 ^ s
 
--- the bits of x that stay, and those of y that come up by s places
+-- the bits of x that stay, and those of y that come up by s positions
 abbrev pub first : ℕ → ℕ → ℕ → ℕ → ℕ
 first s even x y = bit_or (bit_and x even) (bit_and y even * 2 ^ s % 2 ^ 8)
 
--- the bits of x that come down by s places, and those of y that stay
+-- the bits of x that come down by s positions, and those of y that stay
 abbrev pub second : ℕ → ℕ → ℕ → ℕ → ℕ
 second s odd x y = bit_or (bit_and x odd / 2 ^ s) (bit_and y odd)
 

@@ -43,11 +43,11 @@ module _ (bit : ℕ) (both : List ℕ) (long : length both ≡ 32) where
 -- a block in both halves of a slice
 pub in_both : (block : List ℕ) (h p : ℕ) → length block ≡ 16 → h < 2 → p < 16 → get_or (block ++ block) (16 * h + p) 0 ≡ get_or block p 0
 in_both block zero p long low within =
-    let place : 16 * 0 + p ≡ p = omega arith in
-    ap (λ (q : ℕ). get_or (block ++ block) q 0) place ∙ get_or_append_left block block 0 p (omega arith)
+    let offset : 16 * 0 + p ≡ p = omega arith in
+    ap (λ (q : ℕ). get_or (block ++ block) q 0) offset ∙ get_or_append_left block block 0 p (omega arith)
 in_both block (suc zero) p long low within =
-    let place : 16 * 1 + p ≡ length block + p = omega arith in
-    ap (λ (q : ℕ). get_or (block ++ block) q 0) place ∙ get_or-append-add block block p 0
+    let offset : 16 * 1 + p ≡ length block + p = omega arith in
+    ap (λ (q : ℕ). get_or (block ++ block) q 0) offset ∙ get_or-append-add block block p 0
 in_both block (suc (suc h)) p long low within = absurd (omega arith)
 
 -- as a shuffle makes it of the block
@@ -55,11 +55,11 @@ pub both_is : (block : List ℕ) → length block ≡ 16 → map (λ q. get_or (
 both_is block long =
     ext_get_or 0 (map (λ q. get_or (block ++ block) (q % 16) 0) (range_with_len 0 32)) (block ++ block) (omega (arith, length-append block block))
     (λ q within.
-    let place : 16 * (q / 16) + q % 16 ≡ q = omega arith in
+    let offset : 16 * (q / 16) + q % 16 ≡ q = omega arith in
     let below : q < 32 = within in
     get_or-map-range_with_len (λ q. get_or (block ++ block) (q % 16) 0) 0 32 q q 0 below (zero-add q)
     ∙ get_or_append_left block block 0 (q % 16) (omega arith) ∙ sym (in_both block (q / 16) (q % 16) long (omega arith) (omega arith))
-    ∙ ap (λ (k : ℕ). get_or (block ++ block) k 0) place)
+    ∙ ap (λ (k : ℕ). get_or (block ++ block) k 0) offset)
 
 digit : (d m j : ℕ) → d < 2 → 0 < m → j < 8 → d ≡ bit_at (if d * m == m then 255 else 0) j
 digit zero m j small some within =

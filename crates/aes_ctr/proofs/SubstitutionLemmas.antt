@@ -48,14 +48,14 @@ module _ (slices summed multiplied inverted result : List (List ℕ)) (is : AreS
   are_slices = record { eight = ap length fourth; each = subst (All Is32) (sym fourth) (gates_size summed inverted sized_1 sized_3 outputs all_there) }
 
   pub substituted_block : (j : ℕ) → j < 16 → block_in result j ≡ map substituted (block_in slices j)
-  substituted_block j within = boxed_block substituted box tried slices result j is.eight (λ p place.
+  substituted_block j within = boxed_block substituted box tried slices result j is.eight (λ p offset.
       let bits_1 : bits_in summed j p ≡ map (bit_of (bits_in slices j p) []) sums =
-      ap (λ s. bits_in s j p) first ∙ gates_bits slices [] is.each (All-nil Is32) j p within place sums (subst (λ n. T (all_read n 0 sums)) (sym is.eight) tt) in
+      ap (λ s. bits_in s j p) first ∙ gates_bits slices [] is.each (All-nil Is32) j p within offset sums (subst (λ n. T (all_read n 0 sums)) (sym is.eight) tt) in
       let bits_2 : bits_in multiplied j p ≡ map (bit_of (bits_in summed j p) []) products =
-      ap (λ s. bits_in s j p) second ∙ gates_bits summed [] sized_1 (All-nil Is32) j p within place products (subst (λ n. T (all_read n 0 products)) (sym long_1) tt) in
+      ap (λ s. bits_in s j p) second ∙ gates_bits summed [] sized_1 (All-nil Is32) j p within offset products (subst (λ n. T (all_read n 0 products)) (sym long_1) tt) in
       let bits_3 : bits_in inverted j p ≡ map (bit_of (bits_in multiplied j p) []) inverses =
-      ap (λ s. bits_in s j p) third ∙ gates_bits multiplied [] sized_2 (All-nil Is32) j p within place inverses (subst (λ n. T (all_read n 0 inverses)) (sym long_2) tt) in
+      ap (λ s. bits_in s j p) third ∙ gates_bits multiplied [] sized_2 (All-nil Is32) j p within offset inverses (subst (λ n. T (all_read n 0 inverses)) (sym long_2) tt) in
       let bits_4 : bits_in result j p ≡ map (bit_of (bits_in summed j p) (bits_in inverted j p)) outputs =
-      ap (λ s. bits_in s j p) fourth ∙ gates_bits summed inverted sized_1 sized_3 j p within place outputs all_there in
+      ap (λ s. bits_in s j p) fourth ∙ gates_bits summed inverted sized_1 sized_3 j p within offset outputs all_there in
       bits_4 ∙ ap₂ (λ (a b : List ℕ). map (bit_of a b) outputs) bits_1
       (bits_3 ∙ ap (λ (a : List ℕ). map (bit_of a []) inverses) (bits_2 ∙ ap (λ (a : List ℕ). map (bit_of a []) products) bits_1)))

@@ -121,9 +121,9 @@ module _ (slices : List (List ℕ)) (vector : List ℕ) (t : ℕ) (count : lengt
       (length-take-le 16 (drop (16 * h) vector) (omega (arith, length-drop (16 * h) vector)))
       (λ p within. omega (arith, is p within, bytes (16 * h + p) (omega arith)))
       (λ p i within in_byte.
-      let place : 16 * h + p ≡ 16 * ((2 * t + h) % 2) + p = omega arith in
+      let offset : 16 * h + p ≡ 16 * ((2 * t + h) % 2) + p = omega arith in
       let bit : t ≡ (2 * t + h) / 2 = omega arith in
-      ap (λ n. bit_at n i) (is p within) ∙ bits (16 * h + p) i (omega arith) in_byte ∙ (λ k. slice_bit slices (place k) i (bit k)))
+      ap (λ n. bit_at n i) (is p within) ∙ bits (16 * h + p) i (omega arith) in_byte ∙ (λ k. slice_bit slices (offset k) i (bit k)))
     where
       is : (p : ℕ) → p < 16 → get_or (take 16 (drop (16 * h) vector)) p 0 ≡ get_or vector (16 * h + p) 0
       is p within = get_or-take 16 (drop (16 * h) vector) p 0 within ∙ get_or-drop (16 * h) vector p 0

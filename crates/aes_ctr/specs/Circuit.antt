@@ -5,7 +5,7 @@ use Rattle.std.specs.Prelude.{ℕ, ◌+◌, ◌%◌, List, [], ◌∷◌, bit_an
 use Rattle.std.specs.Prelude.{slice_index, slice_index_or}
 use Rattle.std.specs.Simd.Lanes.{zip2}
 
--- what goes into a step, by its place, and what was made of it before; a bit that is always set;
+-- what goes into a step, by its position, and what was made of it before; a bit that is always set;
 -- the exclusive or; the and
 pub data Gate : Type 0 where
   wire : ℕ → Gate

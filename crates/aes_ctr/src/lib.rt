@@ -1,7 +1,7 @@
 //! AES-128 (FIPS 197) in counter mode (NIST SP 800-38A, 6.5).
 //!
 //! The key stream is the encrypted counters 0, 1, 2, .., each a block of 16 bytes, high byte first;
-//! so any part of a text can be encrypted or decrypted alone, by its place in the text. No call
+//! so any part of a text can be encrypted or decrypted alone, by its offset in the text. No call
 //! takes memory.
 //!
 //! Sixteen blocks are encrypted at once, cut into slices of one bit of each byte, by exclusive ors,
@@ -101,25 +101,25 @@ impl Aes128 {
         let len = text.len();
         let mut done = 0;
         while done < len {
-            let place = offset + done as u64;
-            let skip = (place % STRETCH_LEN as u64) as usize;
+            let start = offset + done as u64;
+            let skip = (start % STRETCH_LEN as u64) as usize;
             let count = (STRETCH_LEN - skip).min(len - done);
-            self.xor_within_stretch(place, &table, &mut text[done..done + count]);
+            self.xor_within_stretch(start, &table, &mut text[done..done + count]);
             done += count;
         }
     }
 
-    // Adds the key stream from `place` on to `part`, which lies within one stretch.
-    fn xor_within_stretch(&self, place: u64, table: &[Slices; GROUPS], part: &mut [u8])
-        requires in_range { place + length part.old < 2 ^ 64 }
-        requires within { place % STRETCH_LEN + length part.old ≤ STRETCH_LEN }
+    // Adds the key stream from `offset` on to `part`, which lies within one stretch.
+    fn xor_within_stretch(&self, offset: u64, table: &[Slices; GROUPS], part: &mut [u8])
+        requires in_range { offset + length part.old < 2 ^ 64 }
+        requires within { offset % STRETCH_LEN + length part.old ≤ STRETCH_LEN }
         requires table { AreDifferences self.now table.now }
-        ensures { part.new ≡ xored_from self.now place part.old }
+        ensures { part.new ≡ xored_from self.now offset part.old }
     {
         if part.len() == STRETCH_LEN {
-            self.xor_stretch(place / STRETCH_LEN as u64, table, part);
+            self.xor_stretch(offset / STRETCH_LEN as u64, table, part);
         } else {
-            self.xor_pieces(place, part);
+            self.xor_pieces(offset, part);
         }
     }
 
@@ -158,25 +158,25 @@ impl Aes128 {
         let len = text.len();
         let mut done = 0;
         while done < len {
-            let place = offset + done as u64;
-            let skip = (place % STREAM_LEN as u64) as usize;
+            let start = offset + done as u64;
+            let skip = (start % STREAM_LEN as u64) as usize;
             let count = (STREAM_LEN - skip).min(len - done);
-            self.xor_within(place, &mut text[done..done + count]);
+            self.xor_within(start, &mut text[done..done + count]);
             done += count;
         }
     }
 
-    // Adds the key stream from `place` on to `part`, which lies within one piece of the stream.
-    fn xor_within(&self, place: u64, part: &mut [u8])
-        requires { place % STREAM_LEN + length part.old ≤ STREAM_LEN }
-        ensures { part.new ≡ xored_from self.now place part.old }
+    // Adds the key stream from `offset` on to `part`, which lies within one piece of the stream.
+    fn xor_within(&self, offset: u64, part: &mut [u8])
+        requires { offset % STREAM_LEN + length part.old ≤ STREAM_LEN }
+        ensures { part.new ≡ xored_from self.now offset part.old }
     {
-        let index = place / STREAM_LEN as u64;
+        let index = offset / STREAM_LEN as u64;
         let len = part.len();
         if len == STREAM_LEN {
             self.xor_piece(index, part);
         } else {
-            let skip = (place % STREAM_LEN as u64) as usize;
+            let skip = (offset % STREAM_LEN as u64) as usize;
             let stream = self.stream(index);
             add_bytes(part, &stream[skip..skip + len]);
         }

@@ -33,7 +33,7 @@ pub(crate) fn last_round(slices: Slices, key: Slices) -> Slices
     add(shifted(substituted(slices)), key)
 }
 
-// The sum of the blocks in each place.
+// The sum of the blocks at each position.
 #[inline(always)]
 pub(crate) fn add(a: Slices, b: Slices) -> Slices
     requires first { AreSlices a }

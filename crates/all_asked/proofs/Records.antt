@@ -4,7 +4,7 @@ use Rattle.std.specs.Prelude.{Contains, slice_get, option_map}
 use Rattle.std.proofs.lemmas.Bool.{cases_eq}
 use Rattle.std.proofs.lemmas.Option.{same_Some, slice_get-map}
 use Rattle.lemmas.proofs.Members.{contains_cases, contains_none}
-use Rattle.lemmas.proofs.Places.{get_last, get_left, get_other, get_pushed, get_set, set_cases}
+use Rattle.lemmas.proofs.Positions.{get_last, get_left, get_other, get_pushed, get_set, set_cases}
 use Rattle.wire.specs.declared.message.Body.{Body}
 use Rattle.wire.specs.declared.message.Message.{Message}
 use Rattle.request_record.specs.declared.requests.Asked.{Asked}
@@ -16,10 +16,10 @@ use Rattle.request_record.specs.Record.{RequestsState, answered_in, asked_all, a
 use Rattle.request_record.proofs.FollowLaws.{some_of, ticks_one}
 use Rattle.all_asked.specs.Asked.{AsksAll, IsAsked}
 
--- the request that stands at a place now asks the same of the same server
-record AsksStill (entries : List Request) (place : ℕ) (r : Request) : Type 0 where
+-- the request that stands at a position now asks the same of the same server
+record AsksStill (entries : List Request) (position : ℕ) (r : Request) : Type 0 where
   pub request : Request
-  pub there : slice_get entries place ≡ Some request
+  pub there : slice_get entries position ≡ Some request
   pub server : request.server ≡ r.server
   pub asked : request.asked ≡ r.asked
 
@@ -27,31 +27,31 @@ abbrev Aborts : Asked → Type 0
 Aborts asked = (share : ℕ) × (asked ≡ Aborting share)
 
 -- a request of before that was not waited for asked this
-record WasUnawaited (entries : List Request) (place : ℕ) (asked : Asked) : Type 0 where
+record WasUnawaited (entries : List Request) (position : ℕ) (asked : Asked) : Type 0 where
   pub request : Request
-  pub there : slice_get entries place ≡ Some request
+  pub there : slice_get entries position ≡ Some request
   pub unawaited : request.outcome ≡ Unawaited
   pub same : request.asked ≡ asked
 
 -- what was asked stays asked, and what is not waited for was not before, or aborts
 record Stays (old new : List Request) : Type 0 where
-  pub keeps : (place : ℕ) (r : Request) → slice_get old place ≡ Some r → AsksStill new place r
-  pub back : (place : ℕ) (s : Request) → slice_get new place ≡ Some s → s.outcome ≡ Unawaited → WasUnawaited old place s.asked ⊎ Aborts s.asked
+  pub keeps : (position : ℕ) (r : Request) → slice_get old position ≡ Some r → AsksStill new position r
+  pub back : (position : ℕ) (s : Request) → slice_get new position ≡ Some s → s.outcome ≡ Unawaited → WasUnawaited old position s.asked ⊎ Aborts s.asked
 
 itself : (entries : List Request) → Stays entries entries
 itself entries = record {
-  keeps = λ place r e. record { request = r; there = e; server = refl; asked = refl };
-  back = λ place s e o. inl record { request = s; there = e; unawaited = o; same = refl };
+  keeps = λ position r e. record { request = r; there = e; server = refl; asked = refl };
+  back = λ position s e o. inl record { request = s; there = e; unawaited = o; same = refl };
 }
 
 then_stays : (a b c : List Request) → Stays a b → Stays b c → Stays a c
 then_stays a b c f g = record {
-  keeps = λ place r e.
-      let s = f.keeps place r e in
-      let t = g.keeps place s.request s.there in record { request = t.request; there = t.there; server = t.server ∙ s.server; asked = t.asked ∙ s.asked };
-  back = λ place t e o. elim (g.back place t e o) [
+  keeps = λ position r e.
+      let s = f.keeps position r e in
+      let t = g.keeps position s.request s.there in record { request = t.request; there = t.there; server = t.server ∙ s.server; asked = t.asked ∙ s.asked };
+  back = λ position t e o. elim (g.back position t e o) [
     | inr aborts ↦ inr aborts
-    | inl was ↦ elim (f.back place was.request was.there was.unawaited) [
+    | inl was ↦ elim (f.back position was.request was.there was.unawaited) [
       | inl earlier ↦ inl record { request = earlier.request; there = earlier.there; unawaited = earlier.unawaited; same = earlier.same ∙ was.same }
       | inr aborts ↦ inr (aborts.0, sym was.same ∙ aborts.1)
     ]
@@ -60,15 +60,15 @@ then_stays a b c f g = record {
 
 is_asked_on : (old new : List Request) (server : ℕ) → Stays old new → IsAsked old server → IsAsked new server
 is_asked_on old new server stays a =
-    let s = stays.keeps a.place a.request a.there in
-    record { place = a.place; request = s.request; there = s.there; of_server = s.server ∙ a.of_server; asked = s.asked ∙ a.asked }
+    let s = stays.keeps a.position a.request a.there in
+    record { position = a.position; request = s.request; there = s.there; of_server = s.server ∙ a.of_server; asked = s.asked ∙ a.asked }
 
 asks_all_on : (servers : List ℕ) (old new : List Request) → Stays old new → AsksAll servers old → AsksAll servers new
 asks_all_on servers old new stays all = record {
   asked = λ server among. is_asked_on old new server stays (all.asked server among);
-  awaited = λ place s e o. elim (stays.back place s e o) [
+  awaited = λ position s e o. elim (stays.back position s e o) [
     | inr aborts ↦ aborts
-    | inl was ↦ (let old_one = all.awaited place was.request was.there was.unawaited in (old_one.0, sym was.same ∙ old_one.1))
+    | inl was ↦ (let old_one = all.awaited position was.request was.there was.unawaited in (old_one.0, sym was.same ∙ old_one.1))
   ];
 }
 
@@ -84,8 +84,8 @@ first_unawaited (Aborting share) e = (share, refl)
 
 stays_more : (server : ℕ) (asked : Asked) (r : RequestsState) → Stays r.entries (asked_more server asked r).entries
 stays_more server asked r = record {
-  keeps = λ place q e. record { request = q; there = get_left r.entries (first_request server asked r.clock ∷ []) place q e; server = refl; asked = refl };
-  back = λ place s e o. elim (get_pushed r.entries (first_request server asked r.clock) s place e) [
+  keeps = λ position q e. record { request = q; there = get_left r.entries (first_request server asked r.clock ∷ []) position q e; server = refl; asked = refl };
+  back = λ position s e o. elim (get_pushed r.entries (first_request server asked r.clock) s position e) [
     | inl before ↦ inl record { request = s; there = before; unawaited = o; same = refl }
     | inr last ↦
         let aborts = first_unawaited asked (ap (λ (q : Request). q.outcome) last.1 ∙ o) in
@@ -105,28 +105,28 @@ each_asked (s ∷ ss) r server among =
     elim (contains_cases s server ss among) [
       | inl is ↦
           is_asked_on next.entries (asked_all (asks_of ss) next).entries server (stays_asks (asks_of ss) next)
-          record { place = length r.entries; request = first_request s Holdings r.clock; there = get_last r.entries (first_request s Holdings r.clock); of_server = is; asked = refl }
+          record { position = length r.entries; request = first_request s Holdings r.clock; there = get_last r.entries (first_request s Holdings r.clock); of_server = is; asked = refl }
       | inr later ↦ each_asked ss next server later
     ]
 
 -- ---- answers
 
-stays_answered : (entries : List Request) (place : ℕ) (o : Option Request) (body : Body) → slice_get entries place ≡ o → Stays entries (answered_in entries place o body)
-stays_answered entries place None body there = itself entries
-stays_answered entries place (Some r) body there =
+stays_answered : (entries : List Request) (position : ℕ) (o : Option Request) (body : Body) → slice_get entries position ≡ o → Stays entries (answered_in entries position o body)
+stays_answered entries position None body there = itself entries
+stays_answered entries position (Some r) body there =
     let new : Request = with_outcome r (Answered body) in record {
-      keeps = λ i q e. elim (cases_eq i place) [
+      keeps = λ i q e. elim (cases_eq i position) [
         | inl here ↦
             let same : r ≡ q = same_Some r q (sym there ∙ ap (slice_get entries) (sym here) ∙ e) in
             record {
               request = new;
-              there = ap (slice_get (answered_in entries place (Some r) body)) here ∙ get_set entries place new r there;
+              there = ap (slice_get (answered_in entries position (Some r) body)) here ∙ get_set entries position new r there;
               server = ap (λ (x : Request). x.server) same;
               asked = ap (λ (x : Request). x.asked) same;
             }
-        | inr other ↦ record { request = q; there = get_other entries place i new other ∙ e; server = refl; asked = refl }
+        | inr other ↦ record { request = q; there = get_other entries position i new other ∙ e; server = refl; asked = refl }
       ];
-      back = λ i s e o. elim (set_cases entries place i new s e) [
+      back = λ i s e o. elim (set_cases entries position i new s e) [
         | inl here ↦ absurd (never (ap (λ (x : Request). x.outcome) here.1 ∙ o))
         | inr other ↦ inl record { request = s; there = other.1; unawaited = o; same = refl }
       ];
@@ -137,17 +137,17 @@ stays_answered entries place (Some r) body there =
 
 stays_counted : (m : Message) (r : RequestsState) (o : Option ℕ) → Stays r.entries (counted_at m r o).entries
 stays_counted m r None = itself r.entries
-stays_counted m r (Some place) = stays_answered r.entries place (slice_get r.entries place) m.body refl
+stays_counted m r (Some position) = stays_answered r.entries position (slice_get r.entries position) m.body refl
 
 -- ---- ticks
 
 stays_ticked : (now : ℕ) (entries : List Request) → Stays entries (map (ticked_one now) entries)
 stays_ticked now entries = record {
-  keeps = λ place r e.
+  keeps = λ position r e.
       let t = ticks_one now r in
-      record { request = ticked_one now r; there = slice_get-map (ticked_one now) entries place ∙ ap (option_map (ticked_one now)) e; server = t.server; asked = t.asked };
-  back = λ place s e o.
-      let was = some_of now (slice_get entries place) s (sym (slice_get-map (ticked_one now) entries place) ∙ e) in
+      record { request = ticked_one now r; there = slice_get-map (ticked_one now) entries position ∙ ap (option_map (ticked_one now)) e; server = t.server; asked = t.asked };
+  back = λ position s e o.
+      let was = some_of now (slice_get entries position) s (sym (slice_get-map (ticked_one now) entries position) ∙ e) in
       let t = ticks_one now was.0 in
       let outcome : (ticked_one now was.0).outcome ≡ Unawaited = ap (λ (x : Request). x.outcome) (sym was.2) ∙ o in
       elim t.outcome [
@@ -163,7 +163,7 @@ stays_ticked now entries = record {
 
 pub begun_asks_all : (servers : List ℕ) (session now : ℕ) → AsksAll servers (begun servers session now).entries
 begun_asks_all servers session now =
-    let none : AsksAll [] (fresh session now).entries = record { asked = λ server among. absurd (contains_none server among); awaited = λ place r e o. absurd cc } in
+    let none : AsksAll [] (fresh session now).entries = record { asked = λ server among. absurd (contains_none server among); awaited = λ position r e o. absurd cc } in
     record {
       asked = each_asked servers (fresh session now);
       awaited = (asks_all_on [] (fresh session now).entries (begun servers session now).entries (stays_asks (asks_of servers) (fresh session now)) none).awaited;

@@ -128,8 +128,8 @@ module _ (m : Making) where
               let left : List ℕ = drop (length made) text in
               let before_next : IsPieceOf (front ++ made ++ (left ++ behind)) offset now =
               subst (λ (t : List ℕ). IsPieceOf t offset now) (append_assoc (front ++ made) left behind) (far.put front text behind here long piece) in
-              let place : length (front ++ made) ≡ header_end + count * block_size g = length-append front made ∙ (λ p. here p + starts p) in
-              let put = put-next (header_end + count * block_size g) offset (front ++ made) (left ++ behind) block now next place is same before_next in
+              let begin : length (front ++ made) ≡ header_end + count * block_size g = length-append front made ∙ (λ p. here p + starts p) in
+              let put = put-next (header_end + count * block_size g) offset (front ++ made) (left ++ behind) block now next begin is same before_next in
               let low : length block ≤ length left = omega (arith, size, length-drop (length made) text, starts, long) in
               let total : length made + length block ≡ length (made ++ block) = sym (length-append made block) in
               let rest : drop (length block) (left ++ behind) ≡ drop (length (made ++ block)) text ++ behind =

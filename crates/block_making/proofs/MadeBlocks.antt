@@ -111,27 +111,27 @@ module _ (g : Geometry) (valid : IsGeometry g) where
 -- ---- a block of what a source brought
 
 module _ {S : Type 0} (gives : S → ℕ → List ℕ → S → Type 0) (m : Making) (number : ℕ) where
-  abbrev place : ℕ
-  place = number * m.geometry.segment_size
+  abbrev offset : ℕ
+  offset = number * m.geometry.segment_size
 
   -- a segment whose block has another hash is not the file's
-  pub block_differs : (old new : S) (segment file : List ℕ) → length segment ≡ segment_length m.geometry number → IsRead gives old place segment new
-      → tagged_hash Block (block_of m.geometry.needed m.share (xored_from m.key place segment)) ≢ get_or (hashes_of m) number []
+  pub block_differs : (old new : S) (segment file : List ℕ) → length segment ≡ segment_length m.geometry number → IsRead gives old offset segment new
+      → tagged_hash Block (block_of m.geometry.needed m.share (xored_from m.key offset segment)) ≢ get_or (hashes_of m) number []
       → HasBlock m number file → DiffersFromFile gives old file new
   block_differs old new segment file long read apart is =
-      let part : List ℕ = drop place file in
+      let part : List ℕ = drop offset file in
       let size : length (take m.geometry.segment_size part) ≡ length segment =
-      length-take m.geometry.segment_size part ∙ omega (arith, length-drop place file, is.long, long) in
-      other-differs gives old new place segment file read (λ e.
+      length-take m.geometry.segment_size part ∙ omega (arith, length-drop offset file, is.long, long) in
+      other-differs gives old new offset segment file read (λ e.
       let cut : take (length segment) part ≡ take m.geometry.segment_size part =
       elim (cases_lt (length part) m.geometry.segment_size) [
         | inl short ↦ take_all (length segment) part (omega (arith, size, length-take m.geometry.segment_size part)) ∙ sym (take_all m.geometry.segment_size part (omega (arith, short)))
         | inr enough ↦ (let same : length segment ≡ m.geometry.segment_size = omega (arith, size, length-take m.geometry.segment_size part) in ap (λ n. take n part) same)
       ] in
-      let encrypted : xored_from m.key place segment ≡ segment_at m.geometry number (xored m.key file) =
-      ap (xored_from m.key place) (e ∙ cut)
-      ∙ sym (take-xored m.key m.geometry.segment_size place part)
-      ∙ ap (take m.geometry.segment_size) (sym (drop-xored m.key place 0 file ∙ (let zero : 0 + place ≡ place = omega arith in ap (λ p. xored_from m.key p part) zero))) in
+      let encrypted : xored_from m.key offset segment ≡ segment_at m.geometry number (xored m.key file) =
+      ap (xored_from m.key offset) (e ∙ cut)
+      ∙ sym (take-xored m.key m.geometry.segment_size offset part)
+      ∙ ap (take m.geometry.segment_size) (sym (drop-xored m.key offset 0 file ∙ (let zero : 0 + offset ≡ offset = omega arith in ap (λ p. xored_from m.key p part) zero))) in
       apart (ap (λ (s : List ℕ). tagged_hash Block (block_of m.geometry.needed m.share s)) encrypted ∙ is.hash))
 
 -- a segment begins before the end of its file, and does not reach behind it
@@ -141,9 +141,9 @@ begins-before g number valid within =
     let next : (number + 1) * g.segment_size ≤ segment_count g * g.segment_size = mul-le-mul_right {m = number + 1} {n = segment_count g} g.segment_size (omega arith) in
     omega (arith, over, next)
 
-pub ends-within : (g : Geometry) (number place len : ℕ) → IsGeometry g → number < segment_count g → place ≡ number * g.segment_size → len ≡ segment_length g number
-    → place + len ≤ g.size
-ends-within g number place len valid within place_is len_is = omega (arith, begins-before g number valid within, place_is, len_is)
+pub ends-within : (g : Geometry) (number offset len : ℕ) → IsGeometry g → number < segment_count g → offset ≡ number * g.segment_size → len ≡ segment_length g number
+    → offset + len ≤ g.size
+ends-within g number offset len valid within offset_is len_is = omega (arith, begins-before g number valid within, offset_is, len_is)
 
 -- the room that a segment with its padding takes
 pub record IsRoom (g : Geometry) (number room : ℕ) : Type 0 where
@@ -156,22 +156,22 @@ is_room g number room valid inside is =
     record { within = omega (arith, rounded, (div_ceil_times (segment_length g number) g.needed valid.some_needed).0); rounded = rounded }
 
 -- a segment with its padding that stands where it was read
-pub segment_read : {S : Type 0} (gives : S → ℕ → List ℕ → S → Type 0) (old new : S) (m : Making) (number place len : ℕ) (padded segment : List ℕ) → number < segment_count m.geometry
-    → IsRoom m.geometry number (length padded) → place ≡ number * m.geometry.segment_size → len ≡ segment_length m.geometry number → length segment ≡ length (take len padded)
-    → IsRead gives old place segment new
-    → IsSegmentRead gives old m number (xored_from m.key place (take len (segment ++ drop len padded)) ++ replicate (length (segment ++ drop len padded) - len) 0) new
-segment_read gives old new m number place len padded segment within room place_is len_is long read =
+pub segment_read : {S : Type 0} (gives : S → ℕ → List ℕ → S → Type 0) (old new : S) (m : Making) (number offset len : ℕ) (padded segment : List ℕ) → number < segment_count m.geometry
+    → IsRoom m.geometry number (length padded) → offset ≡ number * m.geometry.segment_size → len ≡ segment_length m.geometry number → length segment ≡ length (take len padded)
+    → IsRead gives old offset segment new
+    → IsSegmentRead gives old m number (xored_from m.key offset (take len (segment ++ drop len padded)) ++ replicate (length (segment ++ drop len padded) - len) 0) new
+segment_read gives old new m number offset len padded segment within room offset_is len_is long read =
     let enough : len ≤ length padded = omega (arith, room.within, len_is) in
     let size : length segment ≡ len = long ∙ length-take-le len padded enough in
     let front : take len (segment ++ drop len padded) ≡ segment = take_at segment (drop len padded) len size in
-    let encrypted : length (xored_from m.key place segment) ≡ segment_length m.geometry number = length-xored_from m.key place segment ∙ size ∙ len_is in
-    let rest : length (segment ++ drop len padded) - len ≡ rounded_up (length (xored_from m.key place segment)) m.geometry.needed - length (xored_from m.key place segment) =
+    let encrypted : length (xored_from m.key offset segment) ≡ segment_length m.geometry number = length-xored_from m.key offset segment ∙ size ∙ len_is in
+    let rest : length (segment ++ drop len padded) - len ≡ rounded_up (length (xored_from m.key offset segment)) m.geometry.needed - length (xored_from m.key offset segment) =
     (let all : length (segment ++ drop len padded) ≡ length padded = omega (arith, length-append segment (drop len padded), length-drop len padded, size, enough) in
     (λ p. all p - len_is p) ∙ (λ p. room.rounded p - segment_length m.geometry number) ∙ λ p. rounded_up (sym encrypted p) m.geometry.needed - sym encrypted p) in
     record {
-      was = record { segment = segment; long = size ∙ len_is; read = subst (λ p. IsRead gives old p segment new) place_is read };
-      padded_is = (λ p. xored_from m.key place (front p) ++ replicate (rest p) 0)
-          ∙ ap (λ p. padded_segment m.geometry.needed (xored_from m.key p segment)) place_is;
+      was = record { segment = segment; long = size ∙ len_is; read = subst (λ p. IsRead gives old p segment new) offset_is read };
+      padded_is = (λ p. xored_from m.key offset (front p) ++ replicate (rest p) 0)
+          ∙ ap (λ p. padded_segment m.geometry.needed (xored_from m.key p segment)) offset_is;
     }
 
 -- a part that ended is a changed source

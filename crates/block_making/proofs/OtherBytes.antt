@@ -17,30 +17,30 @@ same_bytes xs ys = by (bytes_eq xs ys) (bytes_eq-Decides xs ys) where
   by false d = inr (λ e. false≢true (d.1 e))
 
 -- one of the reads of a part that a file has not brought other bytes
-has_other : (file : List ℕ) (reads : List Read) (place end : ℕ) → AreConsecutive place reads end
-    → bytes_of reads ≢ take (length (bytes_of reads)) (drop place file) → HasOther reads file
-has_other file [] place end run apart = absurd (apart refl)
-has_other file (r ∷ rs) place end run apart =
+has_other : (file : List ℕ) (reads : List Read) (offset end : ℕ) → AreConsecutive offset reads end
+    → bytes_of reads ≢ take (length (bytes_of reads)) (drop offset file) → HasOther reads file
+has_other file [] offset end run apart = absurd (apart refl)
+has_other file (r ∷ rs) offset end run apart =
     elim (same_bytes r.1 (take (length r.1) (drop r.0 file))) [
       | inr other ↦ record { read = r; among = (0, omega arith, refl); other = other }
       | inl same ↦
-          let here : r.1 ≡ take (length r.1) (drop place file) = same ∙ ap (λ n. take (length r.1) (drop n file)) run.0 in
-          let rest = has_other file rs (place + length r.1) end run.1 (λ e. apart (
+          let here : r.1 ≡ take (length r.1) (drop offset file) = same ∙ ap (λ n. take (length r.1) (drop n file)) run.0 in
+          let rest = has_other file rs (offset + length r.1) end run.1 (λ e. apart (
           (λ p. here p ++ e p)
-          ∙ ap (λ (l : List ℕ). take (length r.1) (drop place file) ++ take (length (bytes_of rs)) l) (sym (drop-drop (length r.1) place file))
-          ∙ sym (take-add (length r.1) (length (bytes_of rs)) (drop place file))
-          ∙ ap (λ n. take n (drop place file)) (sym (length-append r.1 (bytes_of rs))))) in
+          ∙ ap (λ (l : List ℕ). take (length r.1) (drop offset file) ++ take (length (bytes_of rs)) l) (sym (drop-drop (length r.1) offset file))
+          ∙ sym (take-add (length r.1) (length (bytes_of rs)) (drop offset file))
+          ∙ ap (λ n. take n (drop offset file)) (sym (length-append r.1 (bytes_of rs))))) in
           record { read = rest.read; among = Contains-append_right (r ∷ []) rs rest.read rest.among; other = rest.other }
     ]
 
 module _ {S : Type 0} (gives : S → ℕ → List ℕ → S → Type 0) where
   -- a part that the file has not
-  pub other-differs : (old new : S) (place : ℕ) (bytes file : List ℕ) → IsRead gives old place bytes new → bytes ≢ take (length bytes) (drop place file)
+  pub other-differs : (old new : S) (offset : ℕ) (bytes file : List ℕ) → IsRead gives old offset bytes new → bytes ≢ take (length bytes) (drop offset file)
       → DiffersFromFile gives old file new
-  other-differs old new place bytes file read apart = record {
+  other-differs old new offset bytes file read apart = record {
     reads = read.reads;
     run = read.run;
-    changed = inl (has_other file read.reads place (place + length bytes) read.consecutive (λ e. apart (read.bytes_are ∙ e ∙ ap (λ (l : List ℕ). take (length l) (drop place file)) (sym read.bytes_are))));
+    changed = inl (has_other file read.reads offset (offset + length bytes) read.consecutive (λ e. apart (read.bytes_are ∙ e ∙ ap (λ (l : List ℕ). take (length l) (drop offset file)) (sym read.bytes_are))));
   }
 
   pub ended-differs : (old new : S) (size : ℕ) (file : List ℕ) → HasEndedEarly gives old size new → length file ≡ size → DiffersFromFile gives old file new

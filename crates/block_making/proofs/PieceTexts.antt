@@ -39,18 +39,18 @@ drop-taken (suc m) (suc n) (x ∷ xs) = let e : n - m ≡ suc n - suc m = omega 
 -- ---- one part more
 
 -- The first part of the text stands; the next is written behind it. So that stands too.
-pub put-next : (place offset : ℕ) (front rest part out new : List ℕ) → length front ≡ place → new ≡ put_at place part offset out → length new ≡ length out
+pub put-next : (begin offset : ℕ) (front rest part out new : List ℕ) → length front ≡ begin → new ≡ put_at begin part offset out → length new ≡ length out
     → IsPieceOf (front ++ rest) offset out → IsPieceOf (front ++ part ++ drop (length part) rest) offset new
-put-next place offset front rest part out new here is long piece =
+put-next begin offset front rest part out new here is long piece =
     let n : ℕ = length out in
     let a : ℕ = length front in
     let m : ℕ = length part in
-    let e : ℕ = place + m - offset in
+    let e : ℕ = begin + m - offset in
     let text : List ℕ = front ++ rest in
-    let before : take (place - offset) out ≡ take n (drop offset front) =
-    ap (take (place - offset)) piece ∙ take-again (place - offset) n (drop offset text)
-    ∙ ap (λ (l : List ℕ). take n (take (place - offset) l)) (drop-append offset front rest)
-    ∙ ap (take n) (take_at (drop offset front) (drop (offset - a) rest) (place - offset) (length-drop offset front ∙ ap (λ k. k - offset) here)) in
+    let before : take (begin - offset) out ≡ take n (drop offset front) =
+    ap (take (begin - offset)) piece ∙ take-again (begin - offset) n (drop offset text)
+    ∙ ap (λ (l : List ℕ). take n (take (begin - offset) l)) (drop-append offset front rest)
+    ∙ ap (take n) (take_at (drop offset front) (drop (offset - a) rest) (begin - offset) (length-drop offset front ∙ ap (λ k. k - offset) here)) in
     let both : length (front ++ part) ≡ a + m = length-append front part in
     let none : drop (offset + e) front ≡ [] = drop_all (offset + e) front (omega (arith, here)) in
     let there : offset + e - a ≡ m + (offset - length (front ++ part)) = omega (arith, here, both) in
@@ -59,7 +59,7 @@ put-next place offset front rest part out new here is long piece =
     ap (drop e) piece ∙ drop-taken e n (drop offset text) ∙ ap (take (n - e)) (drop-drop e offset text ∙ drop-append (offset + e) front rest)
     ∙ (λ p. take (left p) (none p ++ drop (there p) rest))
     ∙ ap (take (n - (length (front ++ part) - offset))) (sym (drop-drop (offset - length (front ++ part)) m rest)) in
-    let mid : take (n - (place - offset)) (drop (offset - place) part) ≡ take (n - (a - offset)) (drop (offset - a) part) =
+    let mid : take (n - (begin - offset)) (drop (offset - begin) part) ≡ take (n - (a - offset)) (drop (offset - a) part) =
     λ p. take (n - (sym here p - offset)) (drop (offset - sym here p) part) in
     is ∙ (λ p. before p ++ mid p ++ after p)
     ∙ ap (λ (l : List ℕ). l ++ take (n - (length (front ++ part) - offset)) (drop (offset - length (front ++ part)) (drop m rest))) (sym (piece-append n offset front part))
@@ -115,47 +115,47 @@ piece-zeros offset n a b c d low =
 
 -- ---- two parts, one behind the other
 
-length-put_at : (place offset : ℕ) (part out : List ℕ) → length (put_at place part offset out) ≡ length out
-length-put_at place offset part out =
-    let front : List ℕ = take (place - offset) out in
-    let mid : List ℕ = take (length out - (place - offset)) (drop (offset - place) part) in
-    length-append (front ++ mid) (drop (place + length part - offset) out)
+length-put_at : (begin offset : ℕ) (part out : List ℕ) → length (put_at begin part offset out) ≡ length out
+length-put_at begin offset part out =
+    let front : List ℕ = take (begin - offset) out in
+    let mid : List ℕ = take (length out - (begin - offset)) (drop (offset - begin) part) in
+    length-append (front ++ mid) (drop (begin + length part - offset) out)
     ∙ omega (
       arith,
       length-append front mid,
-      length-take (place - offset) out,
-      length-take (length out - (place - offset)) (drop (offset - place) part),
-      length-drop (offset - place) part,
-      length-drop (place + length part - offset) out,
+      length-take (begin - offset) out,
+      length-take (length out - (begin - offset)) (drop (offset - begin) part),
+      length-drop (offset - begin) part,
+      length-drop (begin + length part - offset) out,
     )
 
 -- any bytes are a piece of some text
-of_some : (place offset : ℕ) (out : List ℕ) → IsPieceOf (zeros offset ++ out ++ zeros place) offset out
-of_some place offset out =
+of_some : (begin offset : ℕ) (out : List ℕ) → IsPieceOf (zeros offset ++ out ++ zeros begin) offset out
+of_some begin offset out =
     sym (
-    ap (λ (t : List ℕ). take (length out) (drop offset t)) (append_assoc (zeros offset) out (zeros place))
-    ∙ ap (take (length out)) (drop_at (zeros offset) (out ++ zeros place) offset (length-replicate offset 0))
-    ∙ take_at out (zeros place) (length out) refl
+    ap (λ (t : List ℕ). take (length out) (drop offset t)) (append_assoc (zeros offset) out (zeros begin))
+    ∙ ap (take (length out)) (drop_at (zeros offset) (out ++ zeros begin) offset (length-replicate offset 0))
+    ∙ take_at out (zeros begin) (length out) refl
     )
 
 -- they are one part
-pub put-twice : (place offset : ℕ) (first second out mid new : List ℕ) → mid ≡ put_at place first offset out → new ≡ put_at (place + length first) second offset mid
-    → new ≡ put_at place (first ++ second) offset out
-put-twice place offset first second out mid new is then =
-    let text : List ℕ = zeros offset ++ out ++ zeros place in
-    let front : List ℕ = take place text in
-    let rest : List ℕ = drop place text in
-    let long : length front ≡ place =
-    length-take-le place text (omega (arith, length-append (zeros offset ++ out) (zeros place), length-replicate {A = ℕ} place 0)) in
-    let old : IsPieceOf (front ++ rest) offset out = subst (λ (t : List ℕ). IsPieceOf t offset out) (sym (take-append-drop place text)) (of_some place offset out) in
-    let same : length mid ≡ length out = ap length is ∙ length-put_at place offset first out in
-    let same_too : length new ≡ length mid = ap length then ∙ length-put_at (place + length first) offset second mid in
-    let one = put-next place offset front rest first out mid long is same old in
-    let two = put-next (place + length first) offset (front ++ first) (drop (length first) rest) second mid new
+pub put-twice : (begin offset : ℕ) (first second out mid new : List ℕ) → mid ≡ put_at begin first offset out → new ≡ put_at (begin + length first) second offset mid
+    → new ≡ put_at begin (first ++ second) offset out
+put-twice begin offset first second out mid new is then =
+    let text : List ℕ = zeros offset ++ out ++ zeros begin in
+    let front : List ℕ = take begin text in
+    let rest : List ℕ = drop begin text in
+    let long : length front ≡ begin =
+    length-take-le begin text (omega (arith, length-append (zeros offset ++ out) (zeros begin), length-replicate {A = ℕ} begin 0)) in
+    let old : IsPieceOf (front ++ rest) offset out = subst (λ (t : List ℕ). IsPieceOf t offset out) (sym (take-append-drop begin text)) (of_some begin offset out) in
+    let same : length mid ≡ length out = ap length is ∙ length-put_at begin offset first out in
+    let same_too : length new ≡ length mid = ap length then ∙ length-put_at (begin + length first) offset second mid in
+    let one = put-next begin offset front rest first out mid long is same old in
+    let two = put-next (begin + length first) offset (front ++ first) (drop (length first) rest) second mid new
     (length-append front first ∙ ap (λ n. n + length first) long) then same_too one in
-    let both : List ℕ = put_at place (first ++ second) offset out in
-    let size : length both ≡ length out = length-put_at place offset (first ++ second) out in
-    let once = put-next place offset front rest (first ++ second) out both long refl size old in
+    let both : List ℕ = put_at begin (first ++ second) offset out in
+    let size : length both ≡ length out = length-put_at begin offset (first ++ second) out in
+    let once = put-next begin offset front rest (first ++ second) out both long refl size old in
     let left : drop (length second) (drop (length first) rest) ≡ drop (length (first ++ second)) rest =
     drop-drop (length second) (length first) rest ∙ ap (λ n. drop n rest) (sym (length-append first second)) in
     let texts : front ++ first ++ second ++ drop (length second) (drop (length first) rest) ≡ front ++ (first ++ second) ++ drop (length (first ++ second)) rest =

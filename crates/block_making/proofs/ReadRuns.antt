@@ -6,9 +6,9 @@ use Rattle.std.proofs.lemmas.List.Elements.{Contains-append_right}
 use Rattle.sources.specs.Change.{HasEndedEarly}
 use Rattle.sources.specs.Source.{AreConsecutive, IsRead, Read, Reads}
 
-consecutive-append : (xs ys : List Read) (place mid end : ℕ) → AreConsecutive place xs mid → AreConsecutive mid ys end → AreConsecutive place (xs ++ ys) end
-consecutive-append [] ys place mid end first second = subst (λ p. AreConsecutive p ys end) (sym first) second
-consecutive-append (x ∷ xs) ys place mid end first second = (first.0, consecutive-append xs ys (place + length x.1) mid end first.1 second)
+consecutive-append : (xs ys : List Read) (offset mid end : ℕ) → AreConsecutive offset xs mid → AreConsecutive mid ys end → AreConsecutive offset (xs ++ ys) end
+consecutive-append [] ys offset mid end first second = subst (λ p. AreConsecutive p ys end) (sym first) second
+consecutive-append (x ∷ xs) ys offset mid end first second = (first.0, consecutive-append xs ys (offset + length x.1) mid end first.1 second)
 
 module _ {S : Type 0} (gives : S → ℕ → List ℕ → S → Type 0) where
   pub reads-append : (xs ys : List Read) (old mid new : S) → Reads gives old xs mid → Reads gives mid ys new → Reads gives old (xs ++ ys) new
@@ -16,22 +16,22 @@ module _ {S : Type 0} (gives : S → ℕ → List ℕ → S → Type 0) where
   reads-append (x ∷ xs) ys old mid new first second = (first.0, first.1, reads-append xs ys first.0 mid new first.2 second)
 
   -- a part behind another
-  pub is_read-append : (old mid new : S) (place at : ℕ) (xs ys : List ℕ) → IsRead gives old place xs mid → at ≡ place + length xs → IsRead gives mid at ys new
-      → IsRead gives old place (xs ++ ys) new
-  is_read-append old mid new place at xs ys a here b =
-      let end : at + length ys ≡ place + length (xs ++ ys) = omega (arith, here, length-append xs ys) in
+  pub is_read-append : (old mid new : S) (offset at : ℕ) (xs ys : List ℕ) → IsRead gives old offset xs mid → at ≡ offset + length xs → IsRead gives mid at ys new
+      → IsRead gives old offset (xs ++ ys) new
+  is_read-append old mid new offset at xs ys a here b =
+      let end : at + length ys ≡ offset + length (xs ++ ys) = omega (arith, here, length-append xs ys) in
       record {
         reads = a.reads ++ b.reads;
         run = reads-append a.reads b.reads old mid new a.run b.run;
-        consecutive = subst (AreConsecutive place (a.reads ++ b.reads)) end (consecutive-append a.reads b.reads place at (at + length ys)
-            (subst (AreConsecutive place a.reads) (sym here) a.consecutive) b.consecutive);
+        consecutive = subst (AreConsecutive offset (a.reads ++ b.reads)) end (consecutive-append a.reads b.reads offset at (at + length ys)
+            (subst (AreConsecutive offset a.reads) (sym here) a.consecutive) b.consecutive);
         bytes_are = (λ p. a.bytes_are p ++ b.bytes_are p) ∙ sym (flat_map-append (λ (r : Read). r.1) a.reads b.reads);
       }
 
-  -- an end found behind what was read, before a place or a later one
-  pub ended-later : (old mid new : S) (place early late : ℕ) (bytes : List ℕ) → IsRead gives old place bytes mid → HasEndedEarly gives mid early new → early ≤ late
+  -- an end found behind what was read, before an offset or a later one
+  pub ended-later : (old mid new : S) (offset early late : ℕ) (bytes : List ℕ) → IsRead gives old offset bytes mid → HasEndedEarly gives mid early new → early ≤ late
       → HasEndedEarly gives old late new
-  ended-later old mid new place early late bytes a b low = record {
+  ended-later old mid new offset early late bytes a b low = record {
     reads = a.reads ++ b.reads;
     run = reads-append a.reads b.reads old mid new a.run b.run;
     ended = record {
@@ -42,7 +42,7 @@ module _ {S : Type 0} (gives : S → ℕ → List ℕ → S → Type 0) where
     };
   }
 
-  -- an end found before a place is one before a later place
+  -- an end found before an offset is one before a later offset
   pub ended-wider : (old : S) (early late : ℕ) (new : S) → HasEndedEarly gives old early new → early ≤ late → HasEndedEarly gives old late new
   ended-wider old early late new a low = record {
     reads = a.reads;

@@ -14,17 +14,17 @@ use Rattle.file_encoding.specs.Encoding.{block_of, blocks_of, padded_segment}
 use Rattle.sources.specs.Source.{IsRead}
 use Rattle.block_slots.specs.Slots.{Keeps, KeptBlock, Slots}
 
--- ---- parts of a text that is seen from a place on
+-- ---- parts of a text that is seen from an offset on
 
 -- the bytes of a text from an offset on
 abbrev pub IsPieceOf : List ℕ → ℕ → List ℕ → Type 0
 IsPieceOf text offset bytes = bytes ≡ take (length bytes) (drop offset text)
 
--- the bytes of a text from an offset on, with those of a part that stands at a place over them
+-- the bytes of a text from an offset on, with those of a part that stands at an offset over them
 abbrev pub put_at : ℕ → List ℕ → ℕ → List ℕ → List ℕ
-put_at place part offset out =
-    take (place - offset) out ++ take (length out - (place - offset)) (drop (offset - place) part)
-    ++ drop (place + length part - offset) out
+put_at begin part offset out =
+    take (begin - offset) out ++ take (length out - (begin - offset)) (drop (offset - begin) part)
+    ++ drop (begin + length part - offset) out
 
 -- ---- blocks with the hashes that are kept
 

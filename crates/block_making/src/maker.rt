@@ -143,9 +143,9 @@ impl BlockMaker<'_> {
     {
         let size = self.geometry.block_length(number) as usize;
         let before = u64::from(number) * u64::from(self.geometry.block_size());
-        let place = self.geometry.layout().header_size() as u64 + before;
+        let begin = self.geometry.layout().header_size() as u64 + before;
         if let Some(block) = slots.get(self.share, number) {
-            put_part(place, block, offset, out);
+            put_part(begin, block, offset, out);
             return Ok(());
         }
         let padded = &mut segment[..size * usize::from(self.geometry.needed())];
@@ -153,7 +153,7 @@ impl BlockMaker<'_> {
         if !self.make_blocks(number, padded, lanes, slots) {
             return Err(PieceError::SourceChanged);
         }
-        put_part(place, &lanes[..size], offset, out);
+        put_part(begin, &lanes[..size], offset, out);
         Ok(())
     }
 
@@ -176,10 +176,10 @@ impl BlockMaker<'_> {
         ensures size { S.size source.new ≡ S.size source.old }
         ensures failures { OnOk result (S.failures source.new ≡ S.failures source.old) }
     {
-        let place = u64::from(number) * u64::from(self.geometry.segment_size());
+        let offset = u64::from(number) * u64::from(self.geometry.segment_size());
         let len = self.geometry.segment_length(number) as usize;
-        read_part(source, place, &mut padded[..len])?;
-        encrypt(&self.encoder.cipher, place, len, padded);
+        read_part(source, offset, &mut padded[..len])?;
+        encrypt(&self.encoder.cipher, offset, len, padded);
         Ok(())
     }
 
@@ -213,7 +213,7 @@ impl BlockMaker<'_> {
     }
 
     // Which shares' blocks of a segment are made: this share's first, and then those of others that
-    // want it next. The list has this share at each place before, and its first places count.
+    // want it next. The list has this share at each position before, and its first positions count.
     fn choose(&self, number: u32, slots: &BlockSlots, shares: &mut [u8]) -> usize
         requires some { 0 < length shares.old }
         requires own { slice_index_or shares.old 0 0 ≡ self.now.share }
@@ -346,14 +346,14 @@ impl BlockMaker<'_> {
     }
 }
 
-// Encrypts the first bytes, which stand at a place of their file. The others become zero.
-fn encrypt(cipher: &Aes128, place: u64, len: usize, padded: &mut [u8])
+// Encrypts the first bytes, which stand at an offset of their file. The others become zero.
+fn encrypt(cipher: &Aes128, offset: u64, len: usize, padded: &mut [u8])
     requires within { len ≤ length padded.old }
-    requires place { place + len < 2 ^ 64 }
-    ensures { padded.new ≡ xored_from cipher.now place (take len padded.old)
+    requires offset { offset + len < 2 ^ 64 }
+    ensures { padded.new ≡ xored_from cipher.now offset (take len padded.old)
         ++ replicate (length padded.old - len) 0 }
 {
-    cipher.xor_at(place, &mut padded[..len]);
+    cipher.xor_at(offset, &mut padded[..len]);
     padded[len..].fill(0);
 }
 

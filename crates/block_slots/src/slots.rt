@@ -88,11 +88,11 @@ impl BlockSlots {
         ensures { IfSome result (λ bytes. Keeps self.now.blocks
             (record { share = share; number = number; bytes = bytes.now })) }
     {
-        let place = place_of(self.window, share, number);
-        if place >= self.slots.len() {
+        let position = position_of(self.window, share, number);
+        if position >= self.slots.len() {
             return None;
         }
-        self.slots[place].get(share, number)
+        self.slots[position].get(share, number)
     }
 
     /// Keeps a block, where its share has slots. Blocks that were kept before it may be lost.
@@ -106,9 +106,9 @@ impl BlockSlots {
         ensures shares { self.new.shares ≡ self.old.shares }
         ensures size { self.new.block_size ≡ self.old.block_size }
     {
-        let place = place_of(self.window, share, number);
-        if place < self.slots.len() {
-            self.slots[place].set(share, number, bytes);
+        let position = position_of(self.window, share, number);
+        if position < self.slots.len() {
+            self.slots[position].set(share, number, bytes);
         }
     }
 
@@ -136,7 +136,7 @@ impl BlockSlots {
 }
 
 // The slot in which a block of a share stands, where each share has so many slots.
-fn place_of(window: u32, share: u8, number: u32) -> usize
+fn position_of(window: u32, share: u8, number: u32) -> usize
     requires { 0 < window }
     ensures { (shares : ℕ) → share < shares → result < shares * window }
 {

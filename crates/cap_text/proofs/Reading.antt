@@ -7,7 +7,7 @@ use Rattle.cap_text.specs.Base32.{bits, groups, letter, base32, IsBytes}
 use Rattle.cap_text.proofs.Bits.{AreBits-flat_map, bits-injective, length-bits, length-flat_map-bits}
 use Rattle.cap_text.proofs.Groups.{AreGroups, AreGroups-groups, Fills, bits-groups, groups-bits, map-letter-injective}
 
--- two ways to cut one list at one place
+-- two ways to cut one list at one position
 pub parts_of_one : (a b x y : List ℕ) → length a ≡ length b → a ++ x ≡ b ++ y → (a ≡ b) × (x ≡ y)
 parts_of_one a b x y size same = (
   sym (take_at a x (length a) refl) ∙ ap (take (length a)) same ∙ take_at b y (length a) (sym size),
@@ -26,11 +26,11 @@ byte_bits-injective (x ∷ xs) (y ∷ ys) p q same =
     let rest : xs ≡ ys = byte_bits-injective xs ys (λ i. p (suc i)) (λ i. q (suc i)) parts.1 in
     cc
 
--- what the letters up to a place are, and what was made of them: bytes, and bits that wait
-pub record ReadSoFar (text out : List ℕ) (place done : ℕ) (waiting : List ℕ) : Type 0 where
+-- what the letters up to a position are, and what was made of them: bytes, and bits that wait
+pub record ReadSoFar (text out : List ℕ) (position done : ℕ) (waiting : List ℕ) : Type 0 where
   pub numbers : List ℕ
   pub small : AreGroups numbers
-  pub letters : take place text ≡ map letter numbers
+  pub letters : take position text ≡ map letter numbers
   pub same : flat_map (bits 5) numbers ≡ flat_map (bits 8) (take done out) ++ waiting
   pub below : (i : ℕ) → i < done → get_or out i 0 < 256
   pub room : done ≤ length out
@@ -44,12 +44,12 @@ AreGroups-push [] n p q = (q, tt)
 AreGroups-push (m ∷ ns) n p q = (p.0, AreGroups-push ns n p.1 q)
 
 -- one more letter
-pub read_letter : (text out : List ℕ) (place done n c : ℕ) (waiting new : List ℕ) → ReadSoFar text out place done waiting → place < length text
-    → n < 32 → letter n ≡ c → c ≡ get_or text place 0 → new ≡ waiting ++ bits 5 n → length new ≤ 7 → ReadSoFar text out (place + 1) done new
-read_letter text out place done n c waiting new read inside small is_letter at new_is short = record {
+pub read_letter : (text out : List ℕ) (position done n c : ℕ) (waiting new : List ℕ) → ReadSoFar text out position done waiting → position < length text
+    → n < 32 → letter n ≡ c → c ≡ get_or text position 0 → new ≡ waiting ++ bits 5 n → length new ≤ 7 → ReadSoFar text out (position + 1) done new
+read_letter text out position done n c waiting new read inside small is_letter at new_is short = record {
   numbers = read.numbers ++ n ∷ [];
   small = AreGroups-push read.numbers n read.small small;
-  letters = take_more text place 0 inside ∙ ap (λ (front : List ℕ). front ++ get_or text place 0 ∷ []) read.letters
+  letters = take_more text position 0 inside ∙ ap (λ (front : List ℕ). front ++ get_or text position 0 ∷ []) read.letters
       ∙ ap (λ (last : ℕ). map letter read.numbers ++ last ∷ []) (sym (is_letter ∙ at)) ∙ sym (map_push letter read.numbers n);
   same = sym (flat_map_more (bits 5) [] read.numbers n) ∙ ap (λ (front : List ℕ). front ++ bits 5 n) read.same
       ∙ append_assoc (flat_map (bits 8) (take done out)) waiting (bits 5 n) ∙ ap (λ (rest : List ℕ). flat_map (bits 8) (take done out) ++ rest) (sym new_is);
@@ -59,15 +59,15 @@ read_letter text out place done n c waiting new read inside small is_letter at n
 }
 
 -- one more letter, and a byte
-pub read_byte : (text out : List ℕ) (place done n c b : ℕ) (waiting new rest : List ℕ) → ReadSoFar text out place done waiting → place < length text
-    → n < 32 → letter n ≡ c → c ≡ get_or text place 0 → new ≡ waiting ++ bits 5 n → new ≡ bits 8 b ++ rest → b < 256 → done < length out
-    → ReadSoFar text (set out done b) (place + 1) (done + 1) rest
-read_byte text out place done n c b waiting new rest read inside small is_letter at new_is byte whole room =
+pub read_byte : (text out : List ℕ) (position done n c b : ℕ) (waiting new rest : List ℕ) → ReadSoFar text out position done waiting → position < length text
+    → n < 32 → letter n ≡ c → c ≡ get_or text position 0 → new ≡ waiting ++ bits 5 n → new ≡ bits 8 b ++ rest → b < 256 → done < length out
+    → ReadSoFar text (set out done b) (position + 1) (done + 1) rest
+read_byte text out position done n c b waiting new rest read inside small is_letter at new_is byte whole room =
     let sizes = ap length (sym new_is ∙ byte) in
     record {
       numbers = read.numbers ++ n ∷ [];
       small = AreGroups-push read.numbers n read.small small;
-      letters = take_more text place 0 inside ∙ ap (λ (front : List ℕ). front ++ get_or text place 0 ∷ []) read.letters
+      letters = take_more text position 0 inside ∙ ap (λ (front : List ℕ). front ++ get_or text position 0 ∷ []) read.letters
           ∙ ap (λ (last : ℕ). map letter read.numbers ++ last ∷ []) (sym (is_letter ∙ at)) ∙ sym (map_push letter read.numbers n);
       same = sym (flat_map_more (bits 5) [] read.numbers n) ∙ ap (λ (front : List ℕ). front ++ bits 5 n) read.same
           ∙ append_assoc (flat_map (bits 8) (take done out)) waiting (bits 5 n)
@@ -115,12 +115,12 @@ sizes text bytes s = record {
 }
 
 -- what was read has the bits of all its letters
-read_sizes : (text out : List ℕ) (place done : ℕ) (waiting : List ℕ) → ReadSoFar text out place done waiting → place ≤ length text
-    → 5 * place ≡ 8 * done + length waiting
-read_sizes text out place done waiting read inside =
+read_sizes : (text out : List ℕ) (position done : ℕ) (waiting : List ℕ) → ReadSoFar text out position done waiting → position ≤ length text
+    → 5 * position ≡ 8 * done + length waiting
+read_sizes text out position done waiting read inside =
     omega (
       arith,
-      sym (length-take-le place text inside) ∙ ap length read.letters ∙ length-map read.numbers letter,
+      sym (length-take-le position text inside) ∙ ap length read.letters ∙ length-map read.numbers letter,
       sym (length-flat_map-bits 5 read.numbers) ∙ ap length read.same,
       length-append (flat_map (bits 8) (take done out)) waiting,
       length-flat_map-bits 8 (take done out),
@@ -133,22 +133,22 @@ small_at (n ∷ ns) zero small inside = small.0
 small_at (n ∷ ns) (suc i) small inside = small_at ns i small.1 (omega arith)
 
 -- each character is a letter
-pub no_other_letter : (text bytes : List ℕ) (place : ℕ) → place < length text → text ≡ base32 bytes
-    → ((n : ℕ) → n < 32 → letter n ≡ get_or text place 0 → ⊥) → ⊥
-no_other_letter text bytes place inside same none =
+pub no_other_letter : (text bytes : List ℕ) (position : ℕ) → position < length text → text ≡ base32 bytes
+    → ((n : ℕ) → n < 32 → letter n ≡ get_or text position 0 → ⊥) → ⊥
+no_other_letter text bytes position inside same none =
     let s = spelled text bytes same in
     let size : length text ≡ length s.numbers = ap length s.letters ∙ length-map s.numbers letter in
-    let inside' : place < length s.numbers = omega arith in
-    none (get_or s.numbers place 0) (small_at s.numbers place s.small inside')
-    (sym (get_or-map letter s.numbers place 0 0 inside') ∙ sym (ap (λ (all : List ℕ). get_or all place 0) s.letters))
+    let inside' : position < length s.numbers = omega arith in
+    none (get_or s.numbers position 0) (small_at s.numbers position s.small inside')
+    (sym (get_or-map letter s.numbers position 0 0 inside') ∙ sym (ap (λ (all : List ℕ). get_or all position 0) s.letters))
 
 -- there are no more letters than the bytes need
-pub no_more_letters : (text out bytes : List ℕ) (place : ℕ) (waiting : List ℕ) → ReadSoFar text out place (length out) waiting → place < length text
+pub no_more_letters : (text out bytes : List ℕ) (position : ℕ) (waiting : List ℕ) → ReadSoFar text out position (length out) waiting → position < length text
     → 3 ≤ length waiting → text ≡ base32 bytes → length bytes ≡ length out → ⊥
-no_more_letters text out bytes place waiting read inside full same size =
+no_more_letters text out bytes position waiting read inside full same size =
     let s = spelled text bytes same in
     let total = sizes text bytes s in
-    omega (arith, total.few, total.total, read_sizes text out place (length out) waiting read (omega arith))
+    omega (arith, total.few, total.total, read_sizes text out position (length out) waiting read (omega arith))
 
 -- all letters were read: they spell what they gave
 pub spells_out : (text out waiting : List ℕ) → ReadSoFar text out (length text) (length out) waiting → length waiting < 5
@@ -169,9 +169,9 @@ spells_out text out waiting read few zeros =
     ∙ ap (map letter) (sym (groups-bits read.numbers read.small) ∙ ap groups same_bits ∙ groups-bits s.numbers s.small) ∙ sym s.letters
 
 -- what was read are bytes
-pub all_below : (text out : List ℕ) (place done : ℕ) (waiting : List ℕ) → ReadSoFar text out place done waiting → done ≡ length out
+pub all_below : (text out : List ℕ) (position done : ℕ) (waiting : List ℕ) → ReadSoFar text out position done waiting → done ≡ length out
     → (i : ℕ) → get_or out i 0 < 256
-all_below text out place done waiting read all i = elim (cases_lt i done) [
+all_below text out position done waiting read all i = elim (cases_lt i done) [
   | inl inside ↦ read.below i inside
   | inr past ↦ rw (get_or_past out i 0 (omega arith)) (omega arith)
 ]

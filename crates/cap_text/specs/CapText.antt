@@ -25,7 +25,7 @@ IsBase32 count text = (bytes : List ℕ) × IsBytes count bytes × (text ≡ bas
 abbrev pub parts : List ℕ → List (List ℕ)
 parts text = slice_split (λ c. c == 58) text
 
--- the part at a place
+-- the part at a position
 abbrev pub part : List ℕ → ℕ → List ℕ
 part text i = slice_index_or (parts text) i []
 

@@ -28,29 +28,29 @@ use Rattle.check_binding.proofs.VerdictLemmas.{own_reads_are_good}
 -- ---- answers that waited no more
 
 abbrev settled : ℕ → ℕ → List ℕ → Settled
-settled offset len bytes = record { place = offset; len = len; answer = Some bytes }
+settled offset len bytes = record { offset = offset; len = len; answer = Some bytes }
 
-no_bytes : (offset len : ℕ) (read : Settled) (bytes : List ℕ) → read.answer ≡ Some bytes → Contains (record { place = offset; len = len; answer = None } ∷ []) read → ⊥
-no_bytes offset len read bytes answer c = elim (contains_cases (record { place = offset; len = len; answer = None }) read [] c) [
+no_bytes : (offset len : ℕ) (read : Settled) (bytes : List ℕ) → read.answer ≡ Some bytes → Contains (record { offset = offset; len = len; answer = None } ∷ []) read → ⊥
+no_bytes offset len read bytes answer c = elim (contains_cases (record { offset = offset; len = len; answer = None }) read [] c) [
   | inl is ↦ none-some bytes (ap (λ (x : Settled). x.answer) is ∙ answer)
   | inr none ↦ contains_none read none
 ]
 
 -- a read that brought bytes was answered by them
 answer_of : (n offset len : ℕ) (o : Outcome) (read : Settled) (bytes : List ℕ) → read.answer ≡ Some bytes → Contains (settled_in (Reading n offset len) o) read
-    → (Reading n offset len ≡ Reading n read.place read.len) × (o ≡ Answered (Data bytes))
+    → (Reading n offset len ≡ Reading n read.offset read.len) × (o ≡ Answered (Data bytes))
 answer_of n offset len (Answered (Data b)) read bytes answer c = elim (contains_cases (settled offset len b) read [] c) [
-  | inl is ↦ (ap (λ (x : Settled). Reading n x.place x.len) is, ap (λ (x : List ℕ). Answered (Data x)) (same_Some b bytes (ap (λ (x : Settled). x.answer) is ∙ answer)))
+  | inl is ↦ (ap (λ (x : Settled). Reading n x.offset x.len) is, ap (λ (x : List ℕ). Answered (Data x)) (same_Some b bytes (ap (λ (x : Settled). x.answer) is ∙ answer)))
   | inr none ↦ absurd (contains_none read none)
 ]
 answer_of n offset len Outstanding read bytes answer c = absurd (contains_none read c)
 answer_of n offset len o read bytes answer c = absurd (no_bytes offset len read bytes answer c)
 
 data_of : (num : ℕ) (a : Asked) (o : Outcome) (read : Settled) (bytes : List ℕ) → reads_share num a ≡ true → read.answer ≡ Some bytes → Contains (settled_in a o) read
-    → (a ≡ Reading num read.place read.len) × (o ≡ Answered (Data bytes))
+    → (a ≡ Reading num read.offset read.len) × (o ≡ Answered (Data bytes))
 data_of num (Reading n offset len) o read bytes about answer c =
     let is = answer_of n offset len o read bytes answer c in
-    (is.0 ∙ ap (λ (k : ℕ). Reading k read.place read.len) (eqb-true n num about), is.1)
+    (is.0 ∙ ap (λ (k : ℕ). Reading k read.offset read.len) (eqb-true n num about), is.1)
 data_of num a o read bytes about answer c = absurd (contains_none read c)
 
 -- so reads of a share brought its own bytes where its server answered with those alone
@@ -63,7 +63,7 @@ bring_own entries server num share own read bytes c answer =
       | inl is ↦
           let tests = both (q.server == server) (reads_share num q.asked) is in
           let data_is = data_of num q.asked q.outcome read bytes tests.1 answer (subst (λ (b : Bool). Contains (if b then settled_in q.asked q.outcome else []) read) is from.has) in
-          own from.place read.place read.len q bytes from.there (eqb-true q.server server tests.0) data_is.0 data_is.1
+          own from.position read.offset read.len q bytes from.there (eqb-true q.server server tests.0) data_is.0 data_is.1
     ]
 
 -- ---- verdicts

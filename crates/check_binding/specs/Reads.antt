@@ -10,7 +10,7 @@ use Rattle.share_reading.specs.declared.verdict.Verdict.TheVariants.{Good, Lost}
 -- fewer at its end
 abbrev pub BringOwn : List Settled → List ℕ → Type 0
 BringOwn reads share = (read : Settled) (bytes : List ℕ) → Contains reads read
-    → read.answer ≡ Some bytes → bytes ≡ take read.len (drop read.place share)
+    → read.answer ≡ Some bytes → bytes ≡ take read.len (drop read.offset share)
 
 -- a law: the verdict on a share that passes is good where its own bytes came, or lost where a read
 -- was lost, and never corrupt

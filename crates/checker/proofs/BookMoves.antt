@@ -5,7 +5,7 @@ use Rattle.std.proofs.lemmas.Bool.{cases_lt}
 use Rattle.std.proofs.lemmas.List.{length-append, length-set}
 use Rattle.std.proofs.lemmas.Option.{slice_get_within, same_Some}
 use Rattle.lemmas.proofs.Members.{contains_cases, contains_none}
-use Rattle.lemmas.proofs.Places.{get_set_other, get_pushed, get_last}
+use Rattle.lemmas.proofs.Positions.{get_set_other, get_pushed, get_last}
 use Rattle.cap_text.specs.Cap.{VerifyCapValue}
 use Rattle.placement.specs.Matching.{Pair}
 use Rattle.request_record.specs.declared.requests.Outcome.{Outcome}
@@ -45,8 +45,8 @@ get_changed (w ∷ ws) (suc k) (suc i) x y z e f = elim (get_changed ws k i x y 
 -- ---- lists that are changed at one offer
 
 module _ (entries : List Request) (offers : List Offer) (k : ℕ) (o n : Offer) (at : slice_get offers k ≡ Some o) (key : key_of n ≡ key_of o) where
-  owner_set : (place l : ℕ) → IsOwner entries offers place l → IsOwner entries (set offers k n) place l
-  owner_set place l is = elim (cases_lt l k) [
+  owner_set : (position l : ℕ) → IsOwner entries offers position l → IsOwner entries (set offers k n) position l
+  owner_set position l is = elim (cases_lt l k) [
     | inl lt ↦ same (λ e. omega (arith, lt, e))
     | inr le ↦ elim (cases_lt k l) [
       | inl lt ↦ same (λ e. omega (arith, lt, e))
@@ -63,7 +63,7 @@ module _ (entries : List Request) (offers : List Offer) (k : ℕ) (o n : Offer) 
     ]
   ]
     where
-      same : (l ≡ k → ⊥) → IsOwner entries (set offers k n) place l
+      same : (l ≡ k → ⊥) → IsOwner entries (set offers k n) position l
       same other = record { offer = is.offer; there = get_set_other offers k l n other ∙ is.there; request = is.request; asks = is.asks; about = is.about }
 
   apart_set : ((i j : ℕ) (a b : Offer) → slice_get offers i ≡ Some a → slice_get offers j ≡ Some b → key_of a ≡ key_of b → i ≡ j)
@@ -90,8 +90,8 @@ alike_set keeps offers k o n at same alike l x e = elim (get_changed offers k l 
   | inr other ↦ alike l x other.1
 ]
 
-pub tail : (place i : ℕ) (todo : List ℕ) → Contains todo i → Contains (place ∷ todo) i
-tail place i todo h = (suc h.0, omega (arith, h.1), h.2)
+pub tail : (position i : ℕ) (todo : List ℕ) → Contains todo i → Contains (position ∷ todo) i
+tail position i todo h = (suc h.0, omega (arith, h.1), h.2)
 
 keys_kept : (offers : List Offer) (k : ℕ) (o n : Offer) (t : Told) (keys : List Pair) → slice_get offers k ≡ Some o → key_of n ≡ key_of o → AreKeys offers t keys → AreKeys (set offers k n) t keys
 keys_kept offers k o n t keys at key are = (
@@ -102,7 +102,7 @@ keys_kept offers k o n t keys at key are = (
 -- the same share of the same server
 told_as : (total n : ℕ) (entries : List Request) (todo : List ℕ) (o x : Offer) → key_of o ≡ key_of x → IsTold total n entries todo o → IsTold total n entries todo x
 told_as total n entries todo o x same is = record {
-  place = is.place;
+  position = is.position;
   first = is.first;
   request = is.request;
   there = is.there;
@@ -114,10 +114,10 @@ told_as total n entries todo o x same is = record {
 
 told_push : (total n : ℕ) (entries : List Request) (todo : List ℕ) (new : Request) (o : Offer) → IsTold total n entries todo o → IsTold total n (entries ++ new ∷ []) todo o
 told_push total n entries todo new o is = record {
-  place = is.place;
+  position = is.position;
   first = is.first;
   request = is.request;
-  there = get_kept entries new is.request is.place is.there;
+  there = get_kept entries new is.request is.position is.there;
   server = is.server;
   quiet = is.quiet;
   taken = is.taken;
@@ -127,12 +127,12 @@ told_push total n entries todo new o is = record {
 -- ---- one offer is another now
 
 -- what is to do gets less: what is left of it for the shares that were offered
-module _ (cap : VerifyCapValue) (keeps : Bool) (entries : List Request) (told : List Told) (owners : List ℕ) (offers : List Offer) (begun : ℕ) (place : ℕ) (todo : List ℕ)
-    (b : IsBook cap keeps entries told owners offers begun (place ∷ todo)) (after : length told ≤ place) where
+module _ (cap : VerifyCapValue) (keeps : Bool) (entries : List Request) (told : List Told) (owners : List ℕ) (offers : List Offer) (begun : ℕ) (position : ℕ) (todo : List ℕ)
+    (b : IsBook cap keeps entries told owners offers begun (position ∷ todo)) (after : length told ≤ position) where
   pub tells_less : (i : ℕ) (t : Told) (r : Request) → slice_get told i ≡ Some t → slice_get entries i ≡ Some r → HasTold cap.total todo offers i t r
   tells_less i t r e f = elim (b.tells i t r e f) [
     | inr are ↦ inr are
-    | inl waits ↦ elim (contains_cases place i todo waits.0) [
+    | inl waits ↦ elim (contains_cases position i todo waits.0) [
       | inl here ↦ absurd (omega (arith, after, here, slice_get_within told i t e))
       | inr later ↦ inl (later, waits.1)
     ]
@@ -141,22 +141,22 @@ module _ (cap : VerifyCapValue) (keeps : Bool) (entries : List Request) (told : 
   pub told_less : (l : ℕ) (x : Offer) → slice_get offers l ≡ Some x → IsTold cap.total (length told) entries todo x
   told_less l x e = let old = b.offered l x e in
       record {
-        place = old.place;
+        position = old.position;
         first = old.first;
         request = old.request;
         there = old.there;
         server = old.server;
         quiet = old.quiet;
-        taken = λ h. old.taken (tail place old.place todo h);
+        taken = λ h. old.taken (tail position old.position todo h);
         listed = old.listed;
       }
 
   pub quiet_less : (i : ℕ) (r : Request) → Contains todo i → slice_get entries i ≡ Some r → is_outstanding r.outcome ≡ false
-  quiet_less i r h e = b.quiet i r (tail place i todo h) e
+  quiet_less i r h e = b.quiet i r (tail position i todo h) e
 
   -- nothing comes of it
-  pub book_done : (k : ℕ) (o : Offer) (q : Request) → slice_get offers k ≡ Some o → slice_get entries place ≡ Some q → IsAbout (key_of o) q
-      → ((r : readings.ShareReading) → o.stage ≡ Read r place → ⊥) → IsBook cap keeps entries told owners offers begun todo
+  pub book_done : (k : ℕ) (o : Offer) (q : Request) → slice_get offers k ≡ Some o → slice_get entries position ≡ Some q → IsAbout (key_of o) q
+      → ((r : readings.ShareReading) → o.stage ≡ Read r position → ⊥) → IsBook cap keeps entries told owners offers begun todo
   book_done k o q at there about other = record {
     asks = b.asks;
     long = b.long;
@@ -167,32 +167,32 @@ module _ (cap : VerifyCapValue) (keeps : Bool) (entries : List Request) (told : 
     offered = told_less;
     tells = tells_less;
     quiet = quiet_less;
-    inside = λ i h. b.inside i (tail place i todo h);
+    inside = λ i h. b.inside i (tail position i todo h);
     started = b.started;
     unread = b.unread;
     few = b.few;
   }
     where
       less : (l : ℕ) (x : Offer) → slice_get offers l ≡ Some x → IsOffer cap entries todo x
-      less l x e = offer_done cap entries todo place x (λ r at_place. not_this r at_place) (b.reading l x e)
+      less l x e = offer_done cap entries todo position x (λ r at_position. not_this r at_position) (b.reading l x e)
         where
-          not_this : (r : readings.ShareReading) → x.stage ≡ Read r place → ⊥
-          not_this r at_place =
-              let mine = waits_about cap entries (place ∷ todo) x r place q (subst (IsAt cap entries (place ∷ todo) x) at_place (b.reading l x e)) there in
+          not_this : (r : readings.ShareReading) → x.stage ≡ Read r position → ⊥
+          not_this r at_position =
+              let mine = waits_about cap entries (position ∷ todo) x r position q (subst (IsAt cap entries (position ∷ todo) x) at_position (b.reading l x e)) there in
               let same : l ≡ k = b.apart l k x o e at (about_one (key_of x) (key_of o) q mine about) in
               let is : x ≡ o = same_Some x o (sym e ∙ ap (slice_get offers) same ∙ at) in
-              other r (sym (ap (λ (y : Offer). y.stage) is) ∙ at_place)
+              other r (sym (ap (λ (y : Offer). y.stage) is) ∙ at_position)
 
   -- the others are as they were
-  pub others_less : (k : ℕ) (o : Offer) (q : Request) → slice_get offers k ≡ Some o → slice_get entries place ≡ Some q → IsAbout (key_of o) q
+  pub others_less : (k : ℕ) (o : Offer) (q : Request) → slice_get offers k ≡ Some o → slice_get entries position ≡ Some q → IsAbout (key_of o) q
       → (l : ℕ) (x : Offer) → l ≢ k → slice_get offers l ≡ Some x → IsOffer cap entries todo x
   others_less k o q at there about l x other e =
-      offer_other cap entries todo place x q there (λ mine. other (b.apart l k x o e at (about_one (key_of x) (key_of o) q mine about))) (b.reading l x e)
+      offer_other cap entries todo position x q there (λ mine. other (b.apart l k x o e at (about_one (key_of x) (key_of o) q mine about))) (b.reading l x e)
 
 -- one offer is begun, or its verdict is found
-module _ (cap : VerifyCapValue) (keeps : Bool) (entries : List Request) (told : List Told) (owners : List ℕ) (offers : List Offer) (begun : ℕ) (place : ℕ) (todo : List ℕ)
-    (b : IsBook cap keeps entries told owners offers begun (place ∷ todo)) (after : length told ≤ place)
-    (k : ℕ) (o n : Offer) (q : Request) (at : slice_get offers k ≡ Some o) (there : slice_get entries place ≡ Some q) (about : IsAbout (key_of o) q)
+module _ (cap : VerifyCapValue) (keeps : Bool) (entries : List Request) (told : List Told) (owners : List ℕ) (offers : List Offer) (begun : ℕ) (position : ℕ) (todo : List ℕ)
+    (b : IsBook cap keeps entries told owners offers begun (position ∷ todo)) (after : length told ≤ position)
+    (k : ℕ) (o n : Offer) (q : Request) (at : slice_get offers k ≡ Some o) (there : slice_get entries position ≡ Some q) (about : IsAbout (key_of o) q)
     (was_started : IsStarted o.stage) (key : key_of n ≡ key_of o) (same_keeps : n.pieces.keeps ≡ o.pieces.keeps) (is_started : IsStarted n.stage) where
   pub book_ended : IsOffer cap entries todo n → IsBook cap keeps entries told owners (set offers k n) begun todo
   book_ended is = record {
@@ -202,20 +202,20 @@ module _ (cap : VerifyCapValue) (keeps : Bool) (entries : List Request) (told : 
     apart = apart_set entries offers k o n at key b.apart;
     reading = λ l x e. elim (get_changed offers k l o n x at e) [
       | inl here ↦ subst (IsOffer cap entries todo) (sym here.1) is
-      | inr other ↦ others_less cap keeps entries told owners offers begun place todo b after k o q at there about l x other.0 other.1
+      | inr other ↦ others_less cap keeps entries told owners offers begun position todo b after k o q at there about l x other.0 other.1
     ];
     alike = alike_set keeps offers k o n at same_keeps b.alike;
     offered = λ l x e. elim (get_changed offers k l o n x at e) [
       | inl here ↦ told_as cap.total (length told) entries todo o x (sym key ∙ ap key_of (sym here.1))
-          (told_less cap keeps entries told owners offers begun place todo b after k o at)
-      | inr other ↦ told_less cap keeps entries told owners offers begun place todo b after l x other.1
+          (told_less cap keeps entries told owners offers begun position todo b after k o at)
+      | inr other ↦ told_less cap keeps entries told owners offers begun position todo b after l x other.1
     ];
-    tells = λ i t r e f. elim (tells_less cap keeps entries told owners offers begun place todo b after i t r e f) [
+    tells = λ i t r e f. elim (tells_less cap keeps entries told owners offers begun position todo b after i t r e f) [
       | inl waits ↦ inl (waits.0, keys_kept offers k o n t [] at key waits.1)
       | inr are ↦ inr (keys_kept offers k o n t (offered_in cap.total r.server r.outcome) at key are)
     ];
-    quiet = quiet_less cap keeps entries told owners offers begun place todo b after;
-    inside = λ i h. b.inside i (tail place i todo h);
+    quiet = quiet_less cap keeps entries told owners offers begun position todo b after;
+    inside = λ i h. b.inside i (tail position i todo h);
     started = λ l x e lt. elim (get_changed offers k l o n x at e) [
       | inl here ↦ subst (λ (y : Offer). IsStarted y.stage) (sym here.1) is_started
       | inr other ↦ b.started l x other.1 lt
@@ -229,9 +229,9 @@ module _ (cap : VerifyCapValue) (keeps : Bool) (entries : List Request) (told : 
 
 -- ---- the next bytes of one are asked for
 
-owner_push : (entries : List Request) (offers : List Offer) (new : Request) (place l : ℕ) → IsOwner entries offers place l → IsOwner (entries ++ new ∷ []) offers place l
-owner_push entries offers new place l is =
-    record { offer = is.offer; there = is.there; request = is.request; asks = get_kept entries new is.request place is.asks; about = is.about }
+owner_push : (entries : List Request) (offers : List Offer) (new : Request) (position l : ℕ) → IsOwner entries offers position l → IsOwner (entries ++ new ∷ []) offers position l
+owner_push entries offers new position l is =
+    record { offer = is.offer; there = is.there; request = is.request; asks = get_kept entries new is.request position is.asks; about = is.about }
 
 pub record BeginsTo (begun k more : ℕ) (len : ℕ) : Type 0 where
   pub up_to : (l : ℕ) → l < more → (l < begun) ⊎ (l ≡ k)
@@ -244,7 +244,7 @@ module _ (cap : VerifyCapValue) (keeps : Bool) (entries : List Request) (told : 
   new = next_request o.server o.share r now
 
   new_about : IsAbout (key_of o) new
-  new_about = about_by (key_of o) new (reading.next_place r) (reading.next_length r) refl refl
+  new_about = about_by (key_of o) new (reading.next_offset r) (reading.next_length r) refl refl
 
   pub book_asked : (old : List ℕ) → IsBook cap keeps entries told owners offers begun old
       → ((l : ℕ) (x : Offer) → l ≢ k → slice_get offers l ≡ Some x → IsOffer cap entries todo x)
@@ -336,15 +336,15 @@ book_goes cap keeps es ns told owners offers begun todo goes waited quiet inside
   alike = b.alike;
   offered = λ l x e. (
       let is = b.offered l x e in
-      let becomes = goes.each is.place is.request is.there in
+      let becomes = goes.each is.position is.request is.there in
       record {
-        place = is.place;
+        position = is.position;
         first = is.first;
         request = is.request;
         there = becomes.there ∙ ap Some (becomes.still is.quiet);
         server = is.server;
         quiet = is.quiet;
-        taken = λ h. true≢false (sym (waited is.place is.request h is.there) ∙ is.quiet);
+        taken = λ h. true≢false (sym (waited is.position is.request h is.there) ∙ is.quiet);
         listed = is.listed;
       });
   tells = λ i t r e f. tells_on i t r e f;

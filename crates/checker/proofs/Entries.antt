@@ -6,7 +6,7 @@ use Rattle.std.proofs.lemmas.List.{append-nil}
 use Rattle.std.proofs.lemmas.List.Concat.{flat_map-append}
 use Rattle.std.proofs.lemmas.Option.{slice_get_within, same_Some}
 use Rattle.std.proofs.lemmas.Bool.{eqb-true, eq-eqb}
-use Rattle.lemmas.proofs.Places.{get_of, get_push}
+use Rattle.lemmas.proofs.Positions.{get_of, get_push}
 use Rattle.lemmas.proofs.Bools.{both, bool_cases}
 use Rattle.lemmas.proofs.Members.{flat_map_has, flat_map_from, contains_none}
 use Rattle.placement.specs.Matching.{Pair}
@@ -115,9 +115,9 @@ cond_has false xs x at = absurd (contains_none x at)
 
 -- a read of a share that waits no more, and its request
 pub record IsSettledBy (entries : List Request) (key : Pair) (read : Settled) : Type 0 where
-  pub place : ℕ
+  pub position : ℕ
   pub request : Request
-  pub there : slice_get entries place ≡ Some request
+  pub there : slice_get entries position ≡ Some request
   pub about : IsAbout key request
   pub has : Contains (settled_in request.asked request.outcome) read
 
@@ -125,12 +125,12 @@ pub settled_from : (entries : List Request) (key : Pair) (read : Settled) → Co
 settled_from entries key read at =
     let found = flat_map_from (settled_by key.0 key.1) entries read at in
     let parts = cond_has (is_about key.0 key.1 found.source) (settled_in found.source.asked found.source.outcome) read found.has in
-    record { place = found.place; request = found.source; there = found.there; about = parts.0; has = parts.1 }
+    record { position = found.position; request = found.source; there = found.there; about = parts.0; has = parts.1 }
 
-pub settled_has : (entries : List Request) (key : Pair) (place : ℕ) (r : Request) (read : Settled) → slice_get entries place ≡ Some r → IsAbout key r
+pub settled_has : (entries : List Request) (key : Pair) (position : ℕ) (r : Request) (read : Settled) → slice_get entries position ≡ Some r → IsAbout key r
     → Contains (settled_in r.asked r.outcome) read → Contains (settled_of entries key.0 key.1) read
-settled_has entries key place r read there about has =
-    flat_map_has (settled_by key.0 key.1) entries place r read there (rw about has)
+settled_has entries key position r read there about has =
+    flat_map_has (settled_by key.0 key.1) entries position r read there (rw about has)
 
 pub settled_push : (entries : List Request) (key : Pair) (r : Request) → is_outstanding r.outcome ≡ true → settled_of (entries ++ r ∷ []) key.0 key.1 ≡ settled_of entries key.0 key.1
 settled_push entries key r waits =

@@ -8,7 +8,7 @@ use Rattle.std.proofs.lemmas.List.Elements.{All-nil, All-append, All-map, All-ta
 use Rattle.std.proofs.lemmas.Option.{slice_get-get_or, slice_get_within, same_Some}
 use Rattle.lemmas.proofs.Members.{contains_none}
 use Rattle.lemmas.proofs.Ranges.{range_more}
-use Rattle.lemmas.proofs.Places.{get_of}
+use Rattle.lemmas.proofs.Positions.{get_of}
 use Rattle.placement.specs.Matching.{Pair}
 use Rattle.request_record.specs.declared.requests.Asked.{Asked}
 use Rattle.request_record.specs.declared.requests.Asked.TheVariants.{Holdings}
@@ -57,11 +57,11 @@ over_at m kept k o at = by o.stage refl
 
     by : (s : Stage) → o.stage ≡ s → (v : Verdict) × (o.stage ≡ Ended v)
     by Waiting e = absurd (book.started k o at (omega (arith, kept.begun refl, slice_get_within m.offers.items k o at)) e)
-    by (Read r place) e = absurd (
-        let is : IsReading m.cap m.requests.entries [] o r place = subst (IsAt m.cap m.requests.entries [] o) e (book.reading k o at) in
+    by (Read r position) e = absurd (
+        let is : IsReading m.cap m.requests.entries [] o r position = subst (IsAt m.cap m.requests.entries [] o) e (book.reading k o at) in
         elim is.next.waits [
-          | inl waits ↦ none_waits m.requests.entries place is.next.request (kept.idle refl) is.next.there (ap is_outstanding waits)
-          | inr h ↦ contains_none place h
+          | inl waits ↦ none_waits m.requests.entries position is.next.request (kept.idle refl) is.next.there (ap is_outstanding waits)
+          | inr h ↦ contains_none position h
         ])
     by (Ended v) e = (v, e)
 

@@ -105,9 +105,9 @@ found_at m done keeps k o at good bytes is_kept =
     )
 
 record IsOfferOf (m : Machine) (v : ShareVerdict) : Type 0 where
-  pub place : ℕ
+  pub position : ℕ
   pub offer : Offer
-  pub there : slice_get m.offers.items place ≡ Some offer
+  pub there : slice_get m.offers.items position ≡ Some offer
   pub over : IsOver offer
   pub found : v ≡ found_of offer
 
@@ -115,14 +115,14 @@ offer_of : (m : Machine) → IsDone m → (v : ShareVerdict) → Contains (flat_
 offer_of m done v at =
     All-contains (IsOfferOf m) (flat_map (found_among m.offers.items) m.told.items) v
     (all_found (IsOfferOf m) m.offers.items m.told.items
-    (λ k d lt. record { place = k; offer = get_or m.offers.items k d; there = slice_get-get_or m.offers.items k d lt; over = done.over k d lt; found = refl }))
+    (λ k d lt. record { position = k; offer = get_or m.offers.items k d; there = slice_get-get_or m.offers.items k d lt; over = done.over k d lt; found = refl }))
     at
 
 -- where there is a good share of a number, there is a good offer
 pub record IsGoodOffer (m : Machine) (num : ℕ) : Type 0 where
-  pub place : ℕ
+  pub position : ℕ
   pub offer : Offer
-  pub there : slice_get m.offers.items place ≡ Some offer
+  pub there : slice_get m.offers.items position ≡ Some offer
   pub number : offer.share ≡ num
   pub good : offer.stage ≡ Ended verdicts.Good
 
@@ -138,7 +138,7 @@ good_offered m done num has =
     let is = offer_of m done v from.1 in
     let verdict : is.over.0 ≡ verdicts.Good = ap verdict_in (sym is.over.1) ∙ ap (λ (x : ShareVerdict). x.verdict) (sym is.found) ∙ good in
     record {
-      place = is.place;
+      position = is.position;
       offer = is.offer;
       there = is.there;
       number = ap (λ (x : ShareVerdict). x.share) (sym is.found) ∙ ap (λ (p : Pair). p.1) from.2;

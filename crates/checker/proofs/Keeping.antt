@@ -11,7 +11,7 @@ use Rattle.std.proofs.lemmas.Option.{none-some, same_Some}
 use Rattle.std.proofs.lemmas.Bool.{eq-eqb}
 use Rattle.lemmas.proofs.Members.{contains_head, contains_none}
 use Rattle.request_record.proofs.StepLaws.{asked_joined}
-use Rattle.lemmas.proofs.Places.{get_of}
+use Rattle.lemmas.proofs.Positions.{get_of}
 use Rattle.cap_text.specs.Cap.{VerifyCapValue}
 use Rattle.request_record.specs.declared.requests.Asked.{Asked}
 use Rattle.request_record.specs.declared.requests.Asked.TheVariants.{Holdings, Allocation, Writing, Closing, Reading, Aborting}
@@ -77,43 +77,43 @@ asks_stay a b more i x e = ap (λ (r : RequestsState). slice_get r.entries i) mo
 
 -- ---- requests that found no answer
 
-pub record IsLosing (old m : Machine) (places todo : List ℕ) : Type 0 where
+pub record IsLosing (old m : Machine) (positions todo : List ℕ) : Type 0 where
   pub book : HasBook m todo
   pub safe : IsSafe m
   pub asks : AsksMore old m
-  pub there : (i : ℕ) → Contains places i → (r : Request) × (slice_get m.requests.entries i ≡ Some r) × (r.outcome ≡ Lost)
+  pub there : (i : ℕ) → Contains positions i → (r : Request) × (slice_get m.requests.entries i ≡ Some r) × (r.outcome ≡ Lost)
 
-pub losing_none : (m : Machine) (places : List ℕ) → HasBook m places → AreLost m.requests.entries places → IsSafe m → IsLosing m m places places
-losing_none m places b lost safe = record {
+pub losing_none : (m : Machine) (positions : List ℕ) → HasBook m positions → AreLost m.requests.entries positions → IsSafe m → IsLosing m m positions positions
+losing_none m positions b lost safe = record {
   book = b;
   safe = safe;
   asks = asks_none m;
   there = λ i h. let found = get_of m.requests.entries i (b.inside i h) in (found.0, found.1, lost i found.0 h found.1);
 }
 
--- the request at a place is lost
-pub losing_settled : (old m : Machine) (places : List ℕ) (i : ℕ) → IsLosing old m places (drop i places) → i < length places → (r : Request) → slice_get m.requests.entries (get_or places i 0) ≡ Some r → r.outcome ≡ Lost
-losing_settled old m places i l lt r e =
-    let found = l.there (get_or places i 0) (Contains-get_or places i 0 lt) in
+-- the request at a position is lost
+pub losing_settled : (old m : Machine) (positions : List ℕ) (i : ℕ) → IsLosing old m positions (drop i positions) → i < length positions → (r : Request) → slice_get m.requests.entries (get_or positions i 0) ≡ Some r → r.outcome ≡ Lost
+losing_settled old m positions i l lt r e =
+    let found = l.there (get_or positions i 0) (Contains-get_or positions i 0 lt) in
     ap (λ (x : Request). x.outcome) (same_Some r found.0 (sym e ∙ found.1)) ∙ found.2
 
-pub losing_first : (old m : Machine) (places : List ℕ) (i : ℕ) → IsLosing old m places (drop i places) → i < length places → HasBook m (get_or places i 0 ∷ drop (i + 1) places)
-losing_first old m places i l lt = subst (HasBook m) (drop-cons places i 0 lt ∙ ap (λ n. get_or places i 0 ∷ drop n places) (next i)) l.book
+pub losing_first : (old m : Machine) (positions : List ℕ) (i : ℕ) → IsLosing old m positions (drop i positions) → i < length positions → HasBook m (get_or positions i 0 ∷ drop (i + 1) positions)
+losing_first old m positions i l lt = subst (HasBook m) (drop-cons positions i 0 lt ∙ ap (λ n. get_or positions i 0 ∷ drop n positions) (next i)) l.book
   where
     next : (n : ℕ) → suc n ≡ n + 1
     next n = omega arith
 
-pub losing_more : (old m new : Machine) (places : List ℕ) (i : ℕ) → IsLosing old m places (drop i places) → i < length places
-    → HasBook new (drop (i + 1) places) → AsksMore m new → IsSafe new → IsLosing old new places (drop (i + 1) places)
-losing_more old m new places i l lt b more safe = record {
+pub losing_more : (old m new : Machine) (positions : List ℕ) (i : ℕ) → IsLosing old m positions (drop i positions) → i < length positions
+    → HasBook new (drop (i + 1) positions) → AsksMore m new → IsSafe new → IsLosing old new positions (drop (i + 1) positions)
+losing_more old m new positions i l lt b more safe = record {
   book = b;
   safe = safe;
   asks = asks_trans old m new l.asks more;
   there = λ j h. let found = l.there j h in (found.0, asks_stay m new more j found.0 found.1, found.2);
 }
 
-pub losing_all : (old m : Machine) (places : List ℕ) (i : ℕ) → IsLosing old m places (drop i places) → length places ≤ i → HasBook m []
-losing_all old m places i l le = subst (HasBook m) (drop_all i places le) l.book
+pub losing_all : (old m : Machine) (positions : List ℕ) (i : ℕ) → IsLosing old m positions (drop i positions) → length positions ≤ i → HasBook m []
+losing_all old m positions i l le = subst (HasBook m) (drop_all i positions le) l.book
 
 -- ---- more shares are begun
 
@@ -171,9 +171,9 @@ safe_goes m r todo goes once safe = record {
       (safe.asked i was.request was.there))));
 }
 
-pub book_counted : (m : Machine) (r : RequestsState) (place : ℕ) → IsCounted m.requests.entries r.entries place → HasBook m [] → HasBook (with_requests m r) (place ∷ [])
-book_counted m r place c b =
-    book_goes m.cap m.keeps m.requests.entries r.entries m.told.items m.owners.items m.offers.items m.begun (place ∷ []) c.goes c.waited c.quiet c.inside b
+pub book_counted : (m : Machine) (r : RequestsState) (position : ℕ) → IsCounted m.requests.entries r.entries position → HasBook m [] → HasBook (with_requests m r) (position ∷ [])
+book_counted m r position c b =
+    book_goes m.cap m.keeps m.requests.entries r.entries m.told.items m.owners.items m.offers.items m.begun (position ∷ []) c.goes c.waited c.quiet c.inside b
 
 pub book_ticked : (m : Machine) (r : RequestsState) (lost : List ℕ) → IsTicked m.requests.entries r.entries lost → HasBook m [] → HasBook (with_requests m r) lost
 book_ticked m r lost t b =
@@ -186,12 +186,12 @@ pub kept_failed : (m : Machine) (status : CheckStatus) → IsKept m status → I
 kept_failed m status k = failed_kept m k.safe
 
 -- the check is done or failed, and an answer counts: it failed, since nothing waited otherwise
-pub kept_counted : (m : Machine) (r : RequestsState) (place : ℕ) (status : CheckStatus) → status ≢ Running → IsCounted m.requests.entries r.entries place → AsksOnce r.entries → IsKept m status → IsKept (with_requests m r) status
-kept_counted m r place Running ended c once k = absurd (ended refl)
-kept_counted m r place Done ended c once k =
-    let old = get_of m.requests.entries place (omega (arith, c.inside place (contains_head place []), c.goes.long)) in
-    absurd (none_waits m.requests.entries place old.0 (k.idle refl) old.1 (c.waited place old.0 (contains_head place []) old.1))
-kept_counted m r place Failed ended c once k = failed_kept (with_requests m r) (safe_goes m r (place ∷ []) c.goes once k.safe)
+pub kept_counted : (m : Machine) (r : RequestsState) (position : ℕ) (status : CheckStatus) → status ≢ Running → IsCounted m.requests.entries r.entries position → AsksOnce r.entries → IsKept m status → IsKept (with_requests m r) status
+kept_counted m r position Running ended c once k = absurd (ended refl)
+kept_counted m r position Done ended c once k =
+    let old = get_of m.requests.entries position (omega (arith, c.inside position (contains_head position []), c.goes.long)) in
+    absurd (none_waits m.requests.entries position old.0 (k.idle refl) old.1 (c.waited position old.0 (contains_head position []) old.1))
+kept_counted m r position Failed ended c once k = failed_kept (with_requests m r) (safe_goes m r (position ∷ []) c.goes once k.safe)
 
 no_lost : (es ns : List Request) (lost : List ℕ) → outstanding_count es ≡ 0 → IsTicked es ns lost → lost ≡ []
 no_lost es ns [] none t = refl

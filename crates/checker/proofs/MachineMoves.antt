@@ -5,7 +5,7 @@ use Rattle.std.proofs.lemmas.Bool.{cases_lt}
 use Rattle.std.proofs.lemmas.Option.{slice_get_within}
 use Rattle.std.proofs.lemmas.List.Elements.{All-cons, All-nil}
 use Rattle.lemmas.proofs.Members.{flat_map_has, contains_none}
-use Rattle.lemmas.proofs.Places.{get_pushed}
+use Rattle.lemmas.proofs.Positions.{get_pushed}
 use Rattle.cap_text.specs.Cap.{VerifyCapValue}
 use Rattle.placement.specs.Matching.{Pair}
 use Rattle.request_record.specs.declared.requests.Asked.{Asked}
@@ -68,14 +68,14 @@ entries_asked m new k r o a = ap (λ (x : RequestsState). x.entries) a.requests
 
 -- the one request
 abbrev pub one_ask : Offer → readings.ShareReading → List (ℕ × Asked)
-one_ask o r = (o.server, Reading o.share (reading.next_place r) (reading.next_length r)) ∷ []
+one_ask o r = (o.server, Reading o.share (reading.next_offset r) (reading.next_length r)) ∷ []
 
 pub asks_asked : (m new : Machine) (k : ℕ) (r : readings.ShareReading) (o : Offer) → HasAsked m k r o new → AsksMore m new
 asks_asked m new k r o a = record {
   cap = a.cap;
   keeps = a.keeps;
   asks = one_ask o r;
-  reads = All-cons (λ (ask : ℕ × Asked). is_read ask.1 ≡ true) (o.server, Reading o.share (reading.next_place r) (reading.next_length r)) [] refl (All-nil (λ (ask : ℕ × Asked). is_read ask.1 ≡ true));
+  reads = All-cons (λ (ask : ℕ × Asked). is_read ask.1 ≡ true) (o.server, Reading o.share (reading.next_offset r) (reading.next_length r)) [] refl (All-nil (λ (ask : ℕ × Asked). is_read ask.1 ≡ true));
   requests = a.requests;
 }
 
@@ -111,8 +111,8 @@ kinds_asked_now m new k r o safe may a =
 pub listed_at : (m : Machine) (todo : List ℕ) → HasBook m todo → (k : ℕ) (o : Offer) → slice_get m.offers.items k ≡ Some o → Contains (offered_pairs m.cap.total m.requests.entries) (key_of o)
 listed_at m todo b k o at =
     let is = b.offered k o at in
-    let holdings : is.request.asked ≡ Holdings = b.asks is.place is.request is.first is.there in
-    flat_map_has (λ (r : Request). offered_to m.cap.total r.server r.asked r.outcome) m.requests.entries is.place is.request (key_of o) is.there
+    let holdings : is.request.asked ≡ Holdings = b.asks is.position is.request is.first is.there in
+    flat_map_has (λ (r : Request). offered_to m.cap.total r.server r.asked r.outcome) m.requests.entries is.position is.request (key_of o) is.there
     (subst (λ (a : Asked). Contains (offered_to m.cap.total is.request.server a is.request.outcome) (key_of o)) (sym holdings)
     (subst (λ s. Contains (offered_in m.cap.total s is.request.outcome) (key_of o)) (sym is.server) is.listed))
 
@@ -163,13 +163,13 @@ ended_as {cap} {entries} o n v by is = record {
       whole = subst (λ (k : Pair). IsWhole (brought_of (settled_of entries k.0 k.1)) (joined h.front ++ joined h.back)) (sym key) h.whole;
     }
 
-module _ (m : Machine) (place : ℕ) (todo : List ℕ) (k : ℕ) (o : Offer) (r : readings.ShareReading) (b : HasBook m (place ∷ todo)) (after : length m.told.items ≤ place)
-    (settled : IsSettledAt m.requests.entries place) (at : slice_get m.offers.items k ≡ Some o) (stage : o.stage ≡ Read r place) where
+module _ (m : Machine) (position : ℕ) (todo : List ℕ) (k : ℕ) (o : Offer) (r : readings.ShareReading) (b : HasBook m (position ∷ todo)) (after : length m.told.items ≤ position)
+    (settled : IsSettledAt m.requests.entries position) (at : slice_get m.offers.items k ≡ Some o) (stage : o.stage ≡ Read r position) where
   abbrev pub es : List Request
   es = m.requests.entries
 
-  pub is_reading : IsReading m.cap es (place ∷ todo) o r place
-  is_reading = subst (IsAt m.cap es (place ∷ todo) o) stage (b.reading k o at)
+  pub is_reading : IsReading m.cap es (position ∷ todo) o r position
+  is_reading = subst (IsAt m.cap es (position ∷ todo) o) stage (b.reading k o at)
 
   abbrev asked : Request
   asked = is_reading.next.request
@@ -178,17 +178,17 @@ module _ (m : Machine) (place : ℕ) (todo : List ℕ) (k : ℕ) (o : Offer) (r 
   is_settled = settled asked is_reading.next.there
 
   is_about : IsAbout (key_of o) asked
-  is_about = waits_about m.cap es (place ∷ todo) o r place asked is_reading is_reading.next.there
+  is_about = waits_about m.cap es (position ∷ todo) o r position asked is_reading is_reading.next.there
 
   is_started : IsStarted o.stage
   is_started = λ e. not_waiting (sym stage ∙ e)
     where
-      not_waiting : Read r place ≡ Waiting → ⊥
+      not_waiting : Read r position ≡ Waiting → ⊥
       not_waiting e = cc
 
   ended_by : (n : Offer) (v : Verdict) → key_of n ≡ key_of o → n.pieces.keeps ≡ o.pieces.keeps → n.stage ≡ Ended v → IsEnded m.cap es n v → IsBook m.cap m.keeps es m.told.items m.owners.items (set m.offers.items k n) m.begun todo
   ended_by n v key keeps stage_is is =
-      book_ended m.cap m.keeps es m.told.items m.owners.items m.offers.items m.begun place todo b after k o n asked at is_reading.next.there is_about is_started key keeps
+      book_ended m.cap m.keeps es m.told.items m.owners.items m.offers.items m.begun position todo b after k o n asked at is_reading.next.there is_about is_started key keeps
       (λ e. not_waiting (sym stage_is ∙ e)) (subst (IsAt m.cap es todo n) (sym stage_is) is)
     where
       not_waiting : Ended v ≡ Waiting → ⊥
@@ -198,14 +198,14 @@ module _ (m : Machine) (place : ℕ) (todo : List ℕ) (k : ℕ) (o : Offer) (r 
   same_key n v by = ap (λ s. (s, n.share)) by.server ∙ ap (λ i. (o.server, i)) by.share
 
   -- no bytes came
-  pub book_lost : (n : Offer) → IsEndedBy verdicts.Lost o n → ((bytes : List ℕ) → IsDataAt es place bytes → ⊥)
+  pub book_lost : (n : Offer) → IsEndedBy verdicts.Lost o n → ((bytes : List ℕ) → IsDataAt es position bytes → ⊥)
       → IsBook m.cap m.keeps es m.told.items m.owners.items (set m.offers.items k n) m.begun todo
   book_lost n by none =
       ended_by n verdicts.Lost (same_key n verdicts.Lost by) by.keeps by.stage
-      (ended_as o n verdicts.Lost by (is_lost m.cap es (place ∷ todo) o r place is_reading asked is_reading.next.there is_settled none))
+      (ended_as o n verdicts.Lost by (is_lost m.cap es (position ∷ todo) o r position is_reading asked is_reading.next.there is_settled none))
 
   -- these bytes came, and it is read on
-  module _ (bytes : List ℕ) (has : IsDataAt es place bytes) (n : Offer) (kept : IsKeptBy r place bytes o n) where
+  module _ (bytes : List ℕ) (has : IsDataAt es position bytes) (n : Offer) (kept : IsKeptBy r position bytes o n) where
     kept_key : key_of n ≡ key_of o
     kept_key = ap (λ s. (s, n.share)) kept.server ∙ ap (λ i. (o.server, i)) kept.share
 
@@ -227,14 +227,14 @@ module _ (m : Machine) (place : ℕ) (todo : List ℕ) (k : ℕ) (o : Offer) (r 
         ended_by e (verdicts.Corrupt check) (ended_key e (verdicts.Corrupt check) by) (by.keeps ∙ kept.pieces.keeps) by.stage
         (ended_as n e (verdicts.Corrupt check) by
         (kept_ended (verdicts.Corrupt check) (λ f. cc)
-        (is_stopped m.cap es (place ∷ todo) o r place is_reading asked is_reading.next.there is_settled bytes has check stop)))
+        (is_stopped m.cap es (position ∷ todo) o r position is_reading asked is_reading.next.there is_settled bytes has check stop)))
 
     module _ (long : length bytes ≡ reading.next_length r) where
       kept_front : AreReadAt es (key_of o) n.front.items (more_front r bytes is_reading.front)
-      kept_front = front_kept m.cap es (place ∷ todo) o r place is_reading asked is_reading.next.there is_settled bytes has long n kept
+      kept_front = front_kept m.cap es (position ∷ todo) o r position is_reading asked is_reading.next.there is_settled bytes has long n kept
 
       kept_back : AreReadAt es (key_of o) n.back.items (more_back r bytes is_reading.back)
-      kept_back = back_kept m.cap es (place ∷ todo) o r place is_reading asked is_reading.next.there is_settled bytes has long n kept
+      kept_back = back_kept m.cap es (position ∷ todo) o r position is_reading asked is_reading.next.there is_settled bytes has long n kept
 
       -- it is read whole
       pub book_judged : (e : Offer) (v : Verdict) → reading.Advances m.cap r bytes Whole
@@ -245,13 +245,13 @@ module _ (m : Machine) (place : ℕ) (todo : List ℕ) (k : ℕ) (o : Offer) (r 
           let back = more_back r bytes is_reading.back in
           ended_by e v (ended_key e v by) (by.keeps ∙ kept.pieces.keeps) by.stage
           (ended_as n e v by
-          (is_judged m.cap es (place ∷ todo) o r place is_reading asked is_reading.next.there is_settled bytes has long n kept (joined front ++ joined back) v a (sym (joined_both front back)) judged))
+          (is_judged m.cap es (position ∷ todo) o r position is_reading asked is_reading.next.there is_settled bytes has long n kept (joined front ++ joined back) v a (sym (joined_both front back)) judged))
 
       -- the next bytes are asked for
       pub may_ask : (next : readings.ShareReading) → reading.Advances m.cap r bytes (Next next) → IsSafeToAsk m.cap es (key_of n) next
       may_ask next a =
           subst (λ (key : Pair). IsSafeToAsk m.cap es key next) (sym kept_key)
-          (safe_next m.cap es (place ∷ todo) o r place is_reading asked is_reading.next.there is_settled bytes has long n kept next a (listed_at m (place ∷ todo) b k o at))
+          (safe_next m.cap es (position ∷ todo) o r position is_reading asked is_reading.next.there is_settled bytes has long n kept next a (listed_at m (position ∷ todo) b k o at))
 
       begun_before : k < m.begun
       begun_before = elim (cases_lt k m.begun) [
@@ -265,15 +265,15 @@ module _ (m : Machine) (place : ℕ) (todo : List ℕ) (k : ℕ) (o : Offer) (r 
       book_next next now a judged =
           let x : Offer = with_stage (Read next (length es)) n in
           subst (λ (key : Pair). IsBook m.cap m.keeps (es ++ next_request key.0 key.1 next now ∷ []) m.told.items (m.owners.items ++ k ∷ []) (set m.offers.items k x) m.begun todo) (sym kept_key)
-          (book_asked m.cap m.keeps es m.told.items m.owners.items m.offers.items m.begun m.begun todo k o x next now at kept_key kept.pieces.keeps (place ∷ todo) b
-          (others_less m.cap m.keeps es m.told.items m.owners.items m.offers.items m.begun place todo b after k o asked at is_reading.next.there is_about)
-          (told_less m.cap m.keeps es m.told.items m.owners.items m.offers.items m.begun place todo b after)
-          (tells_less m.cap m.keeps es m.told.items m.owners.items m.offers.items m.begun place todo b after)
-          (quiet_less m.cap m.keeps es m.told.items m.owners.items m.offers.items m.begun place todo b after)
-          (λ i h. b.inside i (tail place i todo h))
+          (book_asked m.cap m.keeps es m.told.items m.owners.items m.offers.items m.begun m.begun todo k o x next now at kept_key kept.pieces.keeps (position ∷ todo) b
+          (others_less m.cap m.keeps es m.told.items m.owners.items m.offers.items m.begun position todo b after k o asked at is_reading.next.there is_about)
+          (told_less m.cap m.keeps es m.told.items m.owners.items m.offers.items m.begun position todo b after)
+          (tells_less m.cap m.keeps es m.told.items m.owners.items m.offers.items m.begun position todo b after)
+          (quiet_less m.cap m.keeps es m.told.items m.owners.items m.offers.items m.begun position todo b after)
+          (λ i h. b.inside i (tail position i todo h))
           (record { up_to = λ l lt. inl lt; from = λ l le. (le, λ e. omega (arith, le, e, begun_before)); few = b.few })
           (λ e. cc)
-          (goes_on m.cap es (place ∷ todo) o r place is_reading asked is_reading.next.there is_settled bytes has long n kept todo next now a x kept.server kept.share refl refl refl refl judged))
+          (goes_on m.cap es (position ∷ todo) o r position is_reading asked is_reading.next.there is_settled bytes has long n kept todo next now a x kept.server kept.share refl refl refl refl judged))
 
       -- what was asked, beside the record and what is kept
       module _ (new : Machine) (v : Vec Offer Global) (next : readings.ShareReading) (is : v.items ≡ set m.offers.items k n) (a : reading.Advances m.cap r bytes (Next next))
@@ -321,21 +321,21 @@ safe_same m new same safe = record {
 
 -- ---- the share that a request reads
 
-pub record IsOwned (m : Machine) (place k : ℕ) (o : Offer) : Type 0 where
+pub record IsOwned (m : Machine) (position k : ℕ) (o : Offer) : Type 0 where
   pub there : slice_get m.offers.items k ≡ Some o
   pub request : Request
-  pub asks : slice_get m.requests.entries place ≡ Some request
+  pub asks : slice_get m.requests.entries position ≡ Some request
   pub about : IsAbout (key_of o) request
 
 -- by the owner that was read
-pub owned_at : (m : Machine) (todo : List ℕ) (place p k : ℕ) → HasBook m todo → length m.told.items ≤ place → p ≡ place - length m.told.items → slice_get m.owners.items p ≡ Some k
-    → (o : Offer) × IsOwned m place k o
-owned_at m todo place p k b low is e =
+pub owned_at : (m : Machine) (todo : List ℕ) (position p k : ℕ) → HasBook m todo → length m.told.items ≤ position → p ≡ position - length m.told.items → slice_get m.owners.items p ≡ Some k
+    → (o : Offer) × IsOwned m position k o
+owned_at m todo position p k b low is e =
     let owner = b.owned p k e in
-    let here : length m.told.items + p ≡ place = omega (arith, is, low) in
+    let here : length m.told.items + p ≡ position = omega (arith, is, low) in
     (owner.offer, record { there = owner.there; request = owner.request; asks = ap (slice_get m.requests.entries) (sym here) ∙ owner.asks; about = owner.about })
 
-pub book_passed : (m : Machine) (place : ℕ) (todo : List ℕ) (k : ℕ) (o : Offer) → HasBook m (place ∷ todo) → length m.told.items ≤ place → IsOwned m place k o
-    → ((r : readings.ShareReading) → o.stage ≡ Read r place → ⊥) → HasBook m todo
-book_passed m place todo k o b low is other =
-    book_done m.cap m.keeps m.requests.entries m.told.items m.owners.items m.offers.items m.begun place todo b low k o is.request is.there is.asks is.about other
+pub book_passed : (m : Machine) (position : ℕ) (todo : List ℕ) (k : ℕ) (o : Offer) → HasBook m (position ∷ todo) → length m.told.items ≤ position → IsOwned m position k o
+    → ((r : readings.ShareReading) → o.stage ≡ Read r position → ⊥) → HasBook m todo
+book_passed m position todo k o b low is other =
+    book_done m.cap m.keeps m.requests.entries m.told.items m.owners.items m.offers.items m.begun position todo b low k o is.request is.there is.asks is.about other

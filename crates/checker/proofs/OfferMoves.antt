@@ -4,7 +4,7 @@ use Rattle.std.specs.Prelude.{Contains, slice_get}
 use Rattle.std.proofs.lemmas.List.Elements.{Contains-append_left, Contains-append_right, Contains-append_cases}
 use Rattle.std.proofs.lemmas.Option.{same_Some}
 use Rattle.lemmas.proofs.Members.{contains_cases, contains_head, contains_none, contains_tail}
-use Rattle.lemmas.proofs.Places.{get_pushed}
+use Rattle.lemmas.proofs.Positions.{get_pushed}
 use Rattle.cap_text.specs.Cap.{VerifyCapValue}
 use Rattle.placement.specs.Matching.{Pair}
 use Rattle.wire.specs.declared.message.Body.TheVariants.{Data}
@@ -26,8 +26,8 @@ use Rattle.checker.specs.declared.offers.Stage.{Stage}
 use Rattle.checker.specs.declared.offers.Stage.TheVariants.{Waiting, Read, Ended}
 use Rattle.checker.proofs.Entries.{GoesTo, about_by, about_same, get_kept, settled_push, settled_stays, was_at}
 
--- what was read at one of these places
-read_among : (es : List Request) (key : Pair) (places : List ℕ) (reads : List Brought) (i : ℕ) → AreReadAt es key places reads → Contains places i
+-- what was read at one of these positions
+read_among : (es : List Request) (key : Pair) (positions : List ℕ) (reads : List Brought) (i : ℕ) → AreReadAt es key positions reads → Contains positions i
     → (b : Brought) × Contains reads b × IsReadAt es key i b
 read_among es key [] [] i are at = absurd (contains_none i at)
 read_among es key [] (b ∷ bs) i are at = absurd are
@@ -42,26 +42,26 @@ read_among es key (p ∷ ps) (b ∷ bs) i are at = elim (contains_cases p i ps a
 answered_quiet : (o : Outcome) (bytes : List ℕ) → o ≡ Answered (Data bytes) → is_outstanding o ≡ false
 answered_quiet o bytes is = ap is_outstanding is
 
-read_goes : (es ns : List Request) (todo : List ℕ) (key : Pair) (place : ℕ) (b : Brought) → GoesTo es ns todo → IsReadAt es key place b → IsReadAt ns key place b
-read_goes es ns todo key place b goes is =
-    let becomes = goes.each place is.request is.there in
+read_goes : (es ns : List Request) (todo : List ℕ) (key : Pair) (position : ℕ) (b : Brought) → GoesTo es ns todo → IsReadAt es key position b → IsReadAt ns key position b
+read_goes es ns todo key position b goes is =
+    let becomes = goes.each position is.request is.there in
     let same : becomes.request ≡ is.request = becomes.still (answered_quiet is.request.outcome b.1 is.answer) in
     record { request = is.request; there = becomes.there ∙ ap Some same; server = is.server; asked = is.asked; answer = is.answer }
 
-reads_go : (es ns : List Request) (todo : List ℕ) (key : Pair) (places : List ℕ) (reads : List Brought) → GoesTo es ns todo → AreReadAt es key places reads → AreReadAt ns key places reads
+reads_go : (es ns : List Request) (todo : List ℕ) (key : Pair) (positions : List ℕ) (reads : List Brought) → GoesTo es ns todo → AreReadAt es key positions reads → AreReadAt ns key positions reads
 reads_go es ns todo key [] [] goes are = tt
 reads_go es ns todo key [] (b ∷ bs) goes are = absurd are
 reads_go es ns todo key (p ∷ ps) [] goes are = absurd are
 reads_go es ns todo key (p ∷ ps) (b ∷ bs) goes are = (read_goes es ns todo key p b goes are.0, reads_go es ns todo key ps bs goes are.1)
 
-only_goes : (es ns : List Request) (todo : List ℕ) (key : Pair) (places : List ℕ) → GoesTo es ns todo → IsReadOnlyAt es key places → IsReadOnlyAt ns key places
-only_goes es ns todo key places goes only i n there about =
+only_goes : (es ns : List Request) (todo : List ℕ) (key : Pair) (positions : List ℕ) → GoesTo es ns todo → IsReadOnlyAt es key positions → IsReadOnlyAt ns key positions
+only_goes es ns todo key positions goes only i n there about =
     let was = was_at es ns todo goes i n there in
     only i was.request was.there (about_same key was.request n was.server was.asked about)
 
-next_goes : (es ns : List Request) (todo : List ℕ) (key : Pair) (place : ℕ) (r : readings.ShareReading) → GoesTo es ns todo → IsNext es [] key place r → IsNext ns todo key place r
-next_goes es ns todo key place r goes is =
-    let becomes = goes.each place is.request is.there in
+next_goes : (es ns : List Request) (todo : List ℕ) (key : Pair) (position : ℕ) (r : readings.ShareReading) → GoesTo es ns todo → IsNext es [] key position r → IsNext ns todo key position r
+next_goes es ns todo key position r goes is =
+    let becomes = goes.each position is.request is.there in
     record {
       request = becomes.request;
       there = becomes.there;
@@ -70,7 +70,7 @@ next_goes es ns todo key place r goes is =
       waits = elim becomes.waits [
         | inl same ↦ elim is.waits [
           | inl waits ↦ inl (same ∙ waits)
-          | inr at ↦ absurd (contains_none place at)
+          | inr at ↦ absurd (contains_none position at)
         ]
         | inr at ↦ inr at
       ];
@@ -96,7 +96,7 @@ held_goes es ns todo o goes same h = record {
 
 at_goes : (cap : VerifyCapValue) (es ns : List Request) (todo : List ℕ) (o : Offer) (s : Stage) → GoesTo es ns todo → IsAt cap es [] o s → IsAt cap ns todo o s
 at_goes cap es ns todo o Waiting goes is = record { front = is.front; back = is.back; judged = is.judged; pieces = is.pieces; none = only_goes es ns todo (key_of o) [] goes is.none }
-at_goes cap es ns todo o (Read r place) goes is = record {
+at_goes cap es ns todo o (Read r position) goes is = record {
   front = is.front;
   back = is.back;
   led = is.led;
@@ -104,8 +104,8 @@ at_goes cap es ns todo o (Read r place) goes is = record {
   back_at = reads_go es ns todo (key_of o) o.back.items is.back goes is.back_at;
   judged = is.judged;
   pieces = is.pieces;
-  next = next_goes es ns todo (key_of o) place r goes is.next;
-  only = only_goes es ns todo (key_of o) (place ∷ (o.front.items ++ o.back.items)) goes is.only;
+  next = next_goes es ns todo (key_of o) position r goes is.next;
+  only = only_goes es ns todo (key_of o) (position ∷ (o.front.items ++ o.back.items)) goes is.only;
 }
 at_goes cap es ns todo o (Ended v) goes is = record {
   verdict = subst (λ (l : List Settled). IsVerdict cap o.share l v) (sym (settled_stays es ns todo (key_of o) goes is.quiet)) is.verdict;
@@ -118,18 +118,18 @@ offer_goes cap es ns todo o goes is = at_goes cap es ns todo o o.stage goes is
 
 -- ---- as more is asked
 
-read_push : (es : List Request) (new : Request) (key : Pair) (place : ℕ) (b : Brought) → IsReadAt es key place b → IsReadAt (es ++ new ∷ []) key place b
-read_push es new key place b is =
-    record { request = is.request; there = get_kept es new is.request place is.there; server = is.server; asked = is.asked; answer = is.answer }
+read_push : (es : List Request) (new : Request) (key : Pair) (position : ℕ) (b : Brought) → IsReadAt es key position b → IsReadAt (es ++ new ∷ []) key position b
+read_push es new key position b is =
+    record { request = is.request; there = get_kept es new is.request position is.there; server = is.server; asked = is.asked; answer = is.answer }
 
-pub reads_push : (es : List Request) (new : Request) (key : Pair) (places : List ℕ) (reads : List Brought) → AreReadAt es key places reads → AreReadAt (es ++ new ∷ []) key places reads
+pub reads_push : (es : List Request) (new : Request) (key : Pair) (positions : List ℕ) (reads : List Brought) → AreReadAt es key positions reads → AreReadAt (es ++ new ∷ []) key positions reads
 reads_push es new key [] [] are = tt
 reads_push es new key [] (b ∷ bs) are = absurd are
 reads_push es new key (p ∷ ps) [] are = absurd are
 reads_push es new key (p ∷ ps) (b ∷ bs) are = (read_push es new key p b are.0, reads_push es new key ps bs are.1)
 
-only_push : (es : List Request) (new : Request) (key : Pair) (places : List ℕ) → (IsAbout key new → ⊥) → IsReadOnlyAt es key places → IsReadOnlyAt (es ++ new ∷ []) key places
-only_push es new key places other only i r there about = elim (get_pushed es new r i there) [
+only_push : (es : List Request) (new : Request) (key : Pair) (positions : List ℕ) → (IsAbout key new → ⊥) → IsReadOnlyAt es key positions → IsReadOnlyAt (es ++ new ∷ []) key positions
+only_push es new key positions other only i r there about = elim (get_pushed es new r i there) [
   | inl before ↦ only i r before about
   | inr last ↦ absurd (other (subst (IsAbout key) (sym last.1) about))
 ]
@@ -147,7 +147,7 @@ held_push es new o same h = record {
 at_push : (cap : VerifyCapValue) (es : List Request) (new : Request) (todo : List ℕ) (o : Offer) (s : Stage) → is_outstanding new.outcome ≡ true → (IsAbout (key_of o) new → ⊥)
     → IsAt cap es todo o s → IsAt cap (es ++ new ∷ []) todo o s
 at_push cap es new todo o Waiting waits other is = record { front = is.front; back = is.back; judged = is.judged; pieces = is.pieces; none = only_push es new (key_of o) [] other is.none }
-at_push cap es new todo o (Read r place) waits other is = record {
+at_push cap es new todo o (Read r position) waits other is = record {
   front = is.front;
   back = is.back;
   led = is.led;
@@ -157,12 +157,12 @@ at_push cap es new todo o (Read r place) waits other is = record {
   pieces = is.pieces;
   next = record {
     request = is.next.request;
-    there = get_kept es new is.next.request place is.next.there;
+    there = get_kept es new is.next.request position is.next.there;
     server = is.next.server;
     asked = is.next.asked;
     waits = is.next.waits;
   };
-  only = only_push es new (key_of o) (place ∷ (o.front.items ++ o.back.items)) other is.only;
+  only = only_push es new (key_of o) (position ∷ (o.front.items ++ o.back.items)) other is.only;
 }
 at_push cap es new todo o (Ended v) waits other is = record {
   verdict = subst (λ (l : List Settled). IsVerdict cap o.share l v) (sym (settled_push es (key_of o) new waits)) is.verdict;
@@ -182,7 +182,7 @@ offer_push cap es new todo o waits other is = at_push cap es new todo o o.stage 
 at_done : (cap : VerifyCapValue) (es : List Request) (todo : List ℕ) (done : ℕ) (o : Offer) (s : Stage) → ((r : readings.ShareReading) → s ≡ Read r done → ⊥)
     → IsAt cap es (done ∷ todo) o s → IsAt cap es todo o s
 at_done cap es todo done o Waiting other is = is
-at_done cap es todo done o (Read r place) other is = record {
+at_done cap es todo done o (Read r position) other is = record {
   front = is.front;
   back = is.back;
   led = is.led;
@@ -197,7 +197,7 @@ at_done cap es todo done o (Read r place) other is = record {
     asked = is.next.asked;
     waits = elim is.next.waits [
       | inl waits ↦ inl waits
-      | inr at ↦ elim (contains_cases done place todo at) [
+      | inr at ↦ elim (contains_cases done position todo at) [
         | inl here ↦ absurd (other r (ap (λ n. Read r n) (sym here)))
         | inr later ↦ inr later
       ]
@@ -212,9 +212,9 @@ pub offer_done : (cap : VerifyCapValue) (es : List Request) (todo : List ℕ) (d
 offer_done cap es todo done o other is = at_done cap es todo done o o.stage other is
 
 -- a share that waits for the answer to a request is what that is about
-pub waits_about : (cap : VerifyCapValue) (es : List Request) (todo : List ℕ) (o : Offer) (r : readings.ShareReading) (place : ℕ) (q : Request) → IsReading cap es todo o r place
-    → slice_get es place ≡ Some q → IsAbout (key_of o) q
-waits_about cap es todo o r place q is there =
+pub waits_about : (cap : VerifyCapValue) (es : List Request) (todo : List ℕ) (o : Offer) (r : readings.ShareReading) (position : ℕ) (q : Request) → IsReading cap es todo o r position
+    → slice_get es position ≡ Some q → IsAbout (key_of o) q
+waits_about cap es todo o r position q is there =
     let same : is.next.request ≡ q = same_Some is.next.request q (sym is.next.there ∙ there) in
     subst (IsAbout (key_of o)) same (about_by (key_of o) is.next.request _ _ is.next.server is.next.asked)
 
@@ -228,12 +228,12 @@ offer_other cap es todo done o q there other is =
 -- ---- its request is answered
 
 -- the request of the next bytes waits no more, and is the only one of it that brought no bytes so far
-module _ (cap : VerifyCapValue) (es : List Request) (todo : List ℕ) (o : Offer) (r : readings.ShareReading) (place : ℕ) (is : IsReading cap es todo o r place)
-    (q : Request) (there : slice_get es place ≡ Some q) (settled : is_outstanding q.outcome ≡ false) where
+module _ (cap : VerifyCapValue) (es : List Request) (todo : List ℕ) (o : Offer) (r : readings.ShareReading) (position : ℕ) (is : IsReading cap es todo o r position)
+    (q : Request) (there : slice_get es position ≡ Some q) (settled : is_outstanding q.outcome ≡ false) where
   pub same_next : is.next.request ≡ q
   same_next = same_Some is.next.request q (sym is.next.there ∙ there)
 
-  pub next_asked : q.asked ≡ Reading o.share (reading.next_place r) (reading.next_length r)
+  pub next_asked : q.asked ≡ Reading o.share (reading.next_offset r) (reading.next_length r)
   next_asked = ap (λ (x : Request). x.asked) (sym same_next) ∙ is.next.asked
 
   pub next_about : IsAbout (key_of o) q
@@ -242,10 +242,10 @@ module _ (cap : VerifyCapValue) (es : List Request) (todo : List ℕ) (o : Offer
   -- the reads of it
   pub data IsOneOf (i : ℕ) (x : Request) : Type 0 where
     brought : (b : Brought) → Contains (is.front ++ is.back) b → IsReadAt es (key_of o) i b → IsOneOf i x
-    last : i ≡ place → x ≡ q → IsOneOf i x
+    last : i ≡ position → x ≡ q → IsOneOf i x
 
   pub one_of : (i : ℕ) (x : Request) → slice_get es i ≡ Some x → IsAbout (key_of o) x → IsOneOf i x
-  one_of i x at about = elim (contains_cases place i (o.front.items ++ o.back.items) (is.only i x at about)) [
+  one_of i x at about = elim (contains_cases position i (o.front.items ++ o.back.items) (is.only i x at about)) [
     | inl here ↦ last (sym here) (same_Some x q (sym at ∙ ap (slice_get es) (sym here) ∙ there))
     | inr later ↦ elim (Contains-append_cases o.front.items o.back.items i later) [
       | inl front ↦ (let found = read_among es (key_of o) o.front.items is.front i is.front_at front in brought found.0 (Contains-append_left is.front is.back found.0 found.1) found.2)

@@ -3,7 +3,7 @@ use Rattle.std.proofs.Common.{◌≡◌, ℕ, List, [], ◌∷◌, ◌++◌, All
 use Rattle.std.specs.Prelude.{Contains, slice_get}
 use Rattle.std.proofs.lemmas.List.Elements.{All-head, All-tail}
 use Rattle.lemmas.proofs.Members.{contains_at}
-use Rattle.lemmas.proofs.Places.{get_pushed}
+use Rattle.lemmas.proofs.Positions.{get_pushed}
 use Rattle.wire.specs.declared.message.Message.{Message}
 use Rattle.request_record.specs.declared.requests.Asked.{Asked}
 use Rattle.request_record.specs.declared.requests.Request.{Request}
@@ -15,7 +15,7 @@ use Rattle.checker.specs.Sending.{Takes}
 use Rattle.checker.specs.State.{CheckState}
 use Rattle.checker.proofs.Entries.{GoesTo, was_at}
 use Rattle.checker.proofs.Keeping.{begun_at, begun_entries}
-use Rattle.checker.proofs.RecordMoves.{counted_at_place, ticked_by, uncounted}
+use Rattle.checker.proofs.RecordMoves.{counted_at_position, ticked_by, uncounted}
 
 own_goes : (servers : List ℕ) (es ns : List Request) (todo : List ℕ) → GoesTo es ns todo → AsksItsOwn servers es → AsksItsOwn servers ns
 own_goes servers es ns todo to own i n e asks =
@@ -47,7 +47,7 @@ own_counted servers from m now r own = by (counts_at from m r) refl
   where
     by : (o : Option ℕ) → o ≡ counts_at from m r → AsksItsOwn servers (after_message from m now r).entries
     by None e = subst (AsksItsOwn servers) (sym (uncounted from m now r e)) own
-    by (Some place) e = own_goes servers r.entries (after_message from m now r).entries (place ∷ []) (counted_at_place from now m r place e).goes own
+    by (Some position) e = own_goes servers r.entries (after_message from m now r).entries (position ∷ []) (counted_at_position from now m r position e).goes own
 
 own_ticked : (servers : List ℕ) (now : ℕ) (r : RequestsState) → AsksItsOwn servers r.entries → AsksItsOwn servers (after_tick now r).entries
 own_ticked servers now r own = own_goes servers r.entries (after_tick now r).entries (lost_by_tick now r) (ticked_by now r).goes own

@@ -9,7 +9,7 @@ use Rattle.std.proofs.lemmas.Option.{none-some, slice_get_within, same_Some}
 use Rattle.request_record.proofs.StepLaws.{quiet_ticked}
 use Rattle.lemmas.proofs.Bools.{both, bool_cases}
 use Rattle.lemmas.proofs.Members.{flat_map_has, flat_map_from, contains_cases, contains_head, contains_none, contains_tail}
-use Rattle.lemmas.proofs.Places.{get_set_other, get_pushed, get_map}
+use Rattle.lemmas.proofs.Positions.{get_set_other, get_pushed, get_map}
 use Rattle.cap_text.specs.Cap.{VerifyCapValue}
 use Rattle.placement.specs.Matching.{Pair}
 use Rattle.wire.specs.declared.message.Body.{Body}
@@ -21,7 +21,7 @@ use Rattle.request_record.specs.declared.requests.Outcome.{Outcome}
 use Rattle.request_record.specs.declared.requests.Outcome.TheVariants.{Answered, Lost}
 use Rattle.request_record.specs.declared.requests.Request.{Request}
 use Rattle.request_record.specs.Kept.{data_as, data_in}
-use Rattle.request_record.specs.Record.{RequestsState, age_of, answered_in, at, counted_at, counts_at, is_lost_at, is_outstanding, is_resent_at, lost_places, places_from, resent_one, ticked_one, with_outcome}
+use Rattle.request_record.specs.Record.{RequestsState, age_of, answered_in, at, counted_at, counts_at, is_lost_at, is_outstanding, is_resent_at, lost_positions, positions_from, resent_one, ticked_one, with_outcome}
 use Rattle.request_record.specs.Asking.{AreApart, AsksOnce, after_message, after_tick, lost_by_tick}
 use Rattle.request_record.proofs.RecordLaws.{counts_is}
 use Rattle.request_record.proofs.AskingLaws.{once_asked, once_ticked}
@@ -42,99 +42,99 @@ use Rattle.checker.proofs.AnswerMoves.{IsSafeToAsk, more_asked, next_request}
 becomes_same : (es : List Request) (todo : List ℕ) (i : ℕ) (r : Request) → slice_get es i ≡ Some r → BecomesAt es todo i r
 becomes_same es todo i r there = record { request = r; there = there; server = refl; asked = refl; still = λ _. refl; waits = inl refl }
 
-goes_set : (es : List Request) (place : ℕ) (q : Request) (body : Body) → slice_get es place ≡ Some q → is_outstanding q.outcome ≡ true
-    → GoesTo es (set es place (with_outcome q (Answered body))) (place ∷ [])
-goes_set es place q body there waits = record {
-  long = length-set es place (with_outcome q (Answered body));
+goes_set : (es : List Request) (position : ℕ) (q : Request) (body : Body) → slice_get es position ≡ Some q → is_outstanding q.outcome ≡ true
+    → GoesTo es (set es position (with_outcome q (Answered body))) (position ∷ [])
+goes_set es position q body there waits = record {
+  long = length-set es position (with_outcome q (Answered body));
   each = each;
 }
   where
-    other : (i : ℕ) (r : Request) → slice_get es i ≡ Some r → (i ≡ place → ⊥) → BecomesAt (set es place (with_outcome q (Answered body))) (place ∷ []) i r
+    other : (i : ℕ) (r : Request) → slice_get es i ≡ Some r → (i ≡ position → ⊥) → BecomesAt (set es position (with_outcome q (Answered body))) (position ∷ []) i r
     other i r e apart = record {
       request = r;
-      there = get_set_other es place i (with_outcome q (Answered body)) apart ∙ e;
+      there = get_set_other es position i (with_outcome q (Answered body)) apart ∙ e;
       server = refl;
       asked = refl;
       still = λ _. refl;
       waits = inl refl;
     }
 
-    each : (i : ℕ) (r : Request) → slice_get es i ≡ Some r → BecomesAt (set es place (with_outcome q (Answered body))) (place ∷ []) i r
-    each i r e = elim (cases_lt i place) [
+    each : (i : ℕ) (r : Request) → slice_get es i ≡ Some r → BecomesAt (set es position (with_outcome q (Answered body))) (position ∷ []) i r
+    each i r e = elim (cases_lt i position) [
       | inl lt ↦ other i r e (λ h. omega (arith, h, lt))
-      | inr le ↦ elim (cases_lt place i) [
+      | inr le ↦ elim (cases_lt position i) [
         | inl lt ↦ other i r e (λ h. omega (arith, h, lt))
         | inr ge ↦ (
-            let here : i ≡ place = omega (arith, le, ge) in
+            let here : i ≡ position = omega (arith, le, ge) in
             let same : q ≡ r = same_Some q r (sym there ∙ ap (slice_get es) (sym here) ∙ e) in
             record {
               request = with_outcome q (Answered body);
-              there = ap (slice_get (set es place (with_outcome q (Answered body)))) here ∙ get_set_same es place q (with_outcome q (Answered body)) there;
+              there = ap (slice_get (set es position (with_outcome q (Answered body)))) here ∙ get_set_same es position q (with_outcome q (Answered body)) there;
               server = ap (λ (x : Request). x.server) same;
               asked = ap (λ (x : Request). x.asked) same;
               still = λ quiet. absurd (true≢false (sym waits ∙ ap (λ (x : Request). is_outstanding x.outcome) same ∙ quiet));
-              waits = inr (subst (Contains (place ∷ [])) (sym here) (contains_head place []));
+              waits = inr (subst (Contains (position ∷ [])) (sym here) (contains_head position []));
             })
       ]
     ]
 
 -- what a message that counts makes of the record
-pub record IsCounted (es ns : List Request) (place : ℕ) : Type 0 where
-  pub goes : GoesTo es ns (place ∷ [])
-  pub waited : (i : ℕ) (r : Request) → Contains (place ∷ []) i → slice_get es i ≡ Some r → is_outstanding r.outcome ≡ true
-  pub quiet : (i : ℕ) (r : Request) → Contains (place ∷ []) i → slice_get ns i ≡ Some r → is_outstanding r.outcome ≡ false
-  pub inside : (i : ℕ) → Contains (place ∷ []) i → i < length ns
+pub record IsCounted (es ns : List Request) (position : ℕ) : Type 0 where
+  pub goes : GoesTo es ns (position ∷ [])
+  pub waited : (i : ℕ) (r : Request) → Contains (position ∷ []) i → slice_get es i ≡ Some r → is_outstanding r.outcome ≡ true
+  pub quiet : (i : ℕ) (r : Request) → Contains (position ∷ []) i → slice_get ns i ≡ Some r → is_outstanding r.outcome ≡ false
+  pub inside : (i : ℕ) → Contains (position ∷ []) i → i < length ns
 
-counted_by : (from now : ℕ) (m : Message) (s : RequestsState) (place : ℕ) → counts_at from m (at now s) ≡ Some place → IsCounted s.entries (after_message from m now s).entries place
-counted_by from now m s place counts =
-    let is = counts_is from m (at now s) place counts in
+counted_by : (from now : ℕ) (m : Message) (s : RequestsState) (position : ℕ) → counts_at from m (at now s) ≡ Some position → IsCounted s.entries (after_message from m now s).entries position
+counted_by from now m s position counts =
+    let is = counts_is from m (at now s) position counts in
     let q = is.request in
-    let ns = set s.entries place (with_outcome q (Answered m.body)) in
+    let ns = set s.entries position (with_outcome q (Answered m.body)) in
     let result : (after_message from m now s).entries ≡ ns =
-    ap (λ (o : Option ℕ). (counted_at m (at now s) o).entries) counts ∙ ap (λ (o : Option Request). answered_in s.entries place o m.body) is.there in
-    subst (λ (l : List Request). IsCounted s.entries l place) (sym result) (record {
-      goes = goes_set s.entries place q m.body is.there is.waits;
-      waited = λ i r h e. (let same : q ≡ r = same_Some q r (sym is.there ∙ ap (slice_get s.entries) (alone place i h) ∙ e) in
+    ap (λ (o : Option ℕ). (counted_at m (at now s) o).entries) counts ∙ ap (λ (o : Option Request). answered_in s.entries position o m.body) is.there in
+    subst (λ (l : List Request). IsCounted s.entries l position) (sym result) (record {
+      goes = goes_set s.entries position q m.body is.there is.waits;
+      waited = λ i r h e. (let same : q ≡ r = same_Some q r (sym is.there ∙ ap (slice_get s.entries) (alone position i h) ∙ e) in
           ap (λ (x : Request). is_outstanding x.outcome) (sym same) ∙ is.waits);
       quiet = λ i r h e. (let new : with_outcome q (Answered m.body) ≡ r =
-          same_Some (with_outcome q (Answered m.body)) r (sym (get_set_same s.entries place q (with_outcome q (Answered m.body)) is.there) ∙ ap (slice_get ns) (alone place i h) ∙ e) in
+          same_Some (with_outcome q (Answered m.body)) r (sym (get_set_same s.entries position q (with_outcome q (Answered m.body)) is.there) ∙ ap (slice_get ns) (alone position i h) ∙ e) in
           ap (λ (x : Request). is_outstanding x.outcome) (sym new));
-      inside = λ i h. subst (λ j. j < length ns) (alone place i h)
-          (slice_get_within ns place (with_outcome q (Answered m.body)) (get_set_same s.entries place q (with_outcome q (Answered m.body)) is.there));
+      inside = λ i h. subst (λ j. j < length ns) (alone position i h)
+          (slice_get_within ns position (with_outcome q (Answered m.body)) (get_set_same s.entries position q (with_outcome q (Answered m.body)) is.there));
     })
   where
     alone : (x i : ℕ) → Contains (x ∷ []) i → x ≡ i
     alone x i h = elim (contains_cases x i [] h) [ inl same ↦ same | inr none ↦ absurd (contains_none i none) ]
 
--- the same with the place that the call told
-pub counted_at_place : (from now : ℕ) (m : Message) (s : RequestsState) (place : ℕ) → Some place ≡ counts_at from m s → IsCounted s.entries (after_message from m now s).entries place
-counted_at_place from now m s place counts = counted_by from now m s place (sym counts)
+-- the same with the position that the call told
+pub counted_at_position : (from now : ℕ) (m : Message) (s : RequestsState) (position : ℕ) → Some position ≡ counts_at from m s → IsCounted s.entries (after_message from m now s).entries position
+counted_at_position from now m s position counts = counted_by from now m s position (sym counts)
 
 -- it is there with its answer
-answered_at : (from now : ℕ) (m : Message) (s : RequestsState) (place : ℕ) → Some place ≡ counts_at from m s
-    → (q : Request) × (slice_get (after_message from m now s).entries place ≡ Some (with_outcome q (Answered m.body)))
-answered_at from now m s place counts =
-    let is = counts_is from m (at now s) place (sym counts) in
+answered_at : (from now : ℕ) (m : Message) (s : RequestsState) (position : ℕ) → Some position ≡ counts_at from m s
+    → (q : Request) × (slice_get (after_message from m now s).entries position ≡ Some (with_outcome q (Answered m.body)))
+answered_at from now m s position counts =
+    let is = counts_is from m (at now s) position (sym counts) in
     let x = with_outcome is.request (Answered m.body) in
-    let result : (after_message from m now s).entries ≡ set s.entries place x =
-    ap (λ (o : Option ℕ). (counted_at m (at now s) o).entries) (sym counts) ∙ ap (λ (o : Option Request). answered_in s.entries place o m.body) is.there in
-    (is.request, ap (λ (l : List Request). slice_get l place) result ∙ get_set_same s.entries place is.request x is.there)
+    let result : (after_message from m now s).entries ≡ set s.entries position x =
+    ap (λ (o : Option ℕ). (counted_at m (at now s) o).entries) (sym counts) ∙ ap (λ (o : Option Request). answered_in s.entries position o m.body) is.there in
+    (is.request, ap (λ (l : List Request). slice_get l position) result ∙ get_set_same s.entries position is.request x is.there)
 
 data_is : (body : Body) (bytes : List ℕ) → data_in body ≡ Some bytes → body ≡ Data bytes
 data_is (Data others) bytes e = ap Data (same_Some others bytes e)
 data_is body bytes e = absurd cc
 
-answer_brought : (es : List Request) (place : ℕ) (x : Request) (body : Body) (o : Option (List ℕ)) → slice_get es place ≡ Some x → x.outcome ≡ Answered body → o ≡ data_in body → IsBrought es place o
-answer_brought es place x body (Some bytes) there answer e = record { request = x; there = there; answer = answer ∙ ap Answered (data_is body bytes (sym e)) }
-answer_brought es place x body None there answer e = λ bytes has.
+answer_brought : (es : List Request) (position : ℕ) (x : Request) (body : Body) (o : Option (List ℕ)) → slice_get es position ≡ Some x → x.outcome ≡ Answered body → o ≡ data_in body → IsBrought es position o
+answer_brought es position x body (Some bytes) there answer e = record { request = x; there = there; answer = answer ∙ ap Answered (data_is body bytes (sym e)) }
+answer_brought es position x body None there answer e = λ bytes has.
     none-some bytes (e ∙ ap data_as (sym answer ∙ ap (λ (r : Request). r.outcome) (same_Some x has.request (sym there ∙ has.there)) ∙ has.answer))
 
 -- the bytes that the answer brought
-pub message_brought : (from now : ℕ) (m : Message) (s r : RequestsState) (place : ℕ) (o : Option (List ℕ)) → Some place ≡ counts_at from m s → r ≡ after_message from m now s → o ≡ data_in m.body → IsBrought r.entries place o
-message_brought from now m s r place o counts is of =
-    let found = answered_at from now m s place counts in
-    subst (λ (x : RequestsState). IsBrought x.entries place o) (sym is)
-    (answer_brought (after_message from m now s).entries place (with_outcome found.0 (Answered m.body)) m.body o found.1 refl of)
+pub message_brought : (from now : ℕ) (m : Message) (s r : RequestsState) (position : ℕ) (o : Option (List ℕ)) → Some position ≡ counts_at from m s → r ≡ after_message from m now s → o ≡ data_in m.body → IsBrought r.entries position o
+message_brought from now m s r position o counts is of =
+    let found = answered_at from now m s position counts in
+    subst (λ (x : RequestsState). IsBrought x.entries position o) (sym is)
+    (answer_brought (after_message from m now s).entries position (with_outcome found.0 (Answered m.body)) m.body o found.1 refl of)
 
 pub uncounted : (from : ℕ) (m : Message) (now : ℕ) (s : RequestsState) → None ≡ counts_at from m s → (after_message from m now s).entries ≡ s.entries
 uncounted from m now s e = ap (λ (o : Option ℕ). (counted_at m (at now s) o).entries) (sym e)
@@ -156,42 +156,42 @@ ticked_cases now r = by (is_lost_at now r) (is_resent_at now r) refl
 lost_waits : (now : ℕ) (r : Request) → is_lost_at now r ≡ true → is_outstanding r.outcome ≡ true
 lost_waits now r e = (both (is_outstanding r.outcome) (nat_le 20 (age_of now r)) e).0
 
-in_rest : (test : Request → Bool) (from : ℕ) (x : Request) (xs : List Request) (p : ℕ) (b : Bool) → Contains (places_from test (from + 1) xs) p
-    → Contains (cond b (from ∷ places_from test (from + 1) xs) (places_from test (from + 1) xs)) p
-in_rest test from x xs p true later = contains_tail from p (places_from test (from + 1) xs) later
+in_rest : (test : Request → Bool) (from : ℕ) (x : Request) (xs : List Request) (p : ℕ) (b : Bool) → Contains (positions_from test (from + 1) xs) p
+    → Contains (cond b (from ∷ positions_from test (from + 1) xs) (positions_from test (from + 1) xs)) p
+in_rest test from x xs p true later = contains_tail from p (positions_from test (from + 1) xs) later
 in_rest test from x xs p false later = later
 
--- the places of the lost ones, from a place on
-in_places : (test : Request → Bool) (from : ℕ) (es : List Request) (i : ℕ) (r : Request) → slice_get es i ≡ Some r → test r ≡ true → Contains (places_from test from es) (from + i)
-in_places test from [] i r there e = absurd cc
-in_places test from (x ∷ xs) zero r there e =
+-- the positions of the lost ones, from a position on
+in_positions : (test : Request → Bool) (from : ℕ) (es : List Request) (i : ℕ) (r : Request) → slice_get es i ≡ Some r → test r ≡ true → Contains (positions_from test from es) (from + i)
+in_positions test from [] i r there e = absurd cc
+in_positions test from (x ∷ xs) zero r there e =
     let is : test x ≡ true = ap test (same_Some x r there) ∙ e in
-    rw is (subst (Contains (from ∷ places_from test (from + 1) xs)) (omega arith) (contains_head from (places_from test (from + 1) xs)))
-in_places test from (x ∷ xs) (suc i) r there e =
-    in_rest test from x xs (from + suc i) (test x) (subst (Contains (places_from test (from + 1) xs)) (omega arith) (in_places test (from + 1) xs i r there e))
+    rw is (subst (Contains (from ∷ positions_from test (from + 1) xs)) (omega arith) (contains_head from (positions_from test (from + 1) xs)))
+in_positions test from (x ∷ xs) (suc i) r there e =
+    in_rest test from x xs (from + suc i) (test x) (subst (Contains (positions_from test (from + 1) xs)) (omega arith) (in_positions test (from + 1) xs i r there e))
 
-pub record IsPlaceOf (test : Request → Bool) (from : ℕ) (es : List Request) (p : ℕ) : Type 0 where
+pub record IsPositionOf (test : Request → Bool) (from : ℕ) (es : List Request) (p : ℕ) : Type 0 where
   pub index : ℕ
   pub is : p ≡ from + index
   pub request : Request
   pub there : slice_get es index ≡ Some request
   pub passes : test request ≡ true
 
-place_later : (test : Request → Bool) (from : ℕ) (x : Request) (xs : List Request) (p : ℕ) → IsPlaceOf test (from + 1) xs p → IsPlaceOf test from (x ∷ xs) p
-place_later test from x xs p found = record { index = suc found.index; is = omega (arith, found.is); request = found.request; there = found.there; passes = found.passes }
+position_later : (test : Request → Bool) (from : ℕ) (x : Request) (xs : List Request) (p : ℕ) → IsPositionOf test (from + 1) xs p → IsPositionOf test from (x ∷ xs) p
+position_later test from x xs p found = record { index = suc found.index; is = omega (arith, found.is); request = found.request; there = found.there; passes = found.passes }
 
-place_by : (test : Request → Bool) (from : ℕ) (x : Request) (xs : List Request) (p : ℕ) (b : Bool) → test x ≡ b
-    → (Contains (places_from test (from + 1) xs) p → IsPlaceOf test (from + 1) xs p)
-    → Contains (cond b (from ∷ places_from test (from + 1) xs) (places_from test (from + 1) xs)) p → IsPlaceOf test from (x ∷ xs) p
-place_by test from x xs p true e rest k = elim (contains_cases from p (places_from test (from + 1) xs) k) [
+position_by : (test : Request → Bool) (from : ℕ) (x : Request) (xs : List Request) (p : ℕ) (b : Bool) → test x ≡ b
+    → (Contains (positions_from test (from + 1) xs) p → IsPositionOf test (from + 1) xs p)
+    → Contains (cond b (from ∷ positions_from test (from + 1) xs) (positions_from test (from + 1) xs)) p → IsPositionOf test from (x ∷ xs) p
+position_by test from x xs p true e rest k = elim (contains_cases from p (positions_from test (from + 1) xs) k) [
   | inl here ↦ record { index = 0; is = omega (arith, here); request = x; there = refl; passes = e }
-  | inr later ↦ place_later test from x xs p (rest later)
+  | inr later ↦ position_later test from x xs p (rest later)
 ]
-place_by test from x xs p false e rest k = place_later test from x xs p (rest k)
+position_by test from x xs p false e rest k = position_later test from x xs p (rest k)
 
-of_places : (test : Request → Bool) (from : ℕ) (es : List Request) (p : ℕ) → Contains (places_from test from es) p → IsPlaceOf test from es p
-of_places test from [] p h = absurd (contains_none p h)
-of_places test from (x ∷ xs) p h = place_by test from x xs p (test x) refl (of_places test (from + 1) xs p) h
+of_positions : (test : Request → Bool) (from : ℕ) (es : List Request) (p : ℕ) → Contains (positions_from test from es) p → IsPositionOf test from es p
+of_positions test from [] p h = absurd (contains_none p h)
+of_positions test from (x ∷ xs) p h = position_by test from x xs p (test x) refl (of_positions test (from + 1) xs p) h
 
 -- what a tick makes of the record
 pub record IsTicked (es ns : List Request) (lost : List ℕ) : Type 0 where
@@ -200,21 +200,21 @@ pub record IsTicked (es ns : List Request) (lost : List ℕ) : Type 0 where
   pub quiet : (i : ℕ) (r : Request) → Contains lost i → slice_get ns i ≡ Some r → r.outcome ≡ Lost
   pub inside : (i : ℕ) → Contains lost i → i < length ns
 
-ticked_at : (now : ℕ) (es : List Request) → IsTicked es (map (ticked_one now) es) (lost_places now es)
+ticked_at : (now : ℕ) (es : List Request) → IsTicked es (map (ticked_one now) es) (lost_positions now es)
 ticked_at now es = record {
   goes = record { long = length-map es (ticked_one now); each = each };
   waited = λ i r h e. (
-      let p = of_places (is_lost_at now) 0 es i h in
+      let p = of_positions (is_lost_at now) 0 es i h in
       let same : p.request ≡ r = same_Some p.request r (sym p.there ∙ ap (slice_get es) (omega (arith, p.is)) ∙ e) in
       lost_waits now r (ap (is_lost_at now) (sym same) ∙ p.passes));
   quiet = λ i r h e. (
-      let p = of_places (is_lost_at now) 0 es i h in
+      let p = of_positions (is_lost_at now) 0 es i h in
       let new : ticked_one now p.request ≡ r = same_Some (ticked_one now p.request) r (sym (get_map (ticked_one now) es p.index p.request p.there) ∙ ap (slice_get (map (ticked_one now) es)) (omega (arith, p.is)) ∙ e) in
       ap (λ (x : Request). x.outcome) (sym new) ∙ (rw p.passes refl));
-  inside = λ i h. (let p = of_places (is_lost_at now) 0 es i h in omega (arith, p.is, slice_get_within es p.index p.request p.there, length-map es (ticked_one now)));
+  inside = λ i h. (let p = of_positions (is_lost_at now) 0 es i h in omega (arith, p.is, slice_get_within es p.index p.request p.there, length-map es (ticked_one now)));
 }
   where
-    each : (i : ℕ) (r : Request) → slice_get es i ≡ Some r → BecomesAt (map (ticked_one now) es) (lost_places now es) i r
+    each : (i : ℕ) (r : Request) → slice_get es i ≡ Some r → BecomesAt (map (ticked_one now) es) (lost_positions now es) i r
     each i r e = elim (ticked_cases now r) [
       | inl lost ↦ record {
         request = ticked_one now r;
@@ -222,7 +222,7 @@ ticked_at now es = record {
         server = ap (λ (x : Request). x.server) lost.1;
         asked = ap (λ (x : Request). x.asked) lost.1;
         still = quiet_ticked now r;
-        waits = inr (subst (Contains (lost_places now es)) (omega arith) (in_places (is_lost_at now) 0 es i r e lost.0));
+        waits = inr (subst (Contains (lost_positions now es)) (omega arith) (in_positions (is_lost_at now) 0 es i r e lost.0));
       }
       | inr same ↦ record {
         request = ticked_one now r;
@@ -249,19 +249,19 @@ once_as now s r is once = subst (λ (x : RequestsState). AsksOnce x.entries) (sy
 pub told_on : (es ns : List Request) (todo : List ℕ) (key : Pair) (s : Settled) → GoesTo es ns todo → Contains (settled_of es key.0 key.1) s → Contains (settled_of ns key.0 key.1) s
 told_on es ns todo key s goes h =
     let by = settled_from es key s h in
-    let becomes = goes.each by.place by.request by.there in
+    let becomes = goes.each by.position by.request by.there in
     by_quiet by becomes (is_outstanding by.request.outcome) refl
   where
-    by_quiet : (by : IsSettledBy es key s) → BecomesAt ns todo by.place by.request → (b : Bool) → is_outstanding by.request.outcome ≡ b → Contains (settled_of ns key.0 key.1) s
+    by_quiet : (by : IsSettledBy es key s) → BecomesAt ns todo by.position by.request → (b : Bool) → is_outstanding by.request.outcome ≡ b → Contains (settled_of ns key.0 key.1) s
     by_quiet by becomes true e =
         absurd (contains_none s (subst (λ (l : List Settled). Contains l s) (unsettled by.request.asked by.request.outcome e) by.has))
     by_quiet by becomes false e =
-        settled_has ns key by.place by.request s (becomes.there ∙ ap Some (becomes.still e)) by.about by.has
+        settled_has ns key by.position by.request s (becomes.there ∙ ap Some (becomes.still e)) by.about by.has
 
 grows_on : (es ns : List Request) (todo : List ℕ) (key : Pair) (b : Brought) → GoesTo es ns todo → Contains (brought_of (settled_of es key.0 key.1)) b → Contains (brought_of (settled_of ns key.0 key.1)) b
 grows_on es ns todo key b goes h =
     let by = brought_from (settled_of es key.0 key.1) b h in
-    let same : (by.read.place, b.1) ≡ b = ap (λ n. (n, b.1)) by.place in
+    let same : (by.read.offset, b.1) ≡ b = ap (λ n. (n, b.1)) by.offset in
     subst (Contains (brought_of (settled_of ns key.0 key.1))) same
     (brought_has (settled_of ns key.0 key.1) by.read b.1 (told_on es ns todo key by.read goes by.among) by.answer)
 
@@ -274,13 +274,13 @@ shares_go cap es ns todo goes are i r share offset len there asked =
     (λ b h. grows_on es ns todo key b goes h)
     (subst (λ n. IsAsked cap (brought_of (settled_of es n share)) offset len) (sym was.server) old)
 
-apart_none : (a : Asked) (share place len : ℕ) → ((offset count : ℕ) → a ≡ Reading share offset count → (offset + count ≤ place) ⊎ (place + len ≤ offset)) → AreApart a (Reading share place len)
-apart_none Holdings share place len none = λ e. cc
-apart_none (Allocation n l) share place len none = λ e. cc
-apart_none (Writing n offset l) share place len none = λ e. cc
-apart_none (Closing n) share place len none = λ e. cc
-apart_none (Reading n offset count) share place len none = λ same. none offset count (ap (λ m. Reading m offset count) same)
-apart_none (Aborting n) share place len none = λ e. cc
+apart_none : (a : Asked) (share position len : ℕ) → ((offset count : ℕ) → a ≡ Reading share offset count → (offset + count ≤ position) ⊎ (position + len ≤ offset)) → AreApart a (Reading share position len)
+apart_none Holdings share position len none = λ e. cc
+apart_none (Allocation n l) share position len none = λ e. cc
+apart_none (Writing n offset l) share position len none = λ e. cc
+apart_none (Closing n) share position len none = λ e. cc
+apart_none (Reading n offset count) share position len none = λ same. none offset count (ap (λ m. Reading m offset count) same)
+apart_none (Aborting n) share position len none = λ e. cc
 
 -- ---- what was offered stays offered
 
@@ -299,10 +299,10 @@ pub offered_goes : (total : ℕ) (es ns : List Request) (todo : List ℕ) → Go
 offered_goes total es ns todo goes p at =
     let found = flat_map_from (offers_in total) es p at in
     let source = found.source in
-    let becomes = goes.each found.place source found.there in
+    let becomes = goes.each found.position source found.there in
     elim (bool_cases (is_outstanding source.outcome)) [
       | inl waits ↦ absurd (contains_none p (subst (λ (l : List Pair). Contains l p) (unoffered total source.server source.asked source.outcome waits) found.has))
-      | inr quiet ↦ flat_map_has (offers_in total) ns found.place becomes.request p becomes.there (subst (λ (x : Request). Contains (offers_in total x) p) (sym (becomes.still quiet)) found.has)
+      | inr quiet ↦ flat_map_has (offers_in total) ns found.position becomes.request p becomes.there (subst (λ (x : Request). Contains (offers_in total x) p) (sym (becomes.still quiet)) found.has)
     ]
 
 pub offered_push : (total : ℕ) (es : List Request) (new : Request) (p : Pair) → Contains (offered_pairs total es) p → Contains (offered_pairs total (es ++ new ∷ [])) p
@@ -321,13 +321,13 @@ may_more cap es ns more server (Aborting n) may = absurd may
 
 pub once_next : (cap : VerifyCapValue) (es : List Request) (key : Pair) (r : readings.ShareReading) (now : ℕ) → IsSafeToAsk cap es key r → AsksOnce es → AsksOnce (es ++ next_request key.0 key.1 r now ∷ [])
 once_next cap es key r now safe once =
-    once_asked key.0 now (Reading key.1 (reading.next_place r) (reading.next_length r)) es
-    (λ i x there server. apart_none x.asked key.1 (reading.next_place r) (reading.next_length r)
+    once_asked key.0 now (Reading key.1 (reading.next_offset r) (reading.next_length r)) es
+    (λ i x there server. apart_none x.asked key.1 (reading.next_offset r) (reading.next_length r)
     (λ offset count asked. safe.apart i x offset count there (about_by key x offset count server asked) asked))
     once
 
 abbrev IsAskedAs : VerifyCapValue → List Request → ℕ → Asked → Type 0
-IsAskedAs cap es server (Reading n place count) = IsAsked cap (brought_of (settled_of es server n)) place count
+IsAskedAs cap es server (Reading n position count) = IsAsked cap (brought_of (settled_of es server n)) position count
 IsAskedAs cap es server a = ⊥
 
 pub shares_next : (cap : VerifyCapValue) (es : List Request) (key : Pair) (r : readings.ShareReading) (now : ℕ) → IsSafeToAsk cap es key r → AreOfShares cap es → AreOfShares cap (es ++ next_request key.0 key.1 r now ∷ [])
@@ -337,7 +337,7 @@ shares_next cap es key r now safe are i x share offset len there asked =
     (elim (get_pushed es new x i there) [
       | inl before ↦ are i x share offset len before asked
       | inr pushed ↦ (
-          let same : Reading key.1 (reading.next_place r) (reading.next_length r) ≡ Reading share offset len = ap (λ (q : Request). q.asked) pushed.1 ∙ asked in
+          let same : Reading key.1 (reading.next_offset r) (reading.next_length r) ≡ Reading share offset len = ap (λ (q : Request). q.asked) pushed.1 ∙ asked in
           let servers : key.0 ≡ x.server = ap (λ (q : Request). q.server) pushed.1 in
           subst (λ n. IsAsked cap (brought_of (settled_of es n share)) offset len) servers
           (subst (λ (a : Asked). IsAskedAs cap es key.0 a) same safe.asked))

@@ -8,7 +8,7 @@ use Rattle.std.proofs.lemmas.List.Elements.{All-get_or}
 use Rattle.std.proofs.lemmas.Option.{slice_get_within, same_Some, get_or_from_slice_get}
 use Rattle.lemmas.proofs.Bools.{both}
 use Rattle.lemmas.proofs.Members.{contains_at, contains_cases, contains_head}
-use Rattle.lemmas.proofs.Places.{get_set_other, get_of, get_left, get_map}
+use Rattle.lemmas.proofs.Positions.{get_set_other, get_of, get_left, get_map}
 use Rattle.cap_text.specs.Cap.{VerifyCapValue}
 use Rattle.placement.specs.Matching.{Pair}
 use Rattle.wire.specs.Held.{rises_from}
@@ -113,19 +113,19 @@ no_pieces keeps p is = record { front_is = λ _. is.front; back_is = λ _. is.ba
 
 -- ---- the shares of one server are added
 
-module _ (cap : VerifyCapValue) (keeps : Bool) (es : List Request) (told : List Told) (owners : List ℕ) (offers more : List Offer) (begun place : ℕ) (todo : List ℕ) (q : Request) (held : List HeldShare)
-    (b : IsBook cap keeps es told owners offers begun (place ∷ todo)) (once : AsksOnce es) (low : place < length told) (there : slice_get es place ≡ Some q)
+module _ (cap : VerifyCapValue) (keeps : Bool) (es : List Request) (told : List Told) (owners : List ℕ) (offers more : List Offer) (begun position : ℕ) (todo : List ℕ) (q : Request) (held : List HeldShare)
+    (b : IsBook cap keeps es told owners offers begun (position ∷ todo)) (once : AsksOnce es) (low : position < length told) (there : slice_get es position ≡ Some q)
     (listed : map key_of more ≡ map (pair_at q.server) (filter (λ (h : HeldShare). ltb h.share cap.total) held)) (rising : rises_from 0 held ≡ true)
     (offered : offered_in cap.total q.server q.outcome ≡ map (pair_at q.server) (filter (λ (h : HeldShare). ltb h.share cap.total) held))
-    (fresh : All (IsNew keeps) more) (taken : IsTakenOnce es place todo) where
+    (fresh : All (IsNew keeps) more) (taken : IsTakenOnce es position todo) where
   abbrev kept : List HeldShare
   kept = filter (λ (h : HeldShare). ltb h.share cap.total) held
 
   quiet_here : is_outstanding q.outcome ≡ false
-  quiet_here = b.quiet place q (contains_head place todo) there
+  quiet_here = b.quiet position q (contains_head position todo) there
 
   is_asking : q.asked ≡ Holdings
-  is_asking = b.asks place q low there
+  is_asking = b.asks position q low there
 
   -- a new one is of this server
   new_listed : (j : ℕ) (y : Offer) → slice_get more j ≡ Some y → IsMapped (pair_at q.server) kept j (key_of y)
@@ -135,11 +135,11 @@ module _ (cap : VerifyCapValue) (keeps : Bool) (es : List Request) (told : List 
   new_server j y e = ap (λ (p : Pair). p.0) (new_listed j y e).is
 
   -- no request asks the same server which shares it holds
-  asked_once : (i : ℕ) (x : Request) → i < length told → slice_get es i ≡ Some x → x.server ≡ q.server → i ≡ place
-  asked_once i x lt e same = elim (cases_lt i place) [
-    | inl below ↦ absurd (apart x q (b.asks i x lt e) is_asking (once i place x q below e there same))
-    | inr le ↦ elim (cases_lt place i) [
-      | inl above ↦ absurd (apart q x is_asking (b.asks i x lt e) (once place i q x above there e (sym same)))
+  asked_once : (i : ℕ) (x : Request) → i < length told → slice_get es i ≡ Some x → x.server ≡ q.server → i ≡ position
+  asked_once i x lt e same = elim (cases_lt i position) [
+    | inl below ↦ absurd (apart x q (b.asks i x lt e) is_asking (once i position x q below e there same))
+    | inr le ↦ elim (cases_lt position i) [
+      | inl above ↦ absurd (apart q x is_asking (b.asks i x lt e) (once position i q x above there e (sym same)))
       | inr ge ↦ omega (arith, le, ge)
     ]
   ]
@@ -157,8 +157,8 @@ module _ (cap : VerifyCapValue) (keeps : Bool) (es : List Request) (told : List 
   old_other : (l : ℕ) (x : Offer) → slice_get offers l ≡ Some x → x.server ≡ q.server → ⊥
   old_other l x e same =
       let told_by = b.offered l x e in
-      let here : told_by.place ≡ place = asked_once told_by.place told_by.request told_by.first told_by.there (told_by.server ∙ same) in
-      told_by.taken (subst (Contains (place ∷ todo)) (sym here) (contains_head place todo))
+      let here : told_by.position ≡ position = asked_once told_by.position told_by.request told_by.first told_by.there (told_by.server ∙ same) in
+      told_by.taken (subst (Contains (position ∷ todo)) (sym here) (contains_head position todo))
 
   old_new : (l j : ℕ) (x y : Offer) → slice_get offers l ≡ Some x → slice_get more j ≡ Some y → key_of x ≡ key_of y → ⊥
   old_new l j x y e f same = old_other l x e (ap (λ (p : Pair). p.0) same ∙ new_server j y f)
@@ -217,7 +217,7 @@ module _ (cap : VerifyCapValue) (keeps : Bool) (es : List Request) (told : List 
   fresh_at : (j : ℕ) (y : Offer) → slice_get more j ≡ Some y → IsNew keeps y
   fresh_at j y e = subst (IsNew keeps) (get_or_from_slice_get more j y y e) (All-get_or (IsNew keeps) more j y (slice_get_within more j y e) fresh)
 
-  not_again : (j : ℕ) (y : Offer) → slice_get more j ≡ Some y → Contains todo place → ⊥
+  not_again : (j : ℕ) (y : Offer) → slice_get more j ≡ Some y → Contains todo position → ⊥
   not_again j y e at = elim taken [
     | inl once_only ↦ once_only at
     | inr lost ↦ no_elements key_of more (listed ∙ sym offered ∙ ap (offered_in cap.total q.server) (lost q there)) j y e
@@ -240,7 +240,7 @@ module _ (cap : VerifyCapValue) (keeps : Bool) (es : List Request) (told : List 
 
   reading_more : (l : ℕ) (x : Offer) → slice_get (offers ++ more) l ≡ Some x → IsOffer cap es todo x
   reading_more l x e = elim (get_either offers more l x e) [
-    | inl old ↦ offer_other cap es todo place x q there (λ about. not_read is_asking (about_read (key_of x) q about).is) (b.reading l x old)
+    | inl old ↦ offer_other cap es todo position x q there (λ about. not_read is_asking (about_read (key_of x) q about).is) (b.reading l x old)
     | inr new ↦ (
         let is = fresh_at new.index x new.there in
         subst (IsAt cap es todo x) (sym is.stage) (record { front = is.front; back = is.back; judged = is.judged; pieces = no_pieces keeps x.pieces is.pieces; none = new_unread new.index x new.there }))
@@ -251,17 +251,17 @@ module _ (cap : VerifyCapValue) (keeps : Bool) (es : List Request) (told : List 
     | inl old ↦ (
         let is = b.offered l x old in
         record {
-          place = is.place;
+          position = is.position;
           first = is.first;
           request = is.request;
           there = is.there;
           server = is.server;
           quiet = is.quiet;
-          taken = λ h. is.taken (tail place is.place todo h);
+          taken = λ h. is.taken (tail position is.position todo h);
           listed = is.listed;
         })
     | inr new ↦ record {
-      place = place;
+      position = position;
       first = low;
       request = q;
       there = there;
@@ -272,33 +272,33 @@ module _ (cap : VerifyCapValue) (keeps : Bool) (es : List Request) (told : List 
     }
   ]
 
-  tells_more : (i : ℕ) (t : Told) (r : Request) → slice_get (set told place here) i ≡ Some t → slice_get es i ≡ Some r → HasTold cap.total todo (offers ++ more) i t r
-  tells_more i t r e f = elim (cases_lt i place) [
+  tells_more : (i : ℕ) (t : Told) (r : Request) → slice_get (set told position here) i ≡ Some t → slice_get es i ≡ Some r → HasTold cap.total todo (offers ++ more) i t r
+  tells_more i t r e f = elim (cases_lt i position) [
     | inl below ↦ other (λ h. omega (arith, below, h))
-    | inr le ↦ elim (cases_lt place i) [
+    | inr le ↦ elim (cases_lt position i) [
       | inl above ↦ other (λ h. omega (arith, above, h))
       | inr ge ↦ (
-          let at : i ≡ place = omega (arith, le, ge) in
-          let was = get_of told place low in
-          let t_is : here ≡ t = same_Some here t (sym (get_set_same told place was.0 here was.1) ∙ ap (slice_get (set told place here)) (sym at) ∙ e) in
+          let at : i ≡ position = omega (arith, le, ge) in
+          let was = get_of told position low in
+          let t_is : here ≡ t = same_Some here t (sym (get_set_same told position was.0 here was.1) ∙ ap (slice_get (set told position here)) (sym at) ∙ e) in
           let r_is : q ≡ r = same_Some q r (sym there ∙ ap (slice_get es) (sym at) ∙ f) in
           inr (subst (λ (x : Told). AreKeys (offers ++ more) x (offered_in cap.total r.server r.outcome)) t_is
           (subst (λ (x : Request). AreKeys (offers ++ more) here (offered_in cap.total x.server x.outcome)) r_is keys_here)))
     ]
   ]
     where
-      other : (i ≡ place → ⊥) → HasTold cap.total todo (offers ++ more) i t r
-      other apart = elim (b.tells i t r (sym (get_set_other told place i here apart) ∙ e) f) [
+      other : (i ≡ position → ⊥) → HasTold cap.total todo (offers ++ more) i t r
+      other apart = elim (b.tells i t r (sym (get_set_other told position i here apart) ∙ e) f) [
         | inr are ↦ inr (keys_before t (offered_in cap.total r.server r.outcome) are)
-        | inl waits ↦ elim (contains_cases place i todo waits.0) [
+        | inl waits ↦ elim (contains_cases position i todo waits.0) [
           | inl same ↦ absurd (apart (sym same))
           | inr later ↦ inl (later, keys_before t [] waits.1)
         ]
       ]
 
-  pub book_told : IsBook cap keeps es (set told place here) owners (offers ++ more) begun todo
+  pub book_told : IsBook cap keeps es (set told position here) owners (offers ++ more) begun todo
   book_told =
-      let same_length : length (set told place here) ≡ length told = length-set told place here in
+      let same_length : length (set told position here) ≡ length told = length-set told position here in
       record {
         asks = λ i r lt e. b.asks i r (omega (arith, lt, same_length)) e;
         long = b.long ∙ ap (λ n. n + length owners) (sym same_length);
@@ -311,8 +311,8 @@ module _ (cap : VerifyCapValue) (keeps : Bool) (es : List Request) (told : List 
         ];
         offered = λ l x e. subst (λ n. IsTold cap.total n es todo x) (sym same_length) (told_more l x e);
         tells = tells_more;
-        quiet = λ i r h e. b.quiet i r (tail place i todo h) e;
-        inside = λ i h. b.inside i (tail place i todo h);
+        quiet = λ i r h e. b.quiet i r (tail position i todo h) e;
+        inside = λ i h. b.inside i (tail position i todo h);
         started = λ l x e lt. elim (get_either offers more l x e) [
           | inl old ↦ b.started l x old lt
           | inr new ↦ absurd (omega (arith, lt, new.is, b.few))
@@ -328,15 +328,15 @@ told_is : (t : Told) (first count : ℕ) → t.first ≡ first → t.count ≡ c
 told_is t first count e f = λ i. record { first = e i; count = f i }
 
 -- the shares that an answer lists are taken in
-pub told_pushed : (cap : VerifyCapValue) (keeps : Bool) (es : List Request) (told : List Told) (owners : List ℕ) (offers new : List Offer) (begun place : ℕ) (todo : List ℕ) (q : Request) (held : List HeldShare) (total : ℕ) (t : Told)
-    → IsBook cap keeps es told owners offers begun (place ∷ todo) → AsksOnce es → place < length told → slice_get es place ≡ Some q
+pub told_pushed : (cap : VerifyCapValue) (keeps : Bool) (es : List Request) (told : List Told) (owners : List ℕ) (offers new : List Offer) (begun position : ℕ) (todo : List ℕ) (q : Request) (held : List HeldShare) (total : ℕ) (t : Told)
+    → IsBook cap keeps es told owners offers begun (position ∷ todo) → AsksOnce es → position < length told → slice_get es position ≡ Some q
     → ArePushed keeps total q.server held offers new → total ≡ cap.total → rises_from 0 held ≡ true
     → ((n server : ℕ) → offered_in n server q.outcome ≡ map (pair_at server) (filter (λ (h : HeldShare). ltb h.share n) held))
-    → t.first ≡ length offers → t.count ≡ length new - length offers → IsTakenOnce es place todo → IsBook cap keeps es (set told place t) owners new begun todo
-told_pushed cap keeps es told owners offers new begun place todo q held total t b once low there pushed total_is rising offered first count taken =
+    → t.first ≡ length offers → t.count ≡ length new - length offers → IsTakenOnce es position todo → IsBook cap keeps es (set told position t) owners new begun todo
+told_pushed cap keeps es told owners offers new begun position todo q held total t b once low there pushed total_is rising offered first count taken =
     let many : t.count ≡ length pushed.more = omega (arith, count, ap length pushed.offers, length-append offers pushed.more) in
-    subst (λ (x : Told). IsBook cap keeps es (set told place x) owners new begun todo) (sym (told_is t (length offers) (length pushed.more) first many))
-    (subst (λ (l : List Offer). IsBook cap keeps es (set told place (record { first = length offers; count = length pushed.more })) owners l begun todo) (sym pushed.offers)
-    (book_told cap keeps es told owners offers pushed.more begun place todo q held b once low there
+    subst (λ (x : Told). IsBook cap keeps es (set told position x) owners new begun todo) (sym (told_is t (length offers) (length pushed.more) first many))
+    (subst (λ (l : List Offer). IsBook cap keeps es (set told position (record { first = length offers; count = length pushed.more })) owners l begun todo) (sym pushed.offers)
+    (book_told cap keeps es told owners offers pushed.more begun position todo q held b once low there
     (pushed.keys ∙ ap (λ n. map (pair_at q.server) (filter (λ (h : HeldShare). ltb h.share n) held)) total_is)
     rising (offered cap.total q.server) pushed.unread taken))

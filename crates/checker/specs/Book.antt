@@ -43,41 +43,41 @@ use Rattle.checker.specs.declared.status.CheckStatus.TheVariants.{Running, Done,
 abbrev pub IsAbout : Pair → Request → Type 0
 IsAbout key r = is_about key.0 key.1 r ≡ true
 
--- the request at a place brought these bytes of the share
-pub record IsReadAt (entries : List Request) (key : Pair) (place : ℕ) (read : Brought)
+-- the request at a position brought these bytes of the share
+pub record IsReadAt (entries : List Request) (key : Pair) (position : ℕ) (read : Brought)
     : Type 0 where
   pub request : Request
-  pub there : slice_get entries place ≡ Some request
+  pub there : slice_get entries position ≡ Some request
   pub server : request.server ≡ key.0
   pub asked : request.asked ≡ Reading key.1 read.0 (length read.1)
   pub answer : request.outcome ≡ Answered (Data read.1)
 
--- the requests at these places brought these bytes
+-- the requests at these positions brought these bytes
 abbrev pub AreReadAt : List Request → Pair → List ℕ → List Brought → Type 0
 AreReadAt entries key [] [] = Unit {0}
 AreReadAt entries key [] (read ∷ reads) = ⊥
-AreReadAt entries key (place ∷ places) [] = ⊥
-AreReadAt entries key (place ∷ places) (read ∷ reads) =
-    IsReadAt entries key place read × AreReadAt entries key places reads
+AreReadAt entries key (position ∷ positions) [] = ⊥
+AreReadAt entries key (position ∷ positions) (read ∷ reads) =
+    IsReadAt entries key position read × AreReadAt entries key positions reads
 
--- the share is read by the requests at these places alone
+-- the share is read by the requests at these positions alone
 abbrev pub IsReadOnlyAt : List Request → Pair → List ℕ → Type 0
-IsReadOnlyAt entries key places =
-    (i : ℕ) (r : Request) → slice_get entries i ≡ Some r → IsAbout key r → Contains places i
+IsReadOnlyAt entries key positions =
+    (i : ℕ) (r : Request) → slice_get entries i ≡ Some r → IsAbout key r → Contains positions i
 
--- the request at a place asks for the next bytes, and waits, or is to be taken in
-pub record IsNext (entries : List Request) (todo : List ℕ) (key : Pair) (place : ℕ)
+-- the request at a position asks for the next bytes, and waits, or is to be taken in
+pub record IsNext (entries : List Request) (todo : List ℕ) (key : Pair) (position : ℕ)
     (r : readings.ShareReading) : Type 0 where
   pub request : Request
-  pub there : slice_get entries place ≡ Some request
+  pub there : slice_get entries position ≡ Some request
   pub server : request.server ≡ key.0
-  pub asked : request.asked ≡ Reading key.1 (reading.next_place r) (reading.next_length r)
-  pub waits : (request.outcome ≡ Outstanding) ⊎ Contains todo place
+  pub asked : request.asked ≡ Reading key.1 (reading.next_offset r) (reading.next_length r)
+  pub waits : (request.outcome ≡ Outstanding) ⊎ Contains todo position
 
 -- it is read so far, by requests that brought these bytes, which are judged, and kept where bytes
 -- are kept
 pub record IsReading (cap : VerifyCapValue) (entries : List Request) (todo : List ℕ) (o : Offer)
-    (r : readings.ShareReading) (place : ℕ) : Type 0 where
+    (r : readings.ShareReading) (position : ℕ) : Type 0 where
   pub front : List Brought
   pub back : List Brought
   pub led : IsReadBy cap front back r
@@ -85,10 +85,10 @@ pub record IsReading (cap : VerifyCapValue) (entries : List Request) (todo : Lis
   pub back_at : AreReadAt entries (key_of o) o.back.items back
   pub judged : IsJudgedBy cap front back r o.judged
   pub pieces : HasPieces front back o.pieces
-  pub next : IsNext entries todo (key_of o) place r
-  pub only : IsReadOnlyAt entries (key_of o) (place ∷ (o.front.items ++ o.back.items))
+  pub next : IsNext entries todo (key_of o) position r
+  pub only : IsReadOnlyAt entries (key_of o) (position ∷ (o.front.items ++ o.back.items))
 
--- the requests at its places brought all bytes of it, and they are kept where bytes are kept
+-- the requests at its positions brought all bytes of it, and they are kept where bytes are kept
 pub record IsHeld (entries : List Request) (o : Offer) : Type 0 where
   pub front : List Brought
   pub back : List Brought
@@ -116,7 +116,7 @@ pub record IsUnread (entries : List Request) (o : Offer) : Type 0 where
 
 abbrev pub IsAt : VerifyCapValue → List Request → List ℕ → Offer → Stage → Type 0
 IsAt cap entries todo o Waiting = IsUnread entries o
-IsAt cap entries todo o (Read r place) = IsReading cap entries todo o r place
+IsAt cap entries todo o (Read r position) = IsReading cap entries todo o r position
 IsAt cap entries todo o (Ended v) = IsEnded cap entries o v
 
 abbrev pub IsOffer : VerifyCapValue → List Request → List ℕ → Offer → Type 0
@@ -124,24 +124,24 @@ IsOffer cap entries todo o = IsAt cap entries todo o o.stage
 
 -- ---- all of them
 
--- the offer is that of the share that the request at a place reads
-pub record IsOwner (entries : List Request) (offers : List Offer) (place k : ℕ) : Type 0 where
+-- the offer is that of the share that the request at a position reads
+pub record IsOwner (entries : List Request) (offers : List Offer) (position k : ℕ) : Type 0 where
   pub offer : Offer
   pub there : slice_get offers k ≡ Some offer
   pub request : Request
-  pub asks : slice_get entries place ≡ Some request
+  pub asks : slice_get entries position ≡ Some request
   pub about : IsAbout (key_of offer) request
 
 -- the share was offered in the answer to one of the first requests, which is taken in
 pub record IsTold (total n : ℕ) (entries : List Request) (todo : List ℕ) (o : Offer)
     : Type 0 where
-  pub place : ℕ
-  pub first : place < n
+  pub position : ℕ
+  pub first : position < n
   pub request : Request
-  pub there : slice_get entries place ≡ Some request
+  pub there : slice_get entries position ≡ Some request
   pub server : request.server ≡ o.server
   pub quiet : is_outstanding request.outcome ≡ false
-  pub taken : Contains todo place → ⊥
+  pub taken : Contains todo position → ⊥
   pub listed : Contains (offered_in total o.server request.outcome) (key_of o)
 
 -- these are the shares of the offers of a server
@@ -151,15 +151,15 @@ AreKeys offers t keys =
 
 -- the offers of a server are those that its answer lists, where that is taken in
 abbrev pub HasTold : ℕ → List ℕ → List Offer → ℕ → Told → Request → Type 0
-HasTold total todo offers place t r =
-    (Contains todo place × AreKeys offers t [])
+HasTold total todo offers position t r =
+    (Contains todo position × AreKeys offers t [])
     ⊎ AreKeys offers t (offered_in total r.server r.outcome)
 
 abbrev pub IsStarted : Stage → Type 0
 IsStarted stage = stage ≢ Waiting
 
 -- What is kept of the shares is as the record says, and their bytes are kept as the check keeps
--- them. `todo`: the places of requests that wait no more, of which this is not taken in yet.
+-- them. `todo`: the positions of requests that wait no more, of which this is not taken in yet.
 pub record IsBook (cap : VerifyCapValue) (keeps : Bool) (entries : List Request)
     (told : List Told) (owners : List ℕ) (offers : List Offer) (begun : ℕ) (todo : List ℕ)
     : Type 0 where
@@ -242,10 +242,10 @@ pub record AsksMore (old new : Machine) : Type 0 where
 
 -- ---- what a request brought
 
--- these bytes answered the request at a place, or none did
+-- these bytes answered the request at a position, or none did
 abbrev pub IsBrought : List Request → ℕ → Option (List ℕ) → Type 0
-IsBrought entries place (Some bytes) = IsDataAt entries place bytes
-IsBrought entries place None = (bytes : List ℕ) → IsDataAt entries place bytes → ⊥
+IsBrought entries position (Some bytes) = IsDataAt entries position bytes
+IsBrought entries position None = (bytes : List ℕ) → IsDataAt entries position bytes → ⊥
 
 -- the verdict on a share is found
 pub record HasEnded (old : Machine) (k : ℕ) (v : Verdict) (o : Offer) (new : Machine)
@@ -268,7 +268,7 @@ pub record HasAsked (old : Machine) (k : ℕ) (r : readings.ShareReading) (o : O
   pub told : new.told.items ≡ old.told.items
   pub begun : new.begun ≡ old.begun
   pub requests : new.requests
-      ≡ asked_more o.server (Reading o.share (reading.next_place r) (reading.next_length r))
+      ≡ asked_more o.server (Reading o.share (reading.next_offset r) (reading.next_length r))
       old.requests
   pub owners : new.owners.items ≡ old.owners.items ++ k ∷ []
   pub offers : new.offers.items ≡ slice_set old.offers.items k
@@ -280,11 +280,11 @@ pub record AsksNothing (old new : Machine) : Type 0 where
   pub keeps : new.keeps ≡ old.keeps
   pub requests : new.requests ≡ old.requests
 
--- the share waits for the answer to the request at a place
-pub record AwaitsAt (m : Machine) (k place : ℕ) (r : readings.ShareReading) : Type 0 where
+-- the share waits for the answer to the request at a position
+pub record AwaitsAt (m : Machine) (k position : ℕ) (r : readings.ShareReading) : Type 0 where
   pub offer : Offer
   pub there : slice_get m.offers.items k ≡ Some offer
-  pub stage : offer.stage ≡ Read r place
+  pub stage : offer.stage ≡ Read r position
 
 -- a check that has just begun
 pub record IsFresh (cap : VerifyCapValue) (servers : List ℕ) (session now : ℕ) (keeps : Bool)
@@ -297,21 +297,22 @@ pub record IsFresh (cap : VerifyCapValue) (servers : List ℕ) (session now : �
   pub offers : m.offers.items ≡ []
   pub begun_none : m.begun ≡ 0
 
--- a request that is at a place waits no more
+-- a request that is at a position waits no more
 abbrev pub IsSettledAt : List Request → ℕ → Type 0
-IsSettledAt entries place =
-    (r : Request) → slice_get entries place ≡ Some r → is_outstanding r.outcome ≡ false
+IsSettledAt entries position =
+    (r : Request) → slice_get entries position ≡ Some r → is_outstanding r.outcome ≡ false
 
 -- these requests are lost
 abbrev pub AreLost : List Request → List ℕ → Type 0
-AreLost entries places = (i : ℕ) (r : Request) → Contains places i → slice_get entries i ≡ Some r
+AreLost entries positions = (i : ℕ) (r : Request) → Contains positions i → slice_get entries i
+    ≡ Some r
     → r.outcome ≡ Lost
 
--- the answer to the request at a place is not to be taken in again, unless it was lost
+-- the answer to the request at a position is not to be taken in again, unless it was lost
 abbrev pub IsTakenOnce : List Request → ℕ → List ℕ → Type 0
-IsTakenOnce entries place todo =
-    (Contains todo place → ⊥)
-    ⊎ ((r : Request) → slice_get entries place ≡ Some r → r.outcome ≡ Lost)
+IsTakenOnce entries position todo =
+    (Contains todo position → ⊥)
+    ⊎ ((r : Request) → slice_get entries position ≡ Some r → r.outcome ≡ Lost)
 
 -- the shares of these that have a number below the file's are added
 pub record ArePushed (keeps : Bool) (total server : ℕ) (held : List HeldShare)

@@ -6,8 +6,8 @@ use Rattle.request_record.specs.declared.requests.Request.{Request}
 use Rattle.share_reading.specs.Verdict.{IsGood}
 use Rattle.checker.specs.Shares.{offered_pairs, settled_of}
 
--- a server offered this share, and it is good: what the reads of it there brought, joined by place,
--- is these bytes
+-- a server offered this share, and it is good: what the reads of it there brought, joined by
+-- offset, is these bytes
 abbrev pub IsFoundAt : VerifyCapValue → List Request → ℕ → List ℕ → ℕ → Type 0
 IsFoundAt cap entries num bytes server = Contains (offered_pairs cap.total entries) (server, num)
     × (good : IsGood cap num (settled_of entries server num)) × (good.bytes ≡ bytes)

@@ -37,20 +37,20 @@ pub record IsNew (keeps : Bool) (o : Offer) : Type 0 where
   pub stage : o.stage ≡ Waiting
 
 -- the same offer, with one more request that brought its bytes
-pub record IsKeptBy (reading : ShareReading) (place : ℕ) (bytes : List ℕ) (old new : Offer)
+pub record IsKeptBy (reading : ShareReading) (position : ℕ) (bytes : List ℕ) (old new : Offer)
     : Type 0 where
   pub server : new.server ≡ old.server
   pub share : new.share ≡ old.share
   pub front : new.front.items
-      ≡ (if is_behind reading then old.front.items else old.front.items ++ place ∷ [])
+      ≡ (if is_behind reading then old.front.items else old.front.items ++ position ∷ [])
   pub back : new.back.items
-      ≡ (if is_behind reading then old.back.items ++ place ∷ [] else old.back.items)
+      ≡ (if is_behind reading then old.back.items ++ position ∷ [] else old.back.items)
   pub pieces : HasAdded (is_behind reading) bytes old.pieces new.pieces
 
--- what comes of the bytes that the request at a place brought, which the reading asked for next
-pub record IsTaken (cap : VerifyCapValue) (reading : ShareReading) (place : ℕ) (bytes : List ℕ)
+-- what comes of the bytes that the request at a position brought, which the reading asked for next
+pub record IsTaken (cap : VerifyCapValue) (reading : ShareReading) (position : ℕ) (bytes : List ℕ)
     (found : Found) (old new : Offer) : Type 0 where
-  pub kept : IsKeptBy reading place bytes old new
+  pub kept : IsKeptBy reading position bytes old new
   pub comes : Comes cap reading bytes found
   pub judged : (front back : List Brought) → IsReadBy cap front back reading
       → IsJudgedBy cap front back reading old.judged

@@ -42,9 +42,9 @@ is_about server share r = (r.server == server) && reads_share share r.asked
 abbrev pub settled_in : Asked → Outcome → List Settled
 settled_in (Reading n offset len) Outstanding = []
 settled_in (Reading n offset len) (Answered (Data bytes)) =
-    record { place = offset; len = len; answer = Some bytes } ∷ []
+    record { offset = offset; len = len; answer = Some bytes } ∷ []
 settled_in (Reading n offset len) outcome =
-    record { place = offset; len = len; answer = None } ∷ []
+    record { offset = offset; len = len; answer = None } ∷ []
 settled_in asked outcome = []
 
 abbrev pub settled_by : ℕ → ℕ → Request → List Settled

@@ -19,7 +19,7 @@ use wire::message::NodeId;
 pub(crate) enum Stage {
     /// It is not begun.
     Waiting,
-    /// It is read so far, and the request at this place asks for its next bytes.
+    /// It is read so far, and the request at this position asks for its next bytes.
     Read(ShareReading, usize),
     /// Its verdict is found.
     Ended(Verdict),
@@ -32,9 +32,9 @@ pub(crate) struct Offer {
     pub(crate) server: NodeId,
     /// The share's number.
     pub(crate) share: u8,
-    /// The places of the requests that brought its bytes from the first on, in order.
+    /// The positions of the requests that brought its bytes from the first on, in order.
     pub(crate) front: Vec<usize>,
-    /// The places of those that brought its extension block's length and its extension block.
+    /// The positions of those that brought its extension block's length and its extension block.
     pub(crate) back: Vec<usize>,
     /// What is judged of it.
     pub(crate) judged: Judged,
@@ -62,40 +62,41 @@ impl Offer {
         }
     }
 
-    /// What comes of the bytes that the request at a place brought, which the reading asked for
+    /// What comes of the bytes that the request at a position brought, which the reading asked for
     /// next.
     pub(crate) fn take(
         &mut self,
         cap: &VerifyCap,
         reading: &ShareReading,
-        place: usize,
+        position: usize,
         bytes: &[u8],
     ) -> Result<Found, AllocError>
         requires underway { IsUnderway cap.now reading.now self.old.judged }
-        ensures { IfOk result (λ found. IsTaken cap.now reading.now place bytes.now found self.old
+        ensures { IfOk result (λ found. IsTaken cap.now reading.now position bytes.now found
+            self.old
             self.new) }
     {
         let found = self
             .judged
             .take(cap, u16::from(self.share), reading, bytes)?;
         self.pieces.add(reading.is_behind(), bytes)?;
-        self.note(reading, place)?;
+        self.note(reading, position)?;
         Ok(found)
     }
 
     // Takes note of the request that brought the bytes that the reading asked for.
-    fn note(&mut self, reading: &ShareReading, place: usize) -> Result<(), AllocError>
+    fn note(&mut self, reading: &ShareReading, position: usize) -> Result<(), AllocError>
         ensures front { OnOk result (self.new.front.items ≡ (if is_behind reading.now
-            then self.old.front.items else self.old.front.items ++ place ∷ [])) }
+            then self.old.front.items else self.old.front.items ++ position ∷ [])) }
         ensures back { OnOk result (self.new.back.items ≡ (if is_behind reading.now
-            then self.old.back.items ++ place ∷ [] else self.old.back.items)) }
+            then self.old.back.items ++ position ∷ [] else self.old.back.items)) }
         ensures same { self.new
             ≡ record self.old { front = self.new.front; back = self.new.back } }
     {
         if reading.is_behind() {
-            self.back.push(place)?;
+            self.back.push(position)?;
         } else {
-            self.front.push(place)?;
+            self.front.push(position)?;
         }
         Ok(())
     }
@@ -113,15 +114,15 @@ impl Offer {
     }
 }
 
-/// How far a share is read whose next bytes the request at this place asks for.
-pub(crate) fn reading_at(stage: &Stage, place: usize) -> Option<ShareReading>
-    ensures some { IfSome result (λ reading. stage.now ≡ Stage.Read reading place) }
-    ensures none { IfNone result ((reading : ShareReading) → stage.now ≡ Stage.Read reading place
+/// How far a share is read whose next bytes the request at this position asks for.
+pub(crate) fn reading_at(stage: &Stage, position: usize) -> Option<ShareReading>
+    ensures some { IfSome result (λ reading. stage.now ≡ Stage.Read reading position) }
+    ensures none { IfNone result ((reading : ShareReading) → stage.now ≡ Stage.Read reading position
         → ⊥) }
 {
     match stage {
         Stage::Read(reading, asked) => {
-            if *asked == place {
+            if *asked == position {
                 Some(*reading)
             } else {
                 None
@@ -131,13 +132,13 @@ pub(crate) fn reading_at(stage: &Stage, place: usize) -> Option<ShareReading>
     }
 }
 
-/// The request at this place asks for the next bytes of a share.
-pub(crate) fn wait(offers: &mut Vec<Offer>, offer: usize, reading: &ShareReading, place: usize)
+/// The request at this position asks for the next bytes of a share.
+pub(crate) fn wait(offers: &mut Vec<Offer>, offer: usize, reading: &ShareReading, position: usize)
     requires { offer < vec_len offers.old }
     ensures { (o : Offer) → slice_get offers.old.items offer ≡ Some o → offers.new.items
-        ≡ slice_set offers.old.items offer (with_stage (Stage.Read reading.now place) o) }
+        ≡ slice_set offers.old.items offer (with_stage (Stage.Read reading.now position) o) }
 {
-    offers[offer].stage = Stage::Read(*reading, place);
+    offers[offer].stage = Stage::Read(*reading, position);
 }
 
 /// This is the verdict on a share. What was judged of it is let go, and the bytes of one that is

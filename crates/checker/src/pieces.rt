@@ -42,7 +42,7 @@ impl Pieces {
         }
     }
 
-    /// All of them, in the order of their places.
+    /// All of them, in the order of their positions.
     pub(crate) fn joined(&self, alloc: Global) -> Result<Vec<u8>, AllocError>
         ensures { IfOk result (λ bytes. bytes.items ≡ self.now.front.items ++ self.now.back.items) }
     {

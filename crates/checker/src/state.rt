@@ -14,7 +14,7 @@ use wire::message::NodeId;
 /// Which of the offers are those of one server.
 #[derive(Clone, Copy)]
 pub(crate) struct Told {
-    /// The place of the first.
+    /// The position of the first.
     pub(crate) first: usize,
     /// How many there are.
     pub(crate) count: usize,
@@ -31,11 +31,11 @@ pub(crate) struct Machine {
     /// The shares that each server offered: none before it answered. The first requests, as many,
     /// ask for them.
     pub(crate) told: Vec<Told>,
-    /// The share that each further request reads, by its place among the offers.
+    /// The share that each further request reads, by its position among the offers.
     pub(crate) owners: Vec<usize>,
     /// The shares that were offered.
     pub(crate) offers: Vec<Offer>,
-    /// The place of the first that is not begun.
+    /// The position of the first that is not begun.
     pub(crate) begun: usize,
     /// How many are read.
     pub(crate) reading: usize,

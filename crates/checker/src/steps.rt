@@ -53,7 +53,7 @@ impl Machine {
         if !is_running(status) {
             return Ok(status);
         }
-        self.take_in(counted.place, counted.bytes)?;
+        self.take_in(counted.position, counted.bytes)?;
         self.settle()
     }
 
@@ -96,56 +96,56 @@ impl Machine {
     }
 
     // These requests found no answer.
-    fn lose(&mut self, places: &[usize]) -> Result<(), AllocError>
-        requires book { HasBook self.old places.now }
-        requires lost { AreLost self.old.requests.entries places.now }
+    fn lose(&mut self, positions: &[usize]) -> Result<(), AllocError>
+        requires book { HasBook self.old positions.now }
+        requires lost { AreLost self.old.requests.entries positions.now }
         requires safe { IsSafe self.old }
         ensures book { OnOk result (HasBook self.new []) }
         ensures asks { AsksMore self.old self.new }
         ensures safe { IsSafe self.new }
     {
-        for place in places {
-            self.take_in(*place, None)?;
+        for position in positions {
+            self.take_in(*position, None)?;
         }
         Ok(())
     }
 
-    // Takes in what became of the request at a place, and the bytes that answered it.
-    fn take_in(&mut self, place: usize, bytes: Option<Vec<u8>>) -> Result<(), AllocError>
+    // Takes in what became of the request at a position, and the bytes that answered it.
+    fn take_in(&mut self, position: usize, bytes: Option<Vec<u8>>) -> Result<(), AllocError>
         requires safe { IsSafe self.old }
-        requires settled { IsSettledAt self.old.requests.entries place }
-        requires brought { IsBrought self.old.requests.entries place
+        requires settled { IsSettledAt self.old.requests.entries position }
+        requires brought { IsBrought self.old.requests.entries position
             (option_map (λ v. v.items) bytes) }
-        requires book { (todo : List ℕ) × HasBook self.old (place ∷ todo) }
-        ensures book { (todo : List ℕ) → HasBook self.old (place ∷ todo)
-            → IsTakenOnce self.old.requests.entries place todo
+        requires book { (todo : List ℕ) × HasBook self.old (position ∷ todo) }
+        ensures book { (todo : List ℕ) → HasBook self.old (position ∷ todo)
+            → IsTakenOnce self.old.requests.entries position todo
             → OnOk result (HasBook self.new todo) }
         ensures asks { AsksMore self.old self.new }
         ensures safe { IsSafe self.new }
     {
-        if place < self.told.len() {
-            return self.take_holdings(place);
+        if position < self.told.len() {
+            return self.take_holdings(position);
         }
-        let offer = self.owners[place - self.told.len()];
-        match reading_at(&self.offers[offer].stage, place) {
-            Some(reading) => self.take_answer(offer, &reading, place, bytes),
+        let offer = self.owners[position - self.told.len()];
+        match reading_at(&self.offers[offer].stage, position) {
+            Some(reading) => self.take_answer(offer, &reading, position, bytes),
             None => Ok(()),
         }
     }
 
-    // Takes note of the shares that a server holds, by the answer to the request at a place.
-    fn take_holdings(&mut self, place: usize) -> Result<(), AllocError>
+    // Takes note of the shares that a server holds, by the answer to the request at a position.
+    fn take_holdings(&mut self, position: usize) -> Result<(), AllocError>
         requires safe { IsSafe self.old }
-        requires asks { place < length self.old.told.items }
-        requires settled { IsSettledAt self.old.requests.entries place }
-        requires book { (todo : List ℕ) × HasBook self.old (place ∷ todo) }
-        ensures book { (todo : List ℕ) → HasBook self.old (place ∷ todo)
-            → IsTakenOnce self.old.requests.entries place todo
+        requires asks { position < length self.old.told.items }
+        requires settled { IsSettledAt self.old.requests.entries position }
+        requires book { (todo : List ℕ) × HasBook self.old (position ∷ todo) }
+        ensures book { (todo : List ℕ) → HasBook self.old (position ∷ todo)
+            → IsTakenOnce self.old.requests.entries position todo
             → OnOk result (HasBook self.new todo) }
         ensures same { AsksNothing self.old self.new }
     {
         let first = self.offers.len();
-        let request = self.requests.request(place);
+        let request = self.requests.request(position);
         let held = held_by(&request.outcome);
         push_offers(
             self.alloc,
@@ -155,7 +155,7 @@ impl Machine {
             request.server,
             held,
         )?;
-        self.told[place] = Told {
+        self.told[position] = Told {
             first,
             count: self.offers.len() - first,
         };
@@ -167,17 +167,17 @@ impl Machine {
         &mut self,
         offer: usize,
         reading: &ShareReading,
-        place: usize,
+        position: usize,
         bytes: Option<Vec<u8>>,
     ) -> Result<(), AllocError>
         requires safe { IsSafe self.old }
-        requires behind { length self.old.told.items ≤ place }
-        requires settled { IsSettledAt self.old.requests.entries place }
-        requires brought { IsBrought self.old.requests.entries place
+        requires behind { length self.old.told.items ≤ position }
+        requires settled { IsSettledAt self.old.requests.entries position }
+        requires brought { IsBrought self.old.requests.entries position
             (option_map (λ v. v.items) bytes) }
-        requires waits { AwaitsAt self.old offer place reading.now }
-        requires book { (todo : List ℕ) × HasBook self.old (place ∷ todo) }
-        ensures book { (todo : List ℕ) → HasBook self.old (place ∷ todo)
+        requires waits { AwaitsAt self.old offer position reading.now }
+        requires book { (todo : List ℕ) × HasBook self.old (position ∷ todo) }
+        ensures book { (todo : List ℕ) → HasBook self.old (position ∷ todo)
             → OnOk result (HasBook self.new todo) }
         ensures asks { AsksMore self.old self.new }
         ensures safe { IsSafe self.new }
@@ -186,7 +186,7 @@ impl Machine {
             self.end(offer, Verdict::Lost);
             return Ok(());
         };
-        match self.offers[offer].take(&self.cap, reading, place, &bytes)? {
+        match self.offers[offer].take(&self.cap, reading, position, &bytes)? {
             Found::Next(next) => {
                 self.room = room_after(self.room, &next);
                 self.ask(offer, &next)
@@ -209,13 +209,13 @@ impl Machine {
             → HasAsked self.old offer reading.now o self.new) }
         ensures err { OnErr result (AsksNothing self.old self.new) }
     {
-        let place = self.requests.len();
+        let position = self.requests.len();
         let server = self.offers[offer].server;
         let share = self.offers[offer].share;
         let length = ReadLength::new(reading.next_length()).unwrap();
         self.owners.push(offer)?;
-        self.requests.ask(server, Asked::Reading(share, reading.next_place(), length))?;
-        wait(&mut self.offers, offer, reading, place);
+        self.requests.ask(server, Asked::Reading(share, reading.next_offset(), length))?;
+        wait(&mut self.offers, offer, reading, position);
         Ok(())
     }
 }

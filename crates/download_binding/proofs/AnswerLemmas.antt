@@ -22,7 +22,7 @@ use Rattle.share_reading.specs.OpeningReads.{Brought}
 use Rattle.download_shares.specs.declared.holding.Blame.{Blame}
 use Rattle.download_shares.specs.Causes.{IsOpeningFault, IsOtherHeader}
 use Rattle.lemmas.proofs.Members.{contains_cases, contains_none, flat_map_from}
-use Rattle.share_reading.specs.Opening.{next_length, next_place}
+use Rattle.share_reading.specs.Opening.{next_length, next_offset}
 use Rattle.download_shares.specs.Reads.{brought_by, brought_in, brought_of, reads_share}
 use Rattle.download_binding.specs.Answers.{AnsweredOther, AnswersOwn, OwnBeginningsGoOn}
 use Rattle.download_binding.proofs.OpeningLemmas.{own_at, own_header_agrees, own_not_refused}
@@ -66,8 +66,8 @@ answered_case r server num n offset len share bytes a o = elim (cases_eq r.serve
 
   own_again : (n m a b c d : ℕ) (x y share : List ℕ) → Reading n a b ≡ Reading m c d → Answered (Data x) ≡ Answered (Data y) → x ≡ take b (drop a share) → y ≡ take d (drop c share)
   own_again n m a b c d x y share e f is =
-      let place : a ≡ c = cc in let len : b ≡ d = cc in let same : x ≡ y = cc in
-      sym same ∙ is ∙ (λ i. take (len i) (drop (place i) share))
+      let position : a ≡ c = cc in let len : b ≡ d = cc in let same : x ≡ y = cc in
+      sym same ∙ is ∙ (λ i. take (len i) (drop (position i) share))
 
 outcome_case : (r : Request) (server num n offset len : ℕ) (share : List ℕ) (o : Outcome) → r.asked ≡ Reading n offset len → r.outcome ≡ o → IsOwn r server num share ⊎ IsOther r server num share
 outcome_case r server num n offset len share Unawaited a o = inl (λ x y bytes e f g. absurd (clash bytes (sym o ∙ g))) where
@@ -125,17 +125,17 @@ request_case r server num share (Aborting n) a = inl (λ x y bytes e f g. absurd
 abbrev no_requests : List Request
 no_requests = []
 
-nothing_there : (place : ℕ) (r : Request) → slice_get no_requests place ≡ Some r → ⊥
+nothing_there : (position : ℕ) (r : Request) → slice_get no_requests position ≡ Some r → ⊥
 nothing_there zero r e = cc
-nothing_there (suc place) r e = cc
+nothing_there (suc position) r e = cc
 
 -- each answer of the server has the share's bytes, or one has others
 pub own_or_other : (entries : List Request) (server num : ℕ) (share : List ℕ) → AnswersOwn entries server num share ⊎ AnsweredOther entries server num share
-own_or_other [] server num share = inl (λ place offset len r bytes at e f g. absurd (nothing_there place r at))
+own_or_other [] server num share = inl (λ position offset len r bytes at e f g. absurd (nothing_there position r at))
 own_or_other (r ∷ rs) server num share = elim (request_case r server num share r.asked refl) [
-  | inr o ↦ inr (record { place = 0; request = r; there = refl; of_server = o.of_server; offset = o.offset; len = o.len; asked = o.asked; bytes = o.bytes; answer = o.answer; other = o.other })
+  | inr o ↦ inr (record { position = 0; request = r; there = refl; of_server = o.of_server; offset = o.offset; len = o.len; asked = o.asked; bytes = o.bytes; answer = o.answer; other = o.other })
   | inl own ↦ elim (own_or_other rs server num share) [
-    | inr o ↦ inr (record { place = suc o.place; request = o.request; there = o.there; of_server = o.of_server; offset = o.offset; len = o.len; asked = o.asked; bytes = o.bytes; answer = o.answer; other = o.other })
+    | inr o ↦ inr (record { position = suc o.position; request = o.request; there = o.there; of_server = o.of_server; offset = o.offset; len = o.len; asked = o.asked; bytes = o.bytes; answer = o.answer; other = o.other })
     | inl rest ↦ inl (both r rs server num share own rest)
   ]
 ] where
@@ -146,7 +146,7 @@ own_or_other (r ∷ rs) server num share = elim (request_case r server num share
   both r rs server num share own rest zero offset len q bytes at e f g =
       let same : q ≡ r = sym (first_is r q at) in
       own offset len bytes (ap (λ (x : Request). x.server) (sym same) ∙ e) (ap (λ (x : Request). x.asked) (sym same) ∙ f) (ap (λ (x : Request). x.outcome) (sym same) ∙ g)
-  both r rs server num share own rest (suc place) offset len q bytes at e f g = rest place offset len q bytes at e f g
+  both r rs server num share own rest (suc position) offset len q bytes at e f g = rest position offset len q bytes at e f g
 
 -- ---- what was brought of a share
 
@@ -195,7 +195,7 @@ own_brought entries server num share own read c =
           let data_is = data_of r.asked r.outcome read (subst (λ (b : Bool). Contains (if b then brought_in r.asked r.outcome else []) read) is from.has) in
           let num_is : data_is.num ≡ num = reads_it num data_is.num read.0 data_is.len r.asked data_is.asked tests.1 in
           own_at share read.1 read.0 data_is.len
-          (own from.place read.0 data_is.len r read.1 from.there (eqb_eq r.server server tests.0) (data_is.asked ∙ ap (λ (n : ℕ). Reading n read.0 data_is.len) num_is) data_is.answer)
+          (own from.position read.0 data_is.len r read.1 from.there (eqb_eq r.server server tests.0) (data_is.asked ∙ ap (λ (n : ℕ). Reading n read.0 data_is.len) num_is) data_is.answer)
     ]
 
 module _ (cap : VerifyCapValue) (share : List ℕ) (u : Contents) (s : Sections) (entries : List Request) (b : Blame) (sound : IsSound cap b.share share u s)
@@ -204,7 +204,7 @@ module _ (cap : VerifyCapValue) (share : List ℕ) (u : Contents) (s : Sections)
   pub no_opening_fault : IsOpeningFault cap entries b → ⊥
   no_opening_fault f =
       own_not_refused cap b.share share (u, s, sound) (brought_of entries b.server b.share) f.opening f.led (own_brought entries b.server b.share share own) f.bytes f.error
-      (own f.place (next_place f.opening) (next_length f.opening) f.request f.bytes f.there f.of_server f.asked f.answer) f.refused
+      (own f.position (next_offset f.opening) (next_length f.opening) f.request f.bytes f.there f.of_server f.asked f.answer) f.refused
 
   -- and its header is the one of its file
   pub no_other_header : IsOtherHeader (geometry_by u) entries b → ⊥

@@ -15,7 +15,7 @@ use Rattle.ueb.specs.Shape.{Contents}
 use Rattle.share_layout.specs.Geometry.{Geometry, block_size, segment_count}
 use Rattle.share_layout.specs.Share.{IsShare, Sections}
 use Rattle.share_verify.proofs.SectionLemmas.{length-block_hashes}
-use Rattle.download_parts.specs.Trees.{IsBlockTree, KnowsAllOf, known_leaf, share_places}
+use Rattle.download_parts.specs.Trees.{IsBlockTree, KnowsAllOf, known_leaf, share_leaves}
 use Rattle.download_file.specs.Changes.{IsSameFile}
 use Rattle.download_file.specs.Right.{IsFile, IsReaderOf}
 use Rattle.download_file.specs.State.{CopyState, FileState, IsReader, ReaderState, copy, copy_of}
@@ -53,7 +53,7 @@ module _ (IsOne : List ℕ → Type 0) (no_clash : HasNoClashIn IsOne) (entries 
   share_tree_own =
       let t = right.handout.trees in
       known_is_own IsOne no_clash old.handout.trees.shares shares t.shares.sound t.share_hashes
-      (t.shares.leaves ∙ ap (λ (k : Geometry). share_places k.total) geometry_is ∙ sym own_then.count)
+      (t.shares.leaves ∙ ap (λ (k : Geometry). share_leaves k.total) geometry_is ∙ sym own_then.count)
       own_then.hashes
       (λ input k. tests input (share_node (more_inputs old.handout.trees.shares f.handout.trees.shares input same.trees.shares k)))
       of.share_tree
@@ -77,7 +77,7 @@ module _ (IsOne : List ℕ → Type 0) (no_clash : HasNoClashIn IsOne) (entries 
     block_tree_own t is =
         let tree = subst (λ (o : Option PartialState). IfSome o (λ p. IsBlockTree p (segment_count r.supply.geometry))) is mine.supply.leads in
         let told : known_leaf old.handout.trees.shares r.share ≡ Some t.root = subst (λ (o : Option PartialState). IfSome o (λ p. known_leaf old.handout.trees.shares r.share ≡ Some p.root)) is mine.root in
-        let count : old.handout.trees.shares.leaf_count ≡ length shares = right.handout.trees.shares.leaves ∙ ap (λ (k : Geometry). share_places k.total) geometry_is ∙ sym own_then.count in
+        let count : old.handout.trees.shares.leaf_count ≡ length shares = right.handout.trees.shares.leaves ∙ ap (λ (k : Geometry). share_leaves k.total) geometry_is ∙ sym own_then.count in
         let room = height_room g.total in
         let low = mine.share in
         let own_count = own_then.count in
@@ -111,7 +111,7 @@ parts_are_fair IsOne no_clash entries f b share s segments shares tests of fault
       absurd (own_bytes_are_taken fault.file fault.reader fault.bytes b.check share s segments shares fault.right fault.live fault.refused
       (subst (λ (n : ℕ). IsOwnShare fault.file.handout.geometry n share s segments shares) (sym reads) mine)
       (knows_own IsOne no_clash entries fault.file f b.share share s segments shares tests of fault.right fault.same fault.reader r fault.refused.there reads)
-      (own w.place w.wanted.read.place w.wanted.read.length fault.request fault.bytes fault.there fault.of_server fault.asked fault.answer))
+      (own w.position w.wanted.read.offset w.wanted.read.length fault.request fault.bytes fault.there fault.of_server fault.asked fault.answer))
 ]
 
 pub parts_are_blamed_fairly : PartsAreBlamedFairly
@@ -125,8 +125,8 @@ blocks_are_fair IsOne no_clash entries f b share s segments shares tests of faul
       let reads = share_is r b.server b.share fault.reads in
       let from = server_is r b.server b.share fault.reads in
       let mine = own_then IsOne no_clash entries fault.file f b.share share s segments shares tests of fault.right fault.same in
-      let then : AnswersOwn fault.answered b.server b.share share = λ place offset len request bytes at server asked answer.
-      own place offset len request bytes (fault.keeps place request (Data bytes) at answer) server asked answer in
+      let then : AnswersOwn fault.answered b.server b.share share = λ position offset len request bytes at server asked answer.
+      own position offset len request bytes (fault.keeps position request (Data bytes) at answer) server asked answer in
       absurd (own_blocks_are_right fault.answered fault.file fault.reader share s fault.right fault.read fault.refuted
       (subst (λ (n : ℕ). AnswersOwn fault.answered n r.share share) (sym from) (subst (λ (n : ℕ). AnswersOwn fault.answered b.server n share) (sym reads) then))
       (subst (λ (n : ℕ). IsShare fault.file.handout.geometry n share s) (sym reads) mine.is)

@@ -33,7 +33,7 @@ numbered_where (n ∷ ns) (entry ∷ entries) zero number hash e = (omega arith,
 numbered_where (n ∷ ns) (entry ∷ entries) (suc k) number hash e =
     let rest = numbered_where ns entries k number hash e in (omega (arith, rest.0), rest.1)
 
--- two places of one pair: the one, or its sibling
+-- two positions of one pair: the one, or its sibling
 pair_cases : (x y : ℕ) → y / 2 ≡ x / 2 → (y ≡ x) ⊎ (y ≡ sibling x)
 pair_cases x y same = elim (cases_eq y x) [
   | inl one ↦ inl one
@@ -62,7 +62,7 @@ module _ (p : PartialState) (h leaf : ℕ) (entries : List (List ℕ)) (inside :
   -- a number that is offered
   at : (k rows number : ℕ) → k < h + 1 → ancestor rows (get_or ns k 0) ≡ number → IsTouched offers number
   at k rows number low is = record {
-    place = k;
+    position = k;
     below = get_or ns k 0;
     hash = drop 2 (get_or entries k []);
     rows = rows;
@@ -71,41 +71,41 @@ module _ (p : PartialState) (h leaf : ℕ) (entries : List (List ℕ)) (inside :
   }
 
   -- the leaf, and its sibling
-  last_pair : (rows place number : ℕ) → 0 < h → place / 2 ≡ leaf / 2 → ancestor rows (node_number h place) ≡ number → IsTouched offers number
-  last_pair rows place number some same is = elim (cases_eq (place % 2) 0) [
+  last_pair : (rows position number : ℕ) → 0 < h → position / 2 ≡ leaf / 2 → ancestor rows (node_number h position) ≡ number → IsTouched offers number
+  last_pair rows position number some same is = elim (cases_eq (position % 2) 0) [
     | inl even ↦
-        let here : get_or ns (h - 1) 0 ≡ node_number h place = needed_left h leaf (h - 1) (omega (arith, some)) ∙ omega (arith, same, even) in
+        let here : get_or ns (h - 1) 0 ≡ node_number h position = needed_left h leaf (h - 1) (omega (arith, some)) ∙ omega (arith, same, even) in
         at (h - 1) rows number (omega arith) (ap (ancestor rows) here ∙ is)
     | inr odd ↦
-        let here : get_or ns h 0 ≡ node_number h place = needed_right h leaf h some refl ∙ omega (arith, same, odd) in
+        let here : get_or ns h 0 ≡ node_number h position = needed_right h leaf h some refl ∙ omega (arith, same, odd) in
         at h rows number (omega arith) (ap (ancestor rows) here ∙ is)
   ]
 
   -- each of a pair on the way from the leaf to the root
-  there : (i place : ℕ) → i < h → place / 2 ≡ leaf / 2 ^ i / 2 → IsTouched offers (node_number (h - i) place)
-  there zero place low same =
+  there : (i position : ℕ) → i < h → position / 2 ≡ leaf / 2 ^ i / 2 → IsTouched offers (node_number (h - i) position)
+  there zero position low same =
       let e : leaf / 1 ≡ leaf = omega arith in
       let none : h ≡ h - 0 = omega arith in
-      subst (λ (n : ℕ). IsTouched offers (node_number n place)) none (last_pair 0 place (node_number h place) (omega (arith, low)) (same ∙ ap (λ (n : ℕ). n / 2) e) refl)
-  there (suc i) place low same = elim (pair_cases (leaf / 2 ^ suc i) place same) [
+      subst (λ (n : ℕ). IsTouched offers (node_number n position)) none (last_pair 0 position (node_number h position) (omega (arith, low)) (same ∙ ap (λ (n : ℕ). n / 2) e) refl)
+  there (suc i) position low same = elim (pair_cases (leaf / 2 ^ suc i) position same) [
     | inl own ↦
-        last_pair (suc i) leaf (node_number (h - suc i) place) (omega (arith, low)) refl (ancestor_is (suc i) h leaf (omega (arith, low)) ∙ ap (node_number (h - suc i)) (sym own))
+        last_pair (suc i) leaf (node_number (h - suc i) position) (omega (arith, low)) refl (ancestor_is (suc i) h leaf (omega (arith, low)) ∙ ap (node_number (h - suc i)) (sym own))
     | inr other ↦
         let k : ℕ = h - suc (suc i) in
         let row : k + 1 ≡ h - suc i = omega (arith, low) in
         let up : h - (k + 1) ≡ suc i = omega (arith, low) in
-        let here : get_or ns k 0 ≡ node_number (h - suc i) place =
+        let here : get_or ns k 0 ≡ node_number (h - suc i) position =
         needed_above h leaf k (omega (arith, low)) ∙ (λ j. node_number (row j) (sibling (leaf / 2 ^ up j))) ∙ ap (node_number (h - suc i)) (sym other) in
-        at k 0 (node_number (h - suc i) place) (omega (arith, low)) here
+        at k 0 (node_number (h - suc i) position) (omega (arith, low)) here
   ]
 
   -- one of a pair on the way from the leaf to the root
   record IsPaired (number : ℕ) : Type 0 where
     pub i : ℕ
-    pub place : ℕ
+    pub position : ℕ
     pub low : i < h
-    pub pair : place / 2 ≡ leaf / 2 ^ i / 2
-    pub is : number ≡ node_number (h - i) place
+    pub pair : position / 2 ≡ leaf / 2 ^ i / 2
+    pub is : number ≡ node_number (h - i) position
 
   abbrev IsOnWay : ℕ → Type 0
   IsOnWay number = (number ≡ 0) ⊎ IsPaired number
@@ -117,7 +117,7 @@ module _ (p : PartialState) (h leaf : ℕ) (entries : List (List ℕ)) (inside :
         let row : k + 1 ≡ h - (h - (k + 1)) = omega (arith, upper) in
         inr (record {
           i = h - (k + 1);
-          place = sibling (leaf / 2 ^ (h - (k + 1)));
+          position = sibling (leaf / 2 ^ (h - (k + 1)));
           low = omega (arith, upper);
           pair = pair_sibling (leaf / 2 ^ (h - (k + 1)));
           is = needed_above h leaf k upper ∙ ap (λ n. node_number n (sibling (leaf / 2 ^ (h - (k + 1))))) row;
@@ -126,14 +126,14 @@ module _ (p : PartialState) (h leaf : ℕ) (entries : List (List ℕ)) (inside :
       | inl some ↦ inr (elim (cases_eq (k + 1) h) [
         | inl left ↦ record {
           i = 0;
-          place = leaf / 2 * 2;
+          position = leaf / 2 * 2;
           low = some;
           pair = let e : leaf / 1 ≡ leaf = omega arith in omega (arith, ap (λ (n : ℕ). n / 2) e);
           is = let none : h ≡ h - 0 = omega arith in needed_left h leaf k left ∙ ap (λ (n : ℕ). node_number n (leaf / 2 * 2)) none;
         }
         | inr other ↦ record {
           i = 0;
-          place = leaf / 2 * 2 + 1;
+          position = leaf / 2 * 2 + 1;
           low = some;
           pair = let e : leaf / 1 ≡ leaf = omega arith in omega (arith, ap (λ (n : ℕ). n / 2) e);
           is =
@@ -157,15 +157,15 @@ module _ (p : PartialState) (h leaf : ℕ) (entries : List (List ℕ)) (inside :
     | inr above ↦
         let below = above.low in
         let row : h - above.i ≡ suc (h - suc above.i) = omega (arith, below) in
-        let up : parent (ancestor rows number) ≡ node_number (h - suc above.i) (above.place / 2) =
-        ap parent above.is ∙ ap (λ n. parent (node_number n above.place)) row ∙ parent_is (h - suc above.i) above.place in
-        let half : above.place / 2 ≡ leaf / 2 ^ suc above.i = above.pair ∙ sym (half_next leaf above.i) in
+        let up : parent (ancestor rows number) ≡ node_number (h - suc above.i) (above.position / 2) =
+        ap parent above.is ∙ ap (λ n. parent (node_number n above.position)) row ∙ parent_is (h - suc above.i) above.position in
+        let half : above.position / 2 ≡ leaf / 2 ^ suc above.i = above.pair ∙ sym (half_next leaf above.i) in
         elim (cases_lt (suc above.i) h) [
-          | inl further ↦ inr (record { i = suc above.i; place = above.place / 2; low = further; pair = ap (λ n. n / 2) half; is = up })
+          | inl further ↦ inr (record { i = suc above.i; position = above.position / 2; low = further; pair = ap (λ n. n / 2) half; is = up })
           | inr top ↦
               let last : suc above.i ≡ h = omega (arith, below, top) in
               let flat : h - suc above.i ≡ 0 = omega (arith, last) in
-              let none : above.place / 2 ≡ 0 = half ∙ ap (λ n. leaf / 2 ^ n) last ∙ div-eq_of_lt inside in
+              let none : above.position / 2 ≡ 0 = half ∙ ap (λ n. leaf / 2 ^ n) last ∙ div-eq_of_lt inside in
               inl (up ∙ (λ j. node_number (flat j) (none j)))
         ]
   ]
@@ -175,17 +175,17 @@ module _ (p : PartialState) (h leaf : ℕ) (entries : List (List ℕ)) (inside :
   both number some (inr w) =
       let low = w.low in
       let pair = w.pair in
-      let left = ap (λ n. 2 * parent n + 1) w.is ∙ left_is (h - w.i) w.place (omega (arith, low)) in
-      let right = ap (λ n. 2 * parent n + 2) w.is ∙ right_is (h - w.i) w.place (omega (arith, low)) in (
-        subst (IsThere p offers) (sym left) (inl (there w.i (w.place / 2 * 2) low (omega (arith, pair)))),
-        subst (IsThere p offers) (sym right) (inl (there w.i (w.place / 2 * 2 + 1) low (omega (arith, pair)))),
+      let left = ap (λ n. 2 * parent n + 1) w.is ∙ left_is (h - w.i) w.position (omega (arith, low)) in
+      let right = ap (λ n. 2 * parent n + 2) w.is ∙ right_is (h - w.i) w.position (omega (arith, low)) in (
+        subst (IsThere p offers) (sym left) (inl (there w.i (w.position / 2 * 2) low (omega (arith, pair)))),
+        subst (IsThere p offers) (sym right) (inl (there w.i (w.position / 2 * 2 + 1) low (omega (arith, pair)))),
       )
 
   pub numbered_have_siblings : AreWithSiblings p offers
   numbered_have_siblings number t some =
-      let found = numbered_where ns entries t.place t.below t.hash t.offered in
+      let found = numbered_where ns entries t.position t.below t.hash t.offered in
       both number some (subst IsOnWay t.above (on_way t.rows t.below
-      (subst IsOnWay found.1 (offered_on_way t.place (omega (arith, found.0, length-needed_numbers h leaf))))))
+      (subst IsOnWay found.1 (offered_on_way t.position (omega (arith, found.0, length-needed_numbers h leaf))))))
 
 pub share_hashes_have_siblings : ShareHashesHaveSiblings
 share_hashes_have_siblings p total share bytes inside long =

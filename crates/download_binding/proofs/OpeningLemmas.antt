@@ -6,9 +6,9 @@ use Rattle.cap_text.specs.Cap.{VerifyCapValue}
 use Rattle.ueb.specs.Shape.{Contents}
 use Rattle.share_layout.specs.declared.layout.Layout.{Layout}
 use Rattle.share_layout.specs.declared.layout.Layout.TheVariants.{One, Two}
-use Rattle.share_layout.specs.declared.places.Places.{Places}
+use Rattle.share_layout.specs.declared.offsets.Offsets.{Offsets}
 use Rattle.share_layout.specs.Layout.{header_size, layout_of, width}
-use Rattle.share_layout.specs.Places.{extension_length, layout_in, places_in}
+use Rattle.share_layout.specs.Offsets.{extension_length, layout_in, offsets_in}
 use Rattle.share_layout.specs.Reading.{HasHeader}
 use Rattle.share_layout.specs.Share.{Sections}
 use Rattle.share_layout.proofs.ShareLemmas.{located_tail}
@@ -16,7 +16,7 @@ use Rattle.share_verify.specs.CapBlock.{geometry_by}
 use Rattle.share_verify.specs.Verify.{IsSoundShare, ReadsAs}
 use Rattle.share_verify.proofs.Passing.{sound_passes}
 use Rattle.share_reading.specs.Blame.{HasAt, HasReads}
-use Rattle.share_reading.specs.Opening.{Agrees, next_length, next_place, text_of}
+use Rattle.share_reading.specs.Opening.{Agrees, next_length, next_offset, text_of}
 use Rattle.share_reading.specs.OpeningReads.{Brought, IsLedToBy}
 use Rattle.share_reading.specs.Refusal.{IsRefused, check_of}
 use Rattle.share_reading.specs.declared.error.OpeningError.{OpeningError}
@@ -26,9 +26,9 @@ use Rattle.share_reading.specs.declared.opening.Opening.TheVariants.{Start, Seco
 use Rattle.share_reading.proofs.BlameLemmas.{Begins, header_begins, known, layout_take, refused_fail, told_length}
 
 -- bytes of a share, as many as were asked for where it has them
-pub own_at : (share bytes : List ℕ) (place len : ℕ) → bytes ≡ take len (drop place share) → HasAt share place bytes
-own_at share bytes place len is =
-    let rest : List ℕ = drop place share in
+pub own_at : (share bytes : List ℕ) (position len : ℕ) → bytes ≡ take len (drop position share) → HasAt share position bytes
+own_at share bytes position len is =
+    let rest : List ℕ = drop position share in
     let long : length bytes ≡ length (take len rest) = ap length is in
     is ∙ again len rest ∙ ap (λ (n : ℕ). take n rest) (sym long)
   where
@@ -38,12 +38,12 @@ own_at share bytes place len is =
       | inr long ↦ ap (λ (n : ℕ). take n rest) (sym (length-take-le len rest long))
     ]
 
-pub own_long : (share bytes : List ℕ) (place len : ℕ) → bytes ≡ take len (drop place share) → place + len ≤ length share → length bytes ≡ len
-own_long share bytes place len is inside = ap length is ∙ length-take-le len (drop place share) (omega (arith, length-drop place share, inside))
+pub own_long : (share bytes : List ℕ) (position len : ℕ) → bytes ≡ take len (drop position share) → position + len ≤ length share → length bytes ≡ len
+own_long share bytes position len is inside = ap length is ∙ length-take-le len (drop position share) (omega (arith, length-drop position share, inside))
 
 -- the next read lies in the share
 pub next_inside : (cap : VerifyCapValue) (num : ℕ) (share : List ℕ) (u : Contents) (s : Sections) → ReadsAs cap num share u s → (reads : List Brought) (o : Opening) → IsLedToBy reads o → HasReads reads share
-    → next_place o + next_length o ≤ length share
+    → next_offset o + next_length o ≤ length share
 next_inside cap num share u s r reads Start led has = header_low (layout_in share) (length share) r.located.version.long
   where
     header_low : (l : Layout) (n : ℕ) → header_size l ≤ n → 36 ≤ n
@@ -57,29 +57,29 @@ next_inside cap num share u s r reads (Second start) led has =
     omega (arith, long, size)
 next_inside cap num share u s r reads (Header h) led has =
     let b = header_begins reads share h led has in
-    let places : h.places ≡ places_in share = h.right.places ∙ b.places in
+    let positions : h.offsets ≡ offsets_in share = h.right.offsets ∙ b.offsets in
     let tail = located_tail share s.extension_block r.located in
     let long = tail.long in
-    subst (λ (p : Places). p.extension_block + width p.layout ≤ length share) (sym places) (omega (arith, long))
+    subst (λ (p : Offsets). p.extension_block + width p.layout ≤ length share) (sym positions) (omega (arith, long))
 next_inside cap num share u s r reads (Block p) led has =
     let h : ShareHeader = p.header in
     let b = header_begins reads share h led.0 has in
-    let places : h.places ≡ places_in share = h.right.places ∙ b.places in
+    let positions : h.offsets ≡ offsets_in share = h.right.offsets ∙ b.offsets in
     let tail = located_tail share s.extension_block r.located in
-    let told : p.block_length ≡ extension_length (places_in share) share = led.1.number ∙ told_length share h led.1.bytes b (has _ led.1.read) led.1.long in
+    let told : p.block_length ≡ extension_length (offsets_in share) share = led.1.number ∙ told_length share h led.1.bytes b (has _ led.1.read) led.1.long in
     let long = tail.long in
     let number = tail.number in
-    subst (λ (q : Places). q.extension_block + width q.layout + p.block_length ≤ length share) (sym places) (omega (arith, long, number, told))
+    subst (λ (q : Offsets). q.extension_block + width q.layout + p.block_length ≤ length share) (sym positions) (omega (arith, long, number, told))
 
 -- a read of the share's own bytes is not refused
 pub own_not_refused : (cap : VerifyCapValue) (num : ℕ) (share : List ℕ) → IsSoundShare cap num share → (reads : List Brought) (o : Opening) → IsLedToBy reads o → HasReads reads share
-    → (bytes : List ℕ) (error : OpeningError) → bytes ≡ take (next_length o) (drop (next_place o) share) → IsRefused cap o bytes error → ⊥
+    → (bytes : List ℕ) (error : OpeningError) → bytes ≡ take (next_length o) (drop (next_offset o) share) → IsRefused cap o bytes error → ⊥
 own_not_refused cap num share sound reads o led has bytes error is refused =
     let inside = next_inside cap num share sound.0 sound.1 sound.2.reads reads o led has in
-    let long : length bytes ≡ next_length o = own_long share bytes (next_place o) (next_length o) is inside in
+    let long : length bytes ≡ next_length o = own_long share bytes (next_offset o) (next_length o) is inside in
     elim refused [
       | inl other ↦ other.0 long
-      | inr stage ↦ refused_fail cap num reads o share bytes error led has (own_at share bytes (next_place o) (next_length o) is) long stage.1 (sound_passes cap num share (check_of error) sound)
+      | inr stage ↦ refused_fail cap num reads o share bytes error led has (own_at share bytes (next_offset o) (next_length o) is) long stage.1 (sound_passes cap num share (check_of error) sound)
     ]
 
 text_agrees : (cap : VerifyCapValue) (num : ℕ) (share : List ℕ) (u : Contents) (s : Sections) → ReadsAs cap num share u s → (h : ShareHeader) → Begins (text_of h) share → HasHeader (geometry_by u) (text_of h)

@@ -9,14 +9,14 @@ use Rattle.merkle.specs.Tree.{height, node_count, node_number, tree_nodes}
 use Rattle.merkle.proofs.OwnOffers.{own_nodes_are_consistent}
 use Rattle.merkle.proofs.TreeLemmas.{length-tree_nodes}
 use Rattle.share_layout.specs.Geometry.{Geometry, segment_count, tree_size}
-use Rattle.share_layout.specs.Layout.{layout_of, places_of, width}
+use Rattle.share_layout.specs.Layout.{layout_of, offsets_of, width}
 use Rattle.share_layout.specs.Share.{IsShare, Sections}
 use Rattle.share_layout.proofs.ShareLemmas.{parts_of}
 use Rattle.share_verify.specs.TreeSection.{HoldsTree, hashes_in}
 use Rattle.share_verify.proofs.ChunkLemmas.{get_or-first_chunks, length-first_chunks}
 use Rattle.share_verify.proofs.SectionLemmas.{hashes_in_tree}
 use Rattle.download_parts.specs.PlanLaws.{section_end}
-use Rattle.download_parts.specs.Plan.{IsNodePiece, length_of, nodes_of, place_of}
+use Rattle.download_parts.specs.Plan.{IsNodePiece, length_of, nodes_of, offset_of}
 use Rattle.download_parts.specs.Range.{IsRange}
 use Rattle.download_parts.specs.declared.part.NodePiece.{NodePiece}
 use Rattle.download_parts.specs.declared.part.Nodes.{Nodes}
@@ -52,14 +52,14 @@ nodes_of_tree section leaves n bytes holds low inside is long k number hash at =
     let all : length section / 32 ≡ length (tree_nodes leaves) = sym (length-first_chunks 32 (length section / 32) section) ∙ ap length nodes in
     let there : number < length section / 32 = omega (arith, all, below, length-tree_nodes leaves, next_power (height (length leaves))) in
     let begins : ℕ = 32 * node_number n.row n.from in
-    let place : begins + k * 32 ≡ number * 32 = omega (arith, at_number) in
+    let position : begins + k * 32 ≡ number * 32 = omega (arith, at_number) in
     let split : 32 * n.count ≡ k * 32 + (32 * n.count - k * 32) = omega (arith, few) in
     let mine : get_or (hashes_in bytes) k [] ≡ get_or (hashes_in section) number [] =
     get_or-first_chunks 32 (length bytes / 32) bytes k [] (omega (arith, few, long))
     ∙ ap (λ (l : List ℕ). take 32 (drop (k * 32) l)) (is ∙ ap (λ (j : ℕ). take j (drop begins section)) split)
     ∙ ap (take 32) (drop-take (k * 32) (32 * n.count - k * 32) (drop begins section))
     ∙ take-take 32 (32 * n.count - k * 32) (drop (k * 32) (drop begins section)) (omega (arith, few))
-    ∙ ap (take 32) (drop-drop (k * 32) begins section ∙ ap (λ (j : ℕ). drop j section) place)
+    ∙ ap (take 32) (drop-drop (k * 32) begins section ∙ ap (λ (j : ℕ). drop j section) position)
     ∙ sym (get_or-first_chunks 32 (length section / 32) section number [] there) in
     (below, found.2 ∙ mine ∙ ap (λ (l : List (List ℕ)). get_or l number []) nodes)
 
@@ -69,11 +69,11 @@ own_parts_have_lengths g a b num share s part range is of =
     let lies = lie_inside g a b part range is in
     let ends = lies.ends in
     let long = parts.tail.long in
-    let within : place_of g a b part + length_of g a b part ≤ length share = inside part ends long in
-    length-take-le (length_of g a b part) (drop (place_of g a b part) share) (omega (arith, length-drop (place_of g a b part) share, within))
+    let within : offset_of g a b part + length_of g a b part ≤ length share = inside part ends long in
+    length-take-le (length_of g a b part) (drop (offset_of g a b part) share) (omega (arith, length-drop (offset_of g a b part) share, within))
   where
-    inside : (part : Part) → place_of g a b part + length_of g a b part ≤ section_end (places_of g) part
-        → length share ≡ (places_of g).extension_block + width (layout_of g) + length s.extension_block → place_of g a b part + length_of g a b part ≤ length share
+    inside : (part : Part) → offset_of g a b part + length_of g a b part ≤ section_end (offsets_of g) part
+        → length share ≡ (offsets_of g).extension_block + width (layout_of g) + length s.extension_block → offset_of g a b part + length_of g a b part ≤ length share
     inside ShareHashes ends long = omega (arith, ends, long)
     inside (BlockTree p) ends long = omega (arith, ends, long)
     inside (CiphertextTree p) ends long = omega (arith, ends, long)
@@ -106,18 +106,18 @@ module _ (g : Geometry) (a b num : ℕ) (share : List ℕ) (s : Sections) (p : N
 
   own_block_piece : HoldsLeaves g s.block_tree leaves → DoGoOn g a b p leaves (own_part g a b share (BlockTree p))
   own_block_piece holds =
-      let here : s.block_tree ≡ slice_range share (places_of g).block_tree (places_of g).share_hashes = ap (λ (t : Sections). t.block_tree) (parts_of g share s of.text of.lengths).sections in
+      let here : s.block_tree ≡ slice_range share (offsets_of g).block_tree (offsets_of g).share_hashes = ap (λ (t : Sections). t.block_tree) (parts_of g share s of.text of.lengths).sections in
       goes_on s.block_tree (own_part g a b share (BlockTree p)) holds
       (sym (ap (λ (l : List ℕ). take (32 * n.count) (drop (32 * node_number n.row n.from) l)) here
-      ∙ slice_part share (places_of g).block_tree (places_of g).share_hashes (32 * node_number n.row n.from) (32 * n.count) (omega (arith, fits))))
+      ∙ slice_part share (offsets_of g).block_tree (offsets_of g).share_hashes (32 * node_number n.row n.from) (32 * n.count) (omega (arith, fits))))
       (own_parts_have_lengths g a b num share s (BlockTree p) range is of)
 
   own_ciphertext_piece : HoldsLeaves g s.ciphertext_tree leaves → DoGoOn g a b p leaves (own_part g a b share (CiphertextTree p))
   own_ciphertext_piece holds =
-      let here : s.ciphertext_tree ≡ slice_range share (places_of g).ciphertext_tree (places_of g).block_tree = ap (λ (t : Sections). t.ciphertext_tree) (parts_of g share s of.text of.lengths).sections in
+      let here : s.ciphertext_tree ≡ slice_range share (offsets_of g).ciphertext_tree (offsets_of g).block_tree = ap (λ (t : Sections). t.ciphertext_tree) (parts_of g share s of.text of.lengths).sections in
       goes_on s.ciphertext_tree (own_part g a b share (CiphertextTree p)) holds
       (sym (ap (λ (l : List ℕ). take (32 * n.count) (drop (32 * node_number n.row n.from) l)) here
-      ∙ slice_part share (places_of g).ciphertext_tree (places_of g).block_tree (32 * node_number n.row n.from) (32 * n.count) (omega (arith, fits))))
+      ∙ slice_part share (offsets_of g).ciphertext_tree (offsets_of g).block_tree (32 * node_number n.row n.from) (32 * n.count) (omega (arith, fits))))
       (own_parts_have_lengths g a b num share s (CiphertextTree p) range is of)
 
 pub own_pieces_go_on : OwnPiecesGoOn

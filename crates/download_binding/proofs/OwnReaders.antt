@@ -14,21 +14,21 @@ use Rattle.merkle.proofs.HeightLemmas.{height_room}
 use Rattle.merkle.proofs.OwnOffers.{own_nodes_are_consistent}
 use Rattle.merkle.proofs.TreeLemmas.{node-leaf, padded_to-leaf, tree_nodes_node}
 use Rattle.share_layout.specs.Geometry.{Geometry, block_size, hashes_size, segment_count}
-use Rattle.share_layout.specs.Layout.{places_of}
+use Rattle.share_layout.specs.Layout.{offsets_of}
 use Rattle.share_layout.specs.Pieces.{block_at}
 use Rattle.share_layout.specs.Share.{CarriesNumbers, IsShare, Sections}
 use Rattle.share_layout.proofs.ShareLemmas.{parts_of}
 use Rattle.share_verify.proofs.SectionLemmas.{get_or-block_hashes, length-block_hashes}
 use Rattle.share_verify.specs.declared.check.Check.{Check}
 use Rattle.share_verify.specs.declared.check.Check.TheVariants as checks
-use Rattle.download_parts.specs.Plan.{IsNodePiece, IsPart, length_of, nodes_of, place_of}
+use Rattle.download_parts.specs.Plan.{IsNodePiece, IsPart, length_of, nodes_of, offset_of}
 use Rattle.download_parts.specs.Range.{IsRange}
 use Rattle.download_parts.specs.declared.part.Nodes.{Nodes}
 use Rattle.download_parts.specs.declared.part.Part.{Part}
 use Rattle.download_parts.specs.declared.part.Part.TheVariants.{ShareHashes, BlockTree, CiphertextTree, Data}
 use Rattle.download_parts.specs.Offers.{nodes_offered, share_hashes_offered}
 use Rattle.download_parts.specs.Refusal.{IsHashesRefusal}
-use Rattle.download_parts.specs.Trees.{FileTreesState, IsBlockTree, known_leaf, share_places}
+use Rattle.download_parts.specs.Trees.{FileTreesState, IsBlockTree, known_leaf, share_leaves}
 use Rattle.download_supply.specs.Asking.{IsReadOf}
 use Rattle.download_supply.specs.Blocks.{block_end, block_first}
 use Rattle.download_supply.specs.Supply.{IsSupply, SupplyState, first_of}
@@ -67,7 +67,7 @@ module _ (entries : List Request) (server num : ℕ) (s : SupplyState) (share : 
   own_piece k low =
       let a = holds k low in
       answer_is entries (get_or s.held k 0) a.bytes (record { request = a.request; there = a.there; answer = a.answer })
-      ∙ own (get_or s.held k 0) (place_of s.geometry s.first s.end (Data k)) (length_of s.geometry s.first s.end (Data k)) a.request a.bytes a.there a.of_server a.asked a.answer
+      ∙ own (get_or s.held k 0) (offset_of s.geometry s.first s.end (Data k)) (length_of s.geometry s.first s.end (Data k)) a.request a.bytes a.there a.of_server a.asked a.answer
 
   pub own_block : (number : ℕ) → s.first ≤ number → number < s.end → block_end s.geometry s.first number ≤ length s.held
       → block_of entries s number ≡ block_at s.geometry number sections.blocks
@@ -75,14 +75,14 @@ module _ (entries : List Request) (server num : ℕ) (s : SupplyState) (share : 
       let a = block_first s.geometry s.first number in
       let b = block_end s.geometry s.first number in
       let order : a ≤ b = block_order s.geometry s.first number in
-      let places : List ℕ = slice_range s.held a b in
+      let positions : List ℕ = slice_range s.held a b in
       let f : ℕ → List ℕ = answer_at entries in
-      let long : length places ≡ b - a = length-take-le (b - a) (drop a s.held) (omega (arith, length-drop a s.held, within)) in
-      let count : length (map f places) ≡ b - a = length-map places f ∙ long in
-      own_pieces_join s.geometry s.first s.end number num share sections (map f places) supply.range from before of count
+      let long : length positions ≡ b - a = length-take-le (b - a) (drop a s.held) (omega (arith, length-drop a s.held, within)) in
+      let count : length (map f positions) ≡ b - a = length-map positions f ∙ long in
+      own_pieces_join s.geometry s.first s.end number num share sections (map f positions) supply.range from before of count
       (λ k low.
       let few : k < b - a = omega (arith, low, count) in
-      get_or-map f places k 0 [] (omega (arith, few, long))
+      get_or-map f positions k 0 [] (omega (arith, few, long))
       ∙ ap f (get_or-take (b - a) (drop a s.held) k 0 few ∙ get_or-drop a s.held k 0)
       ∙ own_piece (a + k) (omega (arith, few, within, order)))
 
@@ -127,7 +127,7 @@ module _ (f : FileState) (r : ReaderState) (share : List ℕ) (s : Sections) (se
 
   own_hashes : own_part g f.first f.end share ShareHashes ≡ s.share_hashes
   own_hashes =
-      let p = places_of g in
+      let p = offsets_of g in
       let here : s.share_hashes ≡ slice_range share p.share_hashes p.extension_block = ap (λ (t : Sections). t.share_hashes) (parts_of g share s own.is.text own.is.lengths).sections in
       let long : hashes_size g ≡ p.extension_block - p.share_hashes = omega arith in
       ap (λ (n : ℕ). take n (drop p.share_hashes share)) long ∙ sym here
@@ -142,7 +142,7 @@ module _ (f : FileState) (r : ReaderState) (share : List ℕ) (s : Sections) (se
       let long : length s.share_hashes ≡ (height trees.geometry.total + 1) * 34 = own.is.lengths.share_hashes ∙ ap (λ (n : ℕ). (height n + 1) * 34) (sym total_is) in
       let room = height_room trees.geometry.total in
       own_nodes_are_consistent trees.shares shares offers
-      (is.handout.trees.shares.leaves ∙ ap share_places total_is ∙ sym own.count)
+      (is.handout.trees.shares.leaves ∙ ap share_leaves total_is ∙ sym own.count)
       own.hashes
       knows.share_tree
       (subst (λ (n : ℕ). AreOfTree shares (share_hashes_offered n r.share s.share_hashes)) (sym total_is) own.carries)
@@ -206,7 +206,7 @@ own_bytes_are_taken f reader bytes check share s segments shares is live refused
     let read = first_read r w refused.others refused.waits (is.live.reads reader r live refused.there) in
     let part : Part = w.wanted.part in
     let proof = first_parts_are_proved f reader r w refused.others is live refused.there refused.waits in
-    let here : bytes ≡ own_part r.supply.geometry (first_of r.supply part) r.supply.end share part = mine ∙ (λ i. take (read.length i) (drop (read.place i) share)) in
+    let here : bytes ≡ own_part r.supply.geometry (first_of r.supply part) r.supply.end share part = mine ∙ (λ i. take (read.length i) (drop (read.offset i) share)) in
     elim refused.why [
       | inl other ↦
           let moved : IsShare r.supply.geometry r.share share s = subst (λ (h : Geometry). IsShare h r.share share s) (sym reads.geometry) own.is in

@@ -9,10 +9,10 @@ use Rattle.std.proofs.lemmas.Nat.{div-add-mod', div-mul-add, div_below, mod_belo
 use Rattle.lemmas.proofs.Options.{some_of}
 use Rattle.tagged_hash.specs.TaggedHash.{node_hash}
 use Rattle.merkle.specs.Offers.{AreWithSiblings, IsThere}
-use Rattle.merkle.specs.Partial.{IsPartial, IsTouched, PartialState, ancestor, is_padding, known_at, padding_hash, parent, place_in_row, row_of}
+use Rattle.merkle.specs.Partial.{IsPartial, IsTouched, PartialState, ancestor, is_padding, known_at, padding_hash, parent, position_in_row, row_of}
 use Rattle.merkle.specs.Tree.{height, node_count, node_number}
 use Rattle.merkle.proofs.PaddingLemmas.{is_padding-before, is_padding-there}
-use Rattle.merkle.proofs.StateLemmas.{number_place, number_row}
+use Rattle.merkle.proofs.StateLemmas.{number_position, number_row}
 use Rattle.share_layout.specs.Geometry.{segment_count}
 use Rattle.share_verify.specs.TreeSection.{hashes_in}
 use Rattle.share_verify.proofs.ChunkLemmas.{length-first_chunks}
@@ -27,44 +27,44 @@ use Rattle.download_binding.proofs.NodeLemmas.{ancestor_is, ancestor_more, ances
 
 -- ---- what is offered
 
-offered_at : (row place : ℕ) (hashes : List (List ℕ)) (k : ℕ) → k < length hashes
-    → slice_get (offered_nodes row place hashes) k ≡ Some (node_number row (place + k), get_or hashes k [])
-offered_at row place [] k there = absurd (omega (arith, there))
-offered_at row place (hash ∷ hashes) zero there = let same : place ≡ place + 0 = omega arith in ap (λ n. Some (node_number row n, hash)) same
-offered_at row place (hash ∷ hashes) (suc k) there =
-    let same : place + 1 + k ≡ place + suc k = omega arith in
-    offered_at row (place + 1) hashes k (omega (arith, there)) ∙ ap (λ n. Some (node_number row n, get_or hashes k [])) same
+offered_at : (row position : ℕ) (hashes : List (List ℕ)) (k : ℕ) → k < length hashes
+    → slice_get (offered_nodes row position hashes) k ≡ Some (node_number row (position + k), get_or hashes k [])
+offered_at row position [] k there = absurd (omega (arith, there))
+offered_at row position (hash ∷ hashes) zero there = let same : position ≡ position + 0 = omega arith in ap (λ n. Some (node_number row n, hash)) same
+offered_at row position (hash ∷ hashes) (suc k) there =
+    let same : position + 1 + k ≡ position + suc k = omega arith in
+    offered_at row (position + 1) hashes k (omega (arith, there)) ∙ ap (λ n. Some (node_number row n, get_or hashes k [])) same
 
 same_number : (offer : ℕ × List ℕ) (number : ℕ) (hash : List ℕ) → Some offer ≡ Some (number, hash) → offer.0 ≡ number
 same_number offer number hash e = cc
 
-offered_where : (row place : ℕ) (hashes : List (List ℕ)) (k number : ℕ) (hash : List ℕ) → slice_get (offered_nodes row place hashes) k ≡ Some (number, hash)
-    → (k < length hashes) × (node_number row (place + k) ≡ number)
-offered_where row place [] k number hash e = absurd cc
-offered_where row place (first ∷ hashes) zero number hash e =
-    let same : place + 0 ≡ place = omega arith in
-    (omega arith, ap (node_number row) same ∙ same_number (node_number row place, first) number hash e)
-offered_where row place (first ∷ hashes) (suc k) number hash e =
-    let rest = offered_where row (place + 1) hashes k number hash e in
-    let same : place + suc k ≡ place + 1 + k = omega arith in
+offered_where : (row position : ℕ) (hashes : List (List ℕ)) (k number : ℕ) (hash : List ℕ) → slice_get (offered_nodes row position hashes) k ≡ Some (number, hash)
+    → (k < length hashes) × (node_number row (position + k) ≡ number)
+offered_where row position [] k number hash e = absurd cc
+offered_where row position (first ∷ hashes) zero number hash e =
+    let same : position + 0 ≡ position = omega arith in
+    (omega arith, ap (node_number row) same ∙ same_number (node_number row position, first) number hash e)
+offered_where row position (first ∷ hashes) (suc k) number hash e =
+    let rest = offered_where row (position + 1) hashes k number hash e in
+    let same : position + suc k ≡ position + 1 + k = omega arith in
     (omega (arith, rest.0), ap (node_number row) same ∙ rest.1)
 
 same_hash : (offer : ℕ × List ℕ) (number : ℕ) (hash : List ℕ) → Some offer ≡ Some (number, hash) → hash ≡ offer.1
 same_hash offer number hash e = cc
 
--- what is offered at a place
-pub offered_what : (row place : ℕ) (hashes : List (List ℕ)) (k number : ℕ) (hash : List ℕ) → slice_get (offered_nodes row place hashes) k ≡ Some (number, hash)
-    → (k < length hashes) × (node_number row (place + k) ≡ number) × (hash ≡ get_or hashes k [])
-offered_what row place hashes k number hash e =
-    let found = offered_where row place hashes k number hash e in
-    (found.0, found.1, same_hash (node_number row (place + k), get_or hashes k []) number hash (sym (offered_at row place hashes k found.0) ∙ e))
+-- what is offered at a position
+pub offered_what : (row position : ℕ) (hashes : List (List ℕ)) (k number : ℕ) (hash : List ℕ) → slice_get (offered_nodes row position hashes) k ≡ Some (number, hash)
+    → (k < length hashes) × (node_number row (position + k) ≡ number) × (hash ≡ get_or hashes k [])
+offered_what row position hashes k number hash e =
+    let found = offered_where row position hashes k number hash e in
+    (found.0, found.1, same_hash (node_number row (position + k), get_or hashes k []) number hash (sym (offered_at row position hashes k found.0) ∙ e))
 
 -- ---- whole groups of a row, of which what is above is known
 
 module _ (p : PartialState) (r from count : ℕ) (hs : List (List ℕ)) (sound : IsPartial p) (low : r ≤ height p.leaf_count) (inside : from + count ≤ 2 ^ r)
     (within : from + count ≤ div_ceil p.leaf_count (2 ^ (height p.leaf_count - r))) (long : length hs ≡ count) (begin : from % 2 ^ min r 7 ≡ 0)
     (end : ((from + count) % 2 ^ min r 7 ≡ 0) ⊎ (from + count ≡ div_ceil p.leaf_count (2 ^ (height p.leaf_count - r))))
-    (top : (place : ℕ) → from ≤ place → place < from + count → is_some (known_at p (node_number (r - min r 7) (place / 2 ^ min r 7))) ≡ true) where
+    (top : (position : ℕ) → from ≤ position → position < from + count → is_some (known_at p (node_number (r - min r 7) (position / 2 ^ min r 7))) ≡ true) where
   abbrev c : ℕ
   c = p.leaf_count
 
@@ -92,7 +92,7 @@ module _ (p : PartialState) (r from count : ℕ) (hs : List (List ℕ)) (sound :
       let same : from + i ≡ x = omega (arith, first) in
       let whole : x / 2 ^ rows ≡ z = let e : z * 2 ^ rows ≡ z * 2 ^ rows + 0 = omega arith in ap (λ n. n / 2 ^ rows) e ∙ div-mul-add z (2 ^ rows) 0 (pow_pos rows) in
       record {
-        place = i;
+        position = i;
         below = node_number r (from + i);
         hash = get_or hs i [];
         rows = rows;
@@ -108,11 +108,11 @@ module _ (p : PartialState) (r from count : ℕ) (hs : List (List ℕ)) (sound :
   in_tree rows z few below = omega (arith, below, pow-le-pow_right {n = 2} (omega arith) {i = r - rows} {j = m} (omega (arith, low)), pow_pos (r - rows))
 
   first_leaf : (rows z : ℕ) → rows ≤ r → z < 2 ^ (r - rows)
-      → place_in_row (node_number (r - rows) z) * 2 ^ (m - row_of (node_number (r - rows) z)) ≡ z * 2 ^ rows * w
+      → position_in_row (node_number (r - rows) z) * 2 ^ (m - row_of (node_number (r - rows) z)) ≡ z * 2 ^ rows * w
   first_leaf rows z few below =
       let row = number_row (r - rows) z below in
-      let place = number_place (r - rows) z below in
-      let moved : place_in_row (node_number (r - rows) z) * 2 ^ (m - row_of (node_number (r - rows) z)) ≡ z * 2 ^ (m - (r - rows)) = λ i. place i * 2 ^ (m - row i) in
+      let position = number_position (r - rows) z below in
+      let moved : position_in_row (node_number (r - rows) z) * 2 ^ (m - row_of (node_number (r - rows) z)) ≡ z * 2 ^ (m - (r - rows)) = λ i. position i * 2 ^ (m - row i) in
       moved ∙ ap (λ n. z * n) (leaves rows few) ∙ omega arith
 
   -- a node over empty leaves
@@ -218,8 +218,8 @@ module _ (p : PartialState) (r from count : ℕ) (hs : List (List ℕ)) (sound :
 
   pub groups_have_siblings : AreWithSiblings p offers
   groups_have_siblings number t some =
-      let found = offered_where r from hs t.place t.below t.hash t.offered in
-      let x : ℕ = from + t.place in
+      let found = offered_where r from hs t.position t.below t.hash t.offered in
+      let x : ℕ = from + t.position in
       let is : ancestor t.rows (node_number r x) ≡ number = ap (ancestor t.rows) found.1 ∙ t.above in
       subst (λ n. IsThere p offers (2 * parent n + 1) × IsThere p offers (2 * parent n + 2)) is
       (both x t.rows (omega arith) (omega (arith, found.0, long)) (omega (arith, some, is)))
@@ -247,4 +247,4 @@ pieces_have_siblings g a b piece p bytes range is sound count tops long =
     (length-first_chunks 32 (length bytes / 32) bytes ∙ omega (arith, long))
     groups.begin
     (subst (λ (c : ℕ). ((n.from + n.count) % 2 ^ min row 7 ≡ 0) ⊎ (n.from + n.count ≡ div_ceil c (2 ^ (height c - row)))) back groups.end)
-    (λ place first before. tops place (first, before))
+    (λ position first before. tops position (first, before))

@@ -12,12 +12,12 @@ use Rattle.request_record.specs.declared.requests.Asked.TheVariants.{Reading}
 use Rattle.request_record.specs.declared.requests.Outcome.TheVariants.{Answered}
 use Rattle.request_record.specs.declared.requests.Request.{Request}
 
--- The server answered a read of the share with other bytes than the share has at the place that was
--- asked: so many from there on, and fewer at its end.
+-- The server answered a read of the share with other bytes than the share has at the offset that
+-- was asked: so many from there on, and fewer at its end.
 pub record AnsweredOther (entries : List Request) (server num : ℕ) (share : List ℕ) : Type 0 where
-  pub place : ℕ
+  pub position : ℕ
   pub request : Request
-  pub there : slice_get entries place ≡ Some request
+  pub there : slice_get entries position ≡ Some request
   pub of_server : request.server ≡ server
   pub offset : ℕ
   pub len : ℕ
@@ -28,8 +28,8 @@ pub record AnsweredOther (entries : List Request) (server num : ℕ) (share : Li
 
 -- it answered each with the share's own
 abbrev pub AnswersOwn : List Request → ℕ → ℕ → List ℕ → Type 0
-AnswersOwn entries server num share = (place offset len : ℕ) (request : Request) (bytes : List ℕ)
-    → slice_get entries place ≡ Some request → request.server ≡ server
+AnswersOwn entries server num share = (position offset len : ℕ) (request : Request) (bytes : List ℕ)
+    → slice_get entries position ≡ Some request → request.server ≡ server
     → request.asked ≡ Reading num offset len → request.outcome ≡ Answered (Data bytes)
     → bytes ≡ take len (drop offset share)
 

@@ -8,7 +8,7 @@ use Rattle.share_layout.specs.Geometry.{Geometry, segment_count}
 use Rattle.share_layout.specs.Pieces.{block_at}
 use Rattle.share_layout.specs.Share.{IsShare, Sections}
 use Rattle.share_verify.specs.TreeSection.{HoldsTree}
-use Rattle.download_parts.specs.Plan.{IsNodePiece, IsPart, length_of, nodes_of, place_of}
+use Rattle.download_parts.specs.Plan.{IsNodePiece, IsPart, length_of, nodes_of, offset_of}
 use Rattle.download_parts.specs.Range.{IsRange}
 use Rattle.download_parts.specs.declared.part.NodePiece.{NodePiece}
 use Rattle.download_parts.specs.declared.part.Part.{Part}
@@ -19,7 +19,7 @@ use Rattle.download_parts.specs.Offers.{nodes_offered}
 
 -- the share's own bytes of a part of the plan for the segments `a` to before `b`
 abbrev pub own_part : Geometry → ℕ → ℕ → List ℕ → Part → List ℕ
-own_part g a b share part = take (length_of g a b part) (drop (place_of g a b part) share)
+own_part g a b share part = take (length_of g a b part) (drop (offset_of g a b part) share)
 
 -- a law: they are as many as are asked
 abbrev pub OwnPartsHaveLengths : Type 0

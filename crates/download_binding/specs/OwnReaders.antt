@@ -11,7 +11,7 @@ use Rattle.share_verify.specs.Pieces.{block_hashes, pieces}
 use Rattle.share_verify.specs.TreeSection.{HoldsTree}
 use Rattle.share_verify.specs.declared.check.Check.{Check}
 use Rattle.download_parts.specs.Offers.{share_hashes_offered}
-use Rattle.download_parts.specs.Trees.{share_places}
+use Rattle.download_parts.specs.Trees.{share_leaves}
 use Rattle.download_segments.specs.State.{HandoutState}
 use Rattle.download_file.specs.Answers.{IsRead}
 use Rattle.download_file.specs.Making.{RefutesReader}
@@ -26,13 +26,13 @@ abbrev pub own_leaves : Geometry → Sections → List (List ℕ)
 own_leaves g s = block_hashes (pieces (segment_count g) (block_size g) s.blocks)
 
 -- A share, and the leaves of the ciphertext tree and of the share tree that it has nodes of. The
--- share tree has a leaf for each place.
+-- share tree has a leaf for each position.
 pub record IsOwnShare (g : Geometry) (num : ℕ) (share : List ℕ) (s : Sections)
     (segments shares : List (List ℕ)) : Type 0 where
   pub is : IsShare g num share s
   pub block_tree : HoldsTree s.block_tree (own_leaves g s)
   pub ciphertext : HoldsLeaves g s.ciphertext_tree segments
-  pub count : length shares ≡ share_places g.total
+  pub count : length shares ≡ share_leaves g.total
   pub hashes : AreHashes shares
   pub carries : AreOfTree shares (share_hashes_offered g.total num s.share_hashes)
 
@@ -52,7 +52,7 @@ OwnBytesAreTaken = (f : FileState) (reader : ℕ) (bytes : List ℕ) (check : Ch
     → IsOwnShare f.handout.geometry refused.r.share share s segments shares
     → KnowsOwn f.handout refused.r s segments shares
     → bytes ≡ take refused.first.wanted.read.length
-    (drop refused.first.wanted.read.place share) → ⊥
+    (drop refused.first.wanted.read.offset share) → ⊥
 
 -- a law: own blocks are not refuted
 abbrev pub OwnBlocksAreRight : Type 0

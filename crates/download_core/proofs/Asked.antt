@@ -5,7 +5,7 @@ use Rattle.std.proofs.lemmas.Bool.{cases_eq}
 use Rattle.std.proofs.lemmas.List.{length-map}
 use Rattle.lemmas.proofs.Options.{one_there}
 use Rattle.share_layout.specs.Geometry.{Geometry}
-use Rattle.share_layout.specs.Layout.{header_size, layout_of, places_of}
+use Rattle.share_layout.specs.Layout.{header_size, layout_of, offsets_of}
 use Rattle.download_shares.specs.HoldingMoves.{IsUnasked}
 use Rattle.download_shares.specs.HoldingState.{TableState}
 use Rattle.download_shares.specs.Table.{IsHolding}
@@ -14,9 +14,9 @@ use Rattle.download_shares.specs.Opening.{IsTaken}
 use Rattle.download_shares.specs.Reads.{IsBeside, IsReadAt}
 use Rattle.download_shares.specs.BeginningState.{BeginningsState, IsBegun}
 use Rattle.download_shares.specs.declared.begun.Begun.{Begun}
-use Rattle.download_shares.proofs.Asking.{distinct_places, unasked_by}
+use Rattle.download_shares.proofs.Asking.{distinct_positions, unasked_by}
 use Rattle.download_parts.specs.PlanLaws.{AreApart, section_end, section_start}
-use Rattle.download_parts.specs.Plan.{IsPlanned, length_of, place_of}
+use Rattle.download_parts.specs.Plan.{IsPlanned, length_of, offset_of}
 use Rattle.download_parts.specs.Range.{IsRange}
 use Rattle.download_parts.specs.declared.part.Part.{Part}
 use Rattle.download_parts.specs.declared.part.Part.TheVariants.{ShareHashes, BlockTree, CiphertextTree, Data}
@@ -35,32 +35,32 @@ use Rattle.download_core.specs.ReadingSteps.{Grows}
 -- ---- beside a plan
 
 -- each section begins behind the header, and ends before the extension block
-section_above : (g : Geometry) (p : Part) → header_size (layout_of g) ≤ section_start (places_of g) p
+section_above : (g : Geometry) (p : Part) → header_size (layout_of g) ≤ section_start (offsets_of g) p
 section_above g ShareHashes = omega arith
 section_above g (BlockTree p) = omega arith
 section_above g (CiphertextTree p) = omega arith
 section_above g (Data i) = omega arith
 
-section_below : (g : Geometry) (p : Part) → section_end (places_of g) p ≤ (places_of g).extension_block
+section_below : (g : Geometry) (p : Part) → section_end (offsets_of g) p ≤ (offsets_of g).extension_block
 section_below g ShareHashes = omega arith
 section_below g (BlockTree p) = omega arith
 section_below g (CiphertextTree p) = omega arith
 section_below g (Data i) = omega arith
 
-pub beside_apart : (g : Geometry) (a b place len offset more : ℕ) → IsRange g a b → IsPlanned g a b offset more → IsBeside g place len → (place + len ≤ offset) ⊎ (offset + more ≤ place)
-beside_apart g a b place len offset more range planned beside =
+pub beside_apart : (g : Geometry) (a b position len offset more : ℕ) → IsRange g a b → IsPlanned g a b offset more → IsBeside g position len → (position + len ≤ offset) ⊎ (offset + more ≤ position)
+beside_apart g a b position len offset more range planned beside =
     let l = lie_inside g a b planned.part range planned.is in
     let begins = l.begins in
     let ends = l.ends in
     let above = section_above g planned.part in
     let below = section_below g planned.part in
-    let at = planned.place_is in
+    let at = planned.begin_is in
     let long = planned.len_is in
     by beside begins ends above below at long
   where
-    by : IsBeside g place len → section_start (places_of g) planned.part ≤ place_of g a b planned.part → place_of g a b planned.part + length_of g a b planned.part ≤ section_end (places_of g) planned.part
-        → header_size (layout_of g) ≤ section_start (places_of g) planned.part → section_end (places_of g) planned.part ≤ (places_of g).extension_block
-        → offset ≡ place_of g a b planned.part → more ≡ length_of g a b planned.part → (place + len ≤ offset) ⊎ (offset + more ≤ place)
+    by : IsBeside g position len → section_start (offsets_of g) planned.part ≤ offset_of g a b planned.part → offset_of g a b planned.part + length_of g a b planned.part ≤ section_end (offsets_of g) planned.part
+        → header_size (layout_of g) ≤ section_start (offsets_of g) planned.part → section_end (offsets_of g) planned.part ≤ (offsets_of g).extension_block
+        → offset ≡ offset_of g a b planned.part → more ≡ length_of g a b planned.part → (position + len ≤ offset) ⊎ (offset + more ≤ position)
     by (inl low) begins ends above below at long = inl (omega (arith, low, begins, above, at))
     by (inr high) begins ends above below at long = inr (omega (arith, high, ends, below, at, long))
 
@@ -81,9 +81,9 @@ module _ (s : BeginningsState) (r : ReadingState) (f : FileState) (reader holdin
   pub held_is : IsHolding s.holdings.table holding now.held
   held_is = subst (λ p. IsHolding s.holdings.table p now.held) holding_is now.is
 
-  pub part_unasked : (w : Wanted) → IsPlannedRead r.file w.read.place w.read.length → ((offset len : ℕ) → HasAsked r.file reader offset len → AreApart offset len w.read.place w.read.length)
-      → IsUnasked s.holdings holding w.read.place w.read.length
-  part_unasked w planned fresh = unasked_by s.holdings holding w.read.place w.read.length (λ h i place len is read. by h i place len is read (begun_of holding))
+  pub part_unasked : (w : Wanted) → IsPlannedRead r.file w.read.offset w.read.length → ((offset len : ℕ) → HasAsked r.file reader offset len → AreApart offset len w.read.offset w.read.length)
+      → IsUnasked s.holdings holding w.read.offset w.read.length
+  part_unasked w planned fresh = unasked_by s.holdings holding w.read.offset w.read.length (λ h i position len is read. by h i position len is read (begun_of holding))
     where
       k : IsReaderOf s r reader holding
       k = before.kept.forth reader holding of
@@ -91,19 +91,19 @@ module _ (s : BeginningsState) (r : ReadingState) (f : FileState) (reader holdin
       begun_of : (x : ℕ) → IsBegun s holding (before.kept.forth reader holding of).begun
       begun_of x = (before.kept.forth reader holding of).there
 
-      by : (h : Holding) (i place len : ℕ) → IsHolding s.holdings.table holding h → IsReadAt s.holdings.requests.entries h i place len → IsBegun s holding (before.kept.forth reader holding of).begun
-          → (place + len ≤ w.read.place) ⊎ (w.read.place + w.read.length ≤ place)
-      by h i place len is read there =
+      by : (h : Holding) (i position len : ℕ) → IsHolding s.holdings.table holding h → IsReadAt s.holdings.requests.entries h i position len → IsBegun s holding (before.kept.forth reader holding of).begun
+          → (position + len ≤ w.read.offset) ⊎ (w.read.offset + w.read.length ≤ position)
+      by h i position len is read there =
           let same : now.held ≡ h = one_there (slice_get s.holdings.table.holdings holding) now.held h held_is is in
-          from (before.kept.reads holding i place len h (before.kept.forth reader holding of).begun is there (ap (λ (x : Holding). x.left) (sym same) ∙ now.left) read)
+          from (before.kept.reads holding i position len h (before.kept.forth reader holding of).begun is there (ap (λ (x : Holding). x.left) (sym same) ∙ now.left) read)
         where
-          from : IsOfReader r.file (before.kept.forth reader holding of).begun place len → (place + len ≤ w.read.place) ⊎ (w.read.place + w.read.length ≤ place)
-          from (inl beside) = beside_apart r.file.handout.geometry planned.from r.file.end place len w.read.place w.read.length (later r.file planned.from before.kept.right planned.begins planned.before) planned.planned beside
+          from : IsOfReader r.file (before.kept.forth reader holding of).begun position len → (position + len ≤ w.read.offset) ⊎ (w.read.offset + w.read.length ≤ position)
+          from (inl beside) = beside_apart r.file.handout.geometry planned.from r.file.end position len w.read.offset w.read.length (later r.file planned.from before.kept.right planned.begins planned.before) planned.planned beside
           from (inr a) =
               let one : a.0 ≡ reader = one_there (before.kept.forth reader holding of).begun.reader a.0 reader a.1 (before.kept.forth reader holding of).of_reader in
-              fresh place len (subst (λ q. HasAsked r.file q place len) one a.2)
+              fresh position len (subst (λ q. HasAsked r.file q position len) one a.2)
 
-  pub parts_unasked : All (λ (w : Wanted). IsUnasked s.holdings holding w.read.place w.read.length) wanted
+  pub parts_unasked : All (λ (w : Wanted). IsUnasked s.holdings holding w.read.offset w.read.length) wanted
   parts_unasked k d lt = part_unasked (slice_index_or wanted k d) (asks.planned k d lt) (λ offset len asked. asks.fresh offset len asked k d lt)
 
   module _ (t : BeginningsState) (done : steps.AsksParts holding wanted s t) (grows : Grows s t) (right : IsFile f) (law : ReadsStay) (stays : StaysRead r.file f) (lives : f.live ≡ r.file.live) (shared : copies f ≡ copies r.file)
@@ -154,7 +154,7 @@ module _ (s : BeginningsState) (r : ReadingState) (f : FileState) (reader holdin
         by_read x i offset len g b held there left (inr new) =
             let one : x ≡ holding = elim (cases_eq x holding) [
               | inl e ↦ e
-              | inr ne ↦ absurd (distinct_places before.kept.known.right x holding g new.0.0 held new.0.1 (sym new.0.2) (sym new.0.3) ne)
+              | inr ne ↦ absurd (distinct_positions before.kept.known.right x holding g new.0.0 held new.0.1 (sym new.0.2) (sym new.0.3) ne)
             ] in
             let k = before.kept.forth reader holding of in
             let same : b ≡ k.begun = one_there (slice_get s.begun holding) b k.begun (ap (slice_get s.begun) (sym one) ∙ there) k.there in

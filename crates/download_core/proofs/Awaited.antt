@@ -5,7 +5,7 @@ use Rattle.std.proofs.lemmas.Bool.{cases_eq}
 use Rattle.std.proofs.lemmas.List.Elements.{Contains-append_cases}
 use Rattle.std.proofs.lemmas.Option.{slice_get_within}
 use Rattle.lemmas.proofs.Members.{contains_tail}
-use Rattle.lemmas.proofs.Places.{get_pushed, get_push}
+use Rattle.lemmas.proofs.Positions.{get_pushed, get_push}
 use Rattle.lemmas.proofs.Options.{one_there}
 use Rattle.placement.proofs.Members.{Contains-head, Contains-nil, Contains-uncons}
 use Rattle.request_record.specs.declared.requests.Asked.{Asked}
@@ -21,7 +21,7 @@ use Rattle.download_shares.specs.Reads.{IsAnsweredBy, IsOutAt, IsReadAt}
 use Rattle.download_shares.specs.BeginningState.{BeginningsState}
 use Rattle.download_supply.specs.declared.wanted.Wanted.{Wanted}
 use Rattle.download_file.specs.Changes.{OthersWait}
-use Rattle.download_file.specs.State.{FileState, IsLive, ReaderState, first_place, first_waiting, placed, waiting_at, waiting_in, without}
+use Rattle.download_file.specs.State.{FileState, IsLive, ReaderState, first_position, first_waiting, waiting_from, waiting_at, waiting_in, without}
 use Rattle.download_file.specs.declared.reader.Waiting.{Waiting}
 use Rattle.download_core.specs.Reading.{AreAwaited, AreKept, AreLinked, AreReadingBut, IsAskedOf, IsOf, IsReading}
 use Rattle.download_core.specs.ReadingState.{ReadingState}
@@ -34,7 +34,7 @@ pub read_as : (es : List Request) (h g : Holding) (i offset len : ℕ) → g.ser
 read_as es h g i offset len servers shares r = record { request = r.request; there = r.there; of_server = r.of_server ∙ sym servers; asked = r.asked ∙ ap (λ n. Reading n offset len) (sym shares) }
 
 asked_as : (es : List Request) (h g : Holding) (w : Waiting) → g.server ≡ h.server → g.share ≡ h.share → IsAskedOf es h w → IsAskedOf es g w
-asked_as es h g w servers shares a = record { read = read_as es h g w.place w.wanted.read.place w.wanted.read.length servers shares a.read; state = a.state }
+asked_as es h g w servers shares a = record { read = read_as es h g w.position w.wanted.read.offset w.wanted.read.length servers shares a.read; state = a.state }
 
 -- each request stays as it is
 abbrev pub Stays : List Request → List Request → Type 0
@@ -52,17 +52,17 @@ out_stays es ns i stays o = record { request = o.request; there = stays i o.requ
 
 pub asked_stays : (es ns : List Request) (h : Holding) (w : Waiting) → Stays es ns → IsAskedOf es h w → IsAskedOf ns h w
 asked_stays es ns h w stays a = record {
-  read = record { request = a.read.request; there = stays w.place a.read.request a.read.there; of_server = a.read.of_server; asked = a.read.asked };
+  read = record { request = a.read.request; there = stays w.position a.read.request a.read.there; of_server = a.read.of_server; asked = a.read.asked };
   state = elim a.state [
-    | inl out ↦ inl (out_stays es ns w.place stays out)
-    | inr k ↦ inr (k.0, record { request = k.1.request; there = stays w.place k.1.request k.1.there; answer = k.1.answer })
+    | inl out ↦ inl (out_stays es ns w.position stays out)
+    | inr k ↦ inr (k.0, record { request = k.1.request; there = stays w.position k.1.request k.1.there; answer = k.1.answer })
   ];
 }
 
 -- the first that waits
-pub first_is : (ws : List Waiting) (place : ℕ) → first_place ws ≡ Some place → (w : Waiting) × Contains ws w × (w.place ≡ place)
-first_is [] place e = absurd cc
-first_is (w ∷ ws) place e = (w, Contains-head w ws, cc)
+pub first_is : (ws : List Waiting) (position : ℕ) → first_position ws ≡ Some position → (w : Waiting) × Contains ws w × (w.position ≡ position)
+first_is [] position e = absurd cc
+first_is (w ∷ ws) position e = (w, Contains-head w ws, cc)
 
 unlike : (a b : ℕ) → (a ≡ b → ⊥) → Some b ≢ Some a
 unlike a b other e = (let one : b ≡ a = cc in other (sym one))
@@ -88,18 +88,18 @@ module _ (s t : BeginningsState) (r : ReadingState) (kept : AreKept s r) (follow
 
   pub fallen_awaits : (but now : Option ℕ) → AreAwaited but s r
       → ((reader : ℕ) (g : Holding) (w : Waiting) → IsReading t r reader g → IsAskedOf es g w → IsAskedOf ns g w)
-      → ((reader : ℕ) (g : Holding) (w : Waiting) → IsReading t r reader g → now ≢ Some reader → (but ≢ Some reader) × (IsAskedOf es g w → IsOutAt es w.place → IsOutAt ns w.place))
+      → ((reader : ℕ) (g : Holding) (w : Waiting) → IsReading t r reader g → now ≢ Some reader → (but ≢ Some reader) × (IsAskedOf es g w → IsOutAt es w.position → IsOutAt ns w.position))
       → AreAwaited now t r
   fallen_awaits but now before still out = record {
     asked = λ reader g w k among. (
         let h = read_back reader g k in
         still reader g w k (asked_as es h.0 g w h.2 h.3 (before.asked reader h.0 w h.1 among)));
-    first = λ reader place g k other e. (
+    first = λ reader position g k other e. (
         let h = read_back reader g k in
-        let w = first_is (waiting_at r.file reader) place e in
+        let w = first_is (waiting_at r.file reader) position e in
         let o = out reader g w.0 k other in
         let asked = asked_as es h.0 g w.0 h.2 h.3 (before.asked reader h.0 w.0 h.1 w.1) in
-        let was = before.first reader place h.0 h.1 o.0 e in
+        let was = before.first reader position h.0 h.1 o.0 e in
         subst (IsOutAt ns) w.2 (o.1 asked (subst (IsOutAt es) (sym w.2) was)));
   }
 
@@ -115,7 +115,7 @@ module _ (but : Option ℕ) (s : BeginningsState) (r : ReadingState) (f : FileSt
   pub goes_awaits : ((q : ℕ) → IsLive f q → IsLive r.file q) → ((q : ℕ) → IsLive f q → waiting_at f q ≡ waiting_at r.file q) → AreAwaited but s going
   goes_awaits lives same = record {
     asked = λ reader h w k among. before.asked reader h w (read_before lives reader h k) (subst (λ (l : List Waiting). Contains l w) (same reader k.live) among);
-    first = λ reader place h k other e. before.first reader place h (read_before lives reader h k) other (sym (ap first_place (same reader k.live)) ∙ e);
+    first = λ reader position h k other e. before.first reader position h (read_before lives reader h k) other (sym (ap first_position (same reader k.live)) ∙ e);
   }
 
 -- a reader ends
@@ -135,7 +135,7 @@ pub taken_awaits : (s : BeginningsState) (r : ReadingState) (f : FileState) (rea
     → AreAwaited (Some reader) s (record r { file = f })
 taken_awaits s r f reader before lives others taken = record {
   asked = λ q h w k among. before.asked q h w (was q h k) (more q w among (cases_eq q reader));
-  first = λ q place h k other e. before.first q place h (was q h k) other (sym (ap first_place (others q (λ same. other (ap Some (sym same))))) ∙ e);
+  first = λ q position h k other e. before.first q position h (was q h k) other (sym (ap first_position (others q (λ same. other (ap Some (sym same))))) ∙ e);
 }
   where
     was : (q : ℕ) (h : Holding) → IsReading s (record r { file = f }) q h → IsReading s r q h
@@ -149,21 +149,21 @@ taken_awaits s r f reader before lives others taken = record {
 
 -- the answer is not there yet
 pub awaits_last : (s : BeginningsState) (r : ReadingState) (reader : ℕ) → AreAwaited (Some reader) s r
-    → ((place : ℕ) (h : Holding) → IsReading s r reader h → first_waiting r.file reader ≡ Some place → IsOutAt s.holdings.requests.entries place) → AreAwaited None s r
+    → ((position : ℕ) (h : Holding) → IsReading s r reader h → first_waiting r.file reader ≡ Some position → IsOutAt s.holdings.requests.entries position) → AreAwaited None s r
 awaits_last s r reader before last = record {
   asked = before.asked;
-  first = λ q place h k other e. by q place h k e (cases_eq q reader);
+  first = λ q position h k other e. by q position h k e (cases_eq q reader);
 }
   where
-    by : (q place : ℕ) (h : Holding) → IsReading s r q h → first_waiting r.file q ≡ Some place → (q ≡ reader) ⊎ (q ≡ reader → ⊥) → IsOutAt s.holdings.requests.entries place
-    by q place h k e (inl same) = last place h (subst (λ x. IsReading s r x h) same k) (sym (ap (first_waiting r.file) same) ∙ e)
-    by q place h k e (inr other) = before.first q place h k (unlike q reader other) e
+    by : (q position : ℕ) (h : Holding) → IsReading s r q h → first_waiting r.file q ≡ Some position → (q ≡ reader) ⊎ (q ≡ reader → ⊥) → IsOutAt s.holdings.requests.entries position
+    by q position h k e (inl same) = last position h (subst (λ x. IsReading s r x h) same k) (sym (ap (first_waiting r.file) same) ∙ e)
+    by q position h k e (inr other) = before.first q position h k (unlike q reader other) e
 
 -- it is out, where it is no answer
-pub unanswered : (s : BeginningsState) (r : ReadingState) (but : Option ℕ) (reader place : ℕ) (h : Holding) → AreAwaited but s r → IsReading s r reader h → first_waiting r.file reader ≡ Some place
-    → ((bytes : List ℕ) → IsAnsweredBy s.holdings.requests.entries place bytes → ⊥) → IsOutAt s.holdings.requests.entries place
-unanswered s r but reader place h before k e none =
-    let w = first_is (waiting_at r.file reader) place e in
+pub unanswered : (s : BeginningsState) (r : ReadingState) (but : Option ℕ) (reader position : ℕ) (h : Holding) → AreAwaited but s r → IsReading s r reader h → first_waiting r.file reader ≡ Some position
+    → ((bytes : List ℕ) → IsAnsweredBy s.holdings.requests.entries position bytes → ⊥) → IsOutAt s.holdings.requests.entries position
+unanswered s r but reader position h before k e none =
+    let w = first_is (waiting_at r.file reader) position e in
     elim (before.asked reader h w.0 k w.1).state [
       | inl out ↦ subst (IsOutAt s.holdings.requests.entries) w.2 out
       | inr a ↦ absurd (none a.0 (subst (λ p. IsAnsweredBy s.holdings.requests.entries p a.0) w.2 a.1))
@@ -171,7 +171,7 @@ unanswered s r but reader place h before k e none =
 
 -- less is said
 pub awaits_less : (but : Option ℕ) (s : BeginningsState) (r : ReadingState) → AreAwaited None s r → AreAwaited but s r
-awaits_less but s r before = record { asked = before.asked; first = λ q place h k other e. before.first q place h k (λ f. cc) e }
+awaits_less but s r before = record { asked = before.asked; first = λ q position h k other e. before.first q position h k (λ f. cc) e }
 
 pub reading_less : (but : Option ℕ) (s : BeginningsState) (r : ReadingState) → AreReadingBut None s r → AreReadingBut but s r
 reading_less but s r k = record { linked = k.linked; awaits = awaits_less but s r k.awaits; busy = k.busy }
@@ -184,10 +184,10 @@ begun_awaits s t r f holding linked before requests held lives waits = record {
   asked = λ q h w k among.
       let old = subst (λ (l : List Waiting). Contains l w) (waits q) among in
       subst (λ (y : RequestsState). IsAskedOf y.entries h w) (sym requests) (before.asked q h w (was q h k (w, old)) old);
-  first = λ q place h k other e. (
-      let f = sym (ap first_place (waits q)) ∙ e in
-      let w = first_is (waiting_at r.file q) place f in
-      subst (λ (y : RequestsState). IsOutAt y.entries place) (sym requests) (before.first q place h (was q h k (w.0, w.1)) other f));
+  first = λ q position h k other e. (
+      let f = sym (ap first_position (waits q)) ∙ e in
+      let w = first_is (waiting_at r.file q) position f in
+      subst (λ (y : RequestsState). IsOutAt y.entries position) (sym requests) (before.first q position h (was q h k (w.0, w.1)) other f));
 }
   where
     -- nothing waits of the new one
@@ -216,7 +216,7 @@ begun_awaits s t r f holding linked before requests held lives waits = record {
 -- ---- more is asked
 
 module _ (s t : BeginningsState) (r : ReadingState) (f : FileState) (reader holding : ℕ) (wanted : List Wanted) (before : AreAwaited None s r) (of : IsOf r reader holding) (done : AsksParts holding wanted s t)
-    (goes : GoesOn s t) (lives : f.live ≡ r.file.live) (waits : waiting_at f reader ≡ waiting_at r.file reader ++ placed (length s.holdings.requests.entries) wanted) (others : OthersWait r.file reader f) where
+    (goes : GoesOn s t) (lives : f.live ≡ r.file.live) (waits : waiting_at f reader ≡ waiting_at r.file reader ++ waiting_from (length s.holdings.requests.entries) wanted) (others : OthersWait r.file reader f) where
   abbrev pub asked_next : ReadingState
   asked_next = record r { file = f }
 
@@ -239,7 +239,7 @@ module _ (s t : BeginningsState) (r : ReadingState) (f : FileState) (reader hold
   pub asked_awaits : AreAwaited None t asked_next
   asked_awaits = record {
     asked = λ q h w k among. asked q h w (was q h k) among (cases_eq q reader);
-    first = λ q place h k other e. first q place h (was q h k) e (cases_eq q reader);
+    first = λ q position h k other e. first q position h (was q h k) e (cases_eq q reader);
   }
     where
       old : (q : ℕ) (h : Holding) (w : Waiting) → IsReading s r q h → Contains (waiting_at r.file q) w → IsAskedOf t.holdings.requests.entries h w
@@ -249,19 +249,19 @@ module _ (s t : BeginningsState) (r : ReadingState) (f : FileState) (reader hold
       asked q h w k among (inr other) = old q h w k (subst (λ (l : List Waiting). Contains l w) (others q other) among)
       asked q h w k among (inl same) =
           let here = subst (λ x. IsReading s r x h) same k in
-          elim (Contains-append_cases (waiting_at r.file reader) (placed (length s.holdings.requests.entries) wanted) w (subst (λ (l : List Waiting). Contains l w) (ap (waiting_at f) same ∙ waits) among)) [
+          elim (Contains-append_cases (waiting_at r.file reader) (waiting_from (length s.holdings.requests.entries) wanted) w (subst (λ (l : List Waiting). Contains l w) (ap (waiting_at f) same ∙ waits) among)) [
             | inl more ↦ old reader h w here more
             | inr new ↦ (let a = done.asked h w (own h here) new in record { read = a.read; state = inl a.out })
           ]
 
-      first_of : (place : ℕ) (h : Holding) → IsReading s r reader h → (ws : List Waiting) → waiting_at r.file reader ≡ ws → first_place (ws ++ placed (length s.holdings.requests.entries) wanted) ≡ Some place → IsOutAt t.holdings.requests.entries place
-      first_of place h k [] none e =
-          let w = first_is (placed (length s.holdings.requests.entries) wanted) place e in
+      first_of : (position : ℕ) (h : Holding) → IsReading s r reader h → (ws : List Waiting) → waiting_at r.file reader ≡ ws → first_position (ws ++ waiting_from (length s.holdings.requests.entries) wanted) ≡ Some position → IsOutAt t.holdings.requests.entries position
+      first_of position h k [] none e =
+          let w = first_is (waiting_from (length s.holdings.requests.entries) wanted) position e in
           subst (IsOutAt t.holdings.requests.entries) w.2 (done.asked h w.0 (own h k) w.1).out
-      first_of place h k (w ∷ ws) some e = out_stays s.holdings.requests.entries t.holdings.requests.entries place stays (before.first reader place h k (λ f. cc) (ap first_place some ∙ e))
+      first_of position h k (w ∷ ws) some e = out_stays s.holdings.requests.entries t.holdings.requests.entries position stays (before.first reader position h k (λ f. cc) (ap first_position some ∙ e))
 
-      first : (q place : ℕ) (h : Holding) → IsReading s r q h → first_waiting f q ≡ Some place → (q ≡ reader) ⊎ (q ≡ reader → ⊥) → IsOutAt t.holdings.requests.entries place
-      first q place h k e (inr other) =
-          out_stays s.holdings.requests.entries t.holdings.requests.entries place stays (before.first q place h k (λ f. cc) (sym (ap first_place (others q other)) ∙ e))
-      first q place h k e (inl same) =
-          first_of place h (subst (λ x. IsReading s r x h) same k) (waiting_at r.file reader) refl (sym (ap first_place (ap (waiting_at f) same ∙ waits)) ∙ e)
+      first : (q position : ℕ) (h : Holding) → IsReading s r q h → first_waiting f q ≡ Some position → (q ≡ reader) ⊎ (q ≡ reader → ⊥) → IsOutAt t.holdings.requests.entries position
+      first q position h k e (inr other) =
+          out_stays s.holdings.requests.entries t.holdings.requests.entries position stays (before.first q position h k (λ f. cc) (sym (ap first_position (others q other)) ∙ e))
+      first q position h k e (inl same) =
+          first_of position h (subst (λ x. IsReading s r x h) same k) (waiting_at r.file reader) refl (sym (ap first_position (ap (waiting_at f) same ∙ waits)) ∙ e)

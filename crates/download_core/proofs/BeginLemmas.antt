@@ -55,7 +55,7 @@ module _ (m : Machine) (servers : List ℕ) (session now : ℕ) (status : Downlo
       record {
         numbers = [];
         few = needed;
-        all = λ server share below offered left. (let two : None ≡ Some offered.request = sym (ap (λ (es : List Request). slice_get es offered.place) empty) ∙ offered.there in absurd cc);
+        all = λ server share below offered left. (let two : None ≡ Some offered.request = sym (ap (λ (es : List Request). slice_get es offered.position) empty) ∙ offered.there in absurd cc);
       }
 
   way : m.from ≢ m.to → IsUnderWay m

@@ -5,7 +5,7 @@ use Rattle.std.proofs.lemmas.List.{length-append, length-map, length-set}
 use Rattle.share_layout.specs.Geometry.{Geometry}
 use Rattle.std.proofs.lemmas.List.Elements.{Contains-append_cases, Contains-append_left, Contains-append_right}
 use Rattle.std.proofs.lemmas.Option.{slice_get_within}
-use Rattle.lemmas.proofs.Places.{get_pushed, get_set, get_other, set_cases, get_last, get_push}
+use Rattle.lemmas.proofs.Positions.{get_pushed, get_set, get_other, set_cases, get_last, get_push}
 use Rattle.lemmas.proofs.Options.{one_there}
 use Rattle.placement.proofs.Members.{Contains-head, Contains-nil, Contains-uncons}
 use Rattle.request_record.specs.Record.{RequestsState}
@@ -36,19 +36,19 @@ unread_of holding t u h is free k =
     (one, sym (ap (λ (n : NumberState). n.reading) number) ∙ free.unread)
 
 -- one that is free is not taken
-pub free_not_taken : (t : TableState) (place : ℕ) (g : Holding) (h : Holding) → IsFree t h → h.share ≡ g.share → IsTaken t place g → ⊥
-free_not_taken t place g h free share taken =
+pub free_not_taken : (t : TableState) (position : ℕ) (g : Holding) (h : Holding) → IsFree t h → h.share ≡ g.share → IsTaken t position g → ⊥
+free_not_taken t position g h free share taken =
     let one : taken.number ≡ free.number = one_there (slice_get t.numbers g.share) taken.number free.number taken.there (ap (slice_get t.numbers) (sym share) ∙ free.there) in
-    let two : Some place ≡ None = sym taken.reading ∙ ap (λ (n : NumberState). n.reading) one ∙ free.unread in
+    let two : Some position ≡ None = sym taken.reading ∙ ap (λ (n : NumberState). n.reading) one ∙ free.unread in
     absurd cc
 
-pub taken_kept : (holding place : ℕ) (t u : TableState) (h g : Holding) → IsHolding t holding h → IsFree t h → TakesUp holding t u → IsTaken t place g → IsTaken u place g
-taken_kept holding place t u h g is free k taken =
+pub taken_kept : (holding position : ℕ) (t u : TableState) (h g : Holding) → IsHolding t holding h → IsFree t h → TakesUp holding t u → IsTaken t position g → IsTaken u position g
+taken_kept holding position t u h g is free k taken =
     let un = unread_of holding t u h is free k in
     record {
       number = taken.number;
       there = ap (λ (l : List NumberState). slice_get l g.share) k.3.numbers ∙ get_other t.numbers k.0.share g.share (record k.3.number { reading = taken_up holding k.3.number.reading })
-          (λ e. free_not_taken t place g h free (ap (λ (x : Holding). x.share) un.0 ∙ sym e) taken) ∙ taken.there;
+          (λ e. free_not_taken t position g h free (ap (λ (x : Holding). x.share) un.0 ∙ sym e) taken) ∙ taken.there;
       reading = taken.reading;
     }
 
@@ -65,7 +65,7 @@ taken_now holding t u h is free k =
 -- ---- all of them
 
 module _ (s t : BeginningsState) (r : ReadingState) (f : FileState) (holding : ℕ) (h : Holding) (before : AreLinked s r) (is : IsHolding s.holdings.table holding h) (free : IsFree s.holdings.table h)
-    (reader : ℕ) (place : reader ≡ length r.file.readers) (shared : copies f ≡ copies r.file ++ copy h.server h.share ∷ []) (lives : f.live ≡ r.file.live ++ length r.file.readers ∷ [])
+    (reader : ℕ) (position : reader ≡ length r.file.readers) (shared : copies f ≡ copies r.file ++ copy h.server h.share ∷ []) (lives : f.live ≡ r.file.live ++ length r.file.readers ∷ [])
     (asked : AsksNoMore r.file f) (stays : StaysRead r.file f) (right : IsFile f) (geometry : f.handout.geometry ≡ r.file.handout.geometry) (known : AreBegun t) (reads : moves.IsReaderOf holding reader s t) where
   abbrev pub next : ReadingState
   next = record { file = f; holdings = r.holdings ++ holding ∷ [] }
@@ -100,7 +100,7 @@ module _ (s t : BeginningsState) (r : ReadingState) (f : FileState) (holding : �
   requests_are = ap (λ (x : HoldingsState). x.requests) reads.holdings
 
   linked_len : length r.holdings ≡ reader
-  linked_len = before.kept.linked ∙ sym place
+  linked_len = before.kept.linked ∙ sym position
 
   pub begun_kept : AreKept t next
   begun_kept = record {
@@ -156,7 +156,7 @@ module _ (s t : BeginningsState) (r : ReadingState) (f : FileState) (holding : �
 
       alive : (x q : ℕ) (g : Holding) (b : Begun) → IsHolding s.holdings.table x g → b.reader ≡ Some q → g.left ≡ true → ((x ≡ holding) × (b.reader ≡ Some reader)) ⊎ ((x ≡ holding → ⊥) × IsBegun s x b) → IsLive f q
       alive x q g b held e left (inl k) =
-          let one : length r.file.readers ≡ q = sym place ∙ one_there b.reader reader q k.1 e in
+          let one : length r.file.readers ≡ q = sym position ∙ one_there b.reader reader q k.1 e in
           subst (λ (l : List ℕ). Contains l q) (sym lives) (Contains-append_right r.file.live (length r.file.readers ∷ []) q (subst (Contains (length r.file.readers ∷ [])) one (Contains-head (length r.file.readers) [])))
       alive x q g b held e left (inr k) = subst (λ (l : List ℕ). Contains l q) (sym lives) (Contains-append_left r.file.live (length r.file.readers ∷ []) q (before.kept.alive x q g b held k.1 e left))
 

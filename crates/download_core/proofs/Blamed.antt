@@ -3,7 +3,7 @@ use Rattle.std.proofs.Common.{◌≡◌, ℕ, zero, suc, ◌<◌, Bool, true, fa
 use Rattle.std.specs.Prelude.{slice_get, slice_set}
 use Rattle.std.proofs.lemmas.List.Sums.{sum_by-cons}
 use Rattle.std.proofs.lemmas.Option.{slice_get_within}
-use Rattle.lemmas.proofs.Places.{got}
+use Rattle.lemmas.proofs.Positions.{got}
 use Rattle.lemmas.proofs.Options.{one_there}
 use Rattle.download_shares.specs.HoldingMoves.{Blames}
 use Rattle.download_shares.specs.HoldingState.{HoldingsState, TableState}
@@ -45,19 +45,19 @@ module _ (s t : BeginningsState) (r : ReadingState) (holding : ℕ) (check : Che
   pub busy_blamed : AreBusy None s r → t.begun ≡ s.begun → AreBusy None t r
   busy_blamed before same =
       busy_falls s t r before (falls_one holding s.holdings.table t.holdings.table blames.retired)
-      (λ place h is left out. still_out s t place (ap (λ (l : List Begun). slice_get l place) same) stays out)
+      (λ position h is left out. still_out s t position (ap (λ (l : List Begun). slice_get l position) same) stays out)
 
 module _ (s t : BeginningsState) (r q : ReadingState) (reader holding : ℕ) (check : Check) (linked : AreLinked s r) (before : AreAwaited (Some reader) s r) (blames : Blames holding check s.holdings t.holdings)
     (of : IsOf r reader holding) (ended : AreLinked t q) (same : q.holdings ≡ r.holdings) (goes : AreAwaited (Some reader) t r → AreAwaited (Some reader) t q) where
   blamed_some : AreAwaited (Some reader) t r
   blamed_some = fallen_awaits s t r linked.kept (follows s t r holding check blames) (Some reader) (Some reader) before
       (λ x g w k a. asked_stays s.holdings.requests.entries t.holdings.requests.entries g w (stays s t r holding check blames) a)
-      (λ x g w k other. (other, λ a o. out_stays s.holdings.requests.entries t.holdings.requests.entries w.place (stays s t r holding check blames) o))
+      (λ x g w k other. (other, λ a o. out_stays s.holdings.requests.entries t.holdings.requests.entries w.position (stays s t r holding check blames) o))
 
   -- its reader is read no more
   pub blamed_awaits : AreAwaited None t q
   blamed_awaits = awaits_last t q reader (goes blamed_some)
-      (λ place h k e.
+      (λ position h k e.
       let at : IsOf r reader k.holding = sym (ap (λ (l : List ℕ). slice_get l reader) same) ∙ k.of in
       let one : k.holding ≡ holding = one_there (slice_get r.holdings reader) k.holding holding at of in
       absurd (retired_left holding s.holdings.table t.holdings.table h blames.retired (subst (λ x. IsHolding t.holdings.table x h) one k.is) k.left))

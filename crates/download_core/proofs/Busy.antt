@@ -3,7 +3,7 @@ use Rattle.std.proofs.Common.{◌≡◌, ℕ, ◌⊎◌, inl, inr, true, List, [
 use Rattle.std.specs.Prelude.{slice_get, slice_set}
 use Rattle.std.proofs.lemmas.Bool.{cases_eq}
 use Rattle.std.proofs.lemmas.Option.{slice_get_within}
-use Rattle.lemmas.proofs.Places.{get_set, get_other, set_cases, get_last, get_push}
+use Rattle.lemmas.proofs.Positions.{get_set, get_other, set_cases, get_last, get_push}
 use Rattle.lemmas.proofs.Options.{one_there}
 use Rattle.download_shares.specs.Numbers.{taken_up}
 use Rattle.download_shares.specs.HoldingState.{HoldingsState, NumberState, TableState}
@@ -25,8 +25,8 @@ busy_file but s r q same before = record {
 }
 
 -- what is out still is
-pub still_out : (s t : BeginningsState) (place : ℕ) → slice_get t.begun place ≡ slice_get s.begun place → Stays s.holdings.requests.entries t.holdings.requests.entries → IsOut s place → IsOut t place
-still_out s t place same stays out = record {
+pub still_out : (s t : BeginningsState) (position : ℕ) → slice_get t.begun position ≡ slice_get s.begun position → Stays s.holdings.requests.entries t.holdings.requests.entries → IsOut s position → IsOut t position
+still_out s t position same stays out = record {
   begun = out.begun;
   is = same ∙ out.is;
   request = out.request;
@@ -35,27 +35,27 @@ still_out s t place same stays out = record {
 }
 
 pub busy_falls : (s t : BeginningsState) (r : ReadingState) → AreBusy None s r → Falls s.holdings.table t.holdings.table
-    → ((place : ℕ) (h : Holding) → IsHolding t.holdings.table place h → h.left ≡ true → IsOut s place → IsOut t place) → AreBusy None t r
+    → ((position : ℕ) (h : Holding) → IsHolding t.holdings.table position h → h.left ≡ true → IsOut s position → IsOut t position) → AreBusy None t r
 busy_falls s t r before falls out = record {
-  suspended = λ place h is left busy none. (
-      let w = falls.back place h is in
-      out place h is left (before.suspended place w.held w.is (w.left left) (sym w.suspended ∙ busy) (λ e. cc)));
-  taken = λ share place m is reads. (let n = falls.reading share place m is reads in before.taken share place n.0 n.1 n.2);
+  suspended = λ position h is left busy none. (
+      let w = falls.back position h is in
+      out position h is left (before.suspended position w.held w.is (w.left left) (sym w.suspended ∙ busy) (λ e. cc)));
+  taken = λ share position m is reads. (let n = falls.reading share position m is reads in before.taken share position n.0 n.1 n.2);
 }
 
 -- more is asked
 pub busy_goes : (s t : BeginningsState) (r : ReadingState) → AreBusy None s r → t.holdings.table ≡ s.holdings.table → t.begun ≡ s.begun → GoesOn s t → AreBusy None t r
 busy_goes s t r before table begun goes = record {
-  suspended = λ place h is left busy none.
-      still_out s t place (ap (λ (l : List Begun). slice_get l place) begun) (goes_stays s t goes)
-      (before.suspended place h (sym (ap (λ (u : TableState). slice_get u.holdings place) table) ∙ is) left busy none);
-  taken = λ share place n is reads. before.taken share place n (sym (ap (λ (u : TableState). slice_get u.numbers share) table) ∙ is) reads;
+  suspended = λ position h is left busy none.
+      still_out s t position (ap (λ (l : List Begun). slice_get l position) begun) (goes_stays s t goes)
+      (before.suspended position h (sym (ap (λ (u : TableState). slice_get u.holdings position) table) ∙ is) left busy none);
+  taken = λ share position n is reads. before.taken share position n (sym (ap (λ (u : TableState). slice_get u.numbers share) table) ∙ is) reads;
 }
 
 -- ---- a reader begins
 
 pub busy_begun : (s t : BeginningsState) (r q : ReadingState) (holding reader : ℕ) → AreBusy None s r → IsReaderOf holding reader s t → reader ≡ length r.holdings → q.holdings ≡ r.holdings ++ holding ∷ [] → AreBusy None t q
-busy_begun s t r q holding reader before reads place pushed = record {
+busy_begun s t r q holding reader before reads position pushed = record {
   suspended = λ x h is left busy none. out x (before.suspended x h (sym (ap (λ (l : List Holding). slice_get l x) reads.takes.2) ∙ is) left busy none) (cases_eq x holding);
   taken = λ share x n is taken. taken_by share x n taken
       (set_cases s.holdings.table.numbers reads.takes.0.share share (record reads.takes.3.number { reading = taken_up holding reads.takes.3.number.reading }) n

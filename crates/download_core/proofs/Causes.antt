@@ -18,12 +18,12 @@ use Rattle.download_shares.proofs.Caused.{adds_as, adds_trans}
 use Rattle.download_shares.specs.Reads.{IsAnsweredBy}
 use Rattle.download_shares.specs.BeginningState.{BeginningsState}
 use Rattle.share_layout.specs.Geometry.{Geometry}
-use Rattle.download_parts.specs.Plan.{length_of, place_of}
+use Rattle.download_parts.specs.Plan.{length_of, offset_of}
 use Rattle.download_parts.specs.declared.part.Part.TheVariants.{Data}
 use Rattle.download_file.specs.Answers.{AnswersFirst}
 use Rattle.download_file.specs.Changes.{IsSameFile}
 use Rattle.download_file.specs.Making.{RefutesReader}
-use Rattle.download_file.specs.State.{CopyState, FileState, IsLive, ReaderState, copies, copy, copy_of, first_place, first_waiting, waiting_at, waiting_in}
+use Rattle.download_file.specs.State.{CopyState, FileState, IsLive, ReaderState, copies, copy, copy_of, first_position, first_waiting, waiting_at, waiting_in}
 use Rattle.download_file.specs.Taking.{IsRefused}
 use Rattle.download_file.specs.declared.reader.Waiting.{Waiting}
 use Rattle.cap_text.specs.Cap.{VerifyCapValue}
@@ -49,7 +49,7 @@ part_moved es ns f g b stays same k = record {
   refused = k.refused;
   reads = k.reads;
   request = k.request;
-  there = stays k.refused.first.place k.request k.there (ap is_outstanding k.answer);
+  there = stays k.refused.first.position k.request k.there (ap is_outstanding k.answer);
   of_server = k.of_server;
   asked = k.asked;
   answer = k.answer;
@@ -61,7 +61,7 @@ block_moved es ns f g b stays same k = record {
   right = k.right;
   same = same_two k.file f g k.same same;
   answered = k.answered;
-  keeps = λ place q body there answer. stays place q (k.keeps place q body there answer) (ap is_outstanding answer);
+  keeps = λ position q body there answer. stays position q (k.keeps position q body there answer) (ap is_outstanding answer);
   read = k.read;
   reader = k.reader;
   refuted = k.refuted;
@@ -74,10 +74,10 @@ cause_moved cap es f g b same (inl k) = inl (subst (λ (x : Geometry). IsBeginni
 cause_moved cap es f g b same (inr k) = inr (part_moved es es f g b (λ i q e quiet. e) same k)
 
 -- what waits first
-waits_first : (f : FileState) (reader place : ℕ) (bytes : List ℕ) (check : Check) (k : IsRefused f reader bytes check) → first_waiting f reader ≡ Some place → Contains (waiting_at f reader) k.first × (k.first.place ≡ place)
-waits_first f reader place bytes check k e =
+waits_first : (f : FileState) (reader position : ℕ) (bytes : List ℕ) (check : Check) (k : IsRefused f reader bytes check) → first_waiting f reader ≡ Some position → Contains (waiting_at f reader) k.first × (k.first.position ≡ position)
+waits_first f reader position bytes check k e =
     let same : waiting_at f reader ≡ k.first ∷ k.others = ap waiting_in k.there ∙ k.waits in
-    let one : Some k.first.place ≡ Some place = sym (ap first_place same) ∙ e in
+    let one : Some k.first.position ≡ Some position = sym (ap first_position same) ∙ e in
     (subst (λ (l : List Waiting). Contains l k.first) (sym same) (Contains-head k.first k.others), cc)
 
 -- the copy that a reader reads
@@ -88,24 +88,24 @@ copy_at f reader server share r there is =
 
 -- ---- the answer to the first part
 
-record WaitsFirst (f : FileState) (reader place : ℕ) : Type 0 where
+record WaitsFirst (f : FileState) (reader position : ℕ) : Type 0 where
   pub r : ReaderState
   pub there : slice_get f.readers reader ≡ Some r
   pub first : Waiting
   pub others : List Waiting
   pub waits : r.waiting ≡ first ∷ others
-  pub at : first.place ≡ place
+  pub at : first.position ≡ position
 
-first_of : (f : FileState) (reader place : ℕ) (o : Option ReaderState) (ws : List Waiting) → slice_get f.readers reader ≡ o → waiting_in o ≡ ws → first_place ws ≡ Some place → WaitsFirst f reader place
-first_of f reader place o [] there same e = absurd cc
-first_of f reader place None (w ∷ ws) there same e = absurd cc
-first_of f reader place (Some r) (w ∷ ws) there same e = record { r = r; there = there; first = w; others = ws; waits = same; at = cc }
+first_of : (f : FileState) (reader position : ℕ) (o : Option ReaderState) (ws : List Waiting) → slice_get f.readers reader ≡ o → waiting_in o ≡ ws → first_position ws ≡ Some position → WaitsFirst f reader position
+first_of f reader position o [] there same e = absurd cc
+first_of f reader position None (w ∷ ws) there same e = absurd cc
+first_of f reader position (Some r) (w ∷ ws) there same e = record { r = r; there = there; first = w; others = ws; waits = same; at = cc }
 
 -- the bytes are what the reader's own server answered
-pub answers_first : (but : Option ℕ) (s : BeginningsState) (r : ReadingState) (reader place : ℕ) (bytes : List ℕ) → AreReadingBut but s r → IsLive r.file reader → first_waiting r.file reader ≡ Some place
-    → IsAnsweredBy s.holdings.requests.entries place bytes → AnswersFirst s.holdings.requests.entries r.file reader bytes
-answers_first but s r reader place bytes reading live first answered =
-    let w = first_of r.file reader place (slice_get r.file.readers reader) (waiting_at r.file reader) refl refl first in
+pub answers_first : (but : Option ℕ) (s : BeginningsState) (r : ReadingState) (reader position : ℕ) (bytes : List ℕ) → AreReadingBut but s r → IsLive r.file reader → first_waiting r.file reader ≡ Some position
+    → IsAnsweredBy s.holdings.requests.entries position bytes → AnswersFirst s.holdings.requests.entries r.file reader bytes
+answers_first but s r reader position bytes reading live first answered =
+    let w = first_of r.file reader position (slice_get r.file.readers reader) (waiting_at r.file reader) refl refl first in
     let now = reading.linked.live reader live in
     let own = reading.linked.kept.forth reader now.holding now.of in
     let held : own.held ≡ now.held = one_there (slice_get s.holdings.table.holdings now.holding) own.held now.held own.is now.is in
@@ -113,7 +113,7 @@ answers_first but s r reader place bytes reading live first answered =
     let same : waiting_at r.file reader ≡ w.first ∷ w.others = ap waiting_in w.there ∙ w.waits in
     let a = (reading.awaits.asked reader now.held w.first (record { live = live; holding = now.holding; of = now.of; is = now.is; left = now.left })
     (subst (λ (l : List Waiting). Contains l w.first) (sym same) (Contains-head w.first w.others))).read in
-    let request : a.request ≡ answered.request = one_there (slice_get s.holdings.requests.entries place) a.request answered.request (ap (slice_get s.holdings.requests.entries) (sym w.at) ∙ a.there) answered.there in
+    let request : a.request ≡ answered.request = one_there (slice_get s.holdings.requests.entries position) a.request answered.request (ap (slice_get s.holdings.requests.entries) (sym w.at) ∙ a.there) answered.there in
     record {
       r = w.r;
       there = w.there;
@@ -124,25 +124,25 @@ answers_first but s r reader place bytes reading live first answered =
         request = a.request;
         there = a.there;
         of_server = a.of_server ∙ ap (λ (h : Holding). h.server) (sym held) ∙ ap (λ (c : CopyState). c.server) (sym one);
-        asked = a.asked ∙ ap (λ (h : Holding). Reading h.share w.first.wanted.read.place w.first.wanted.read.length) (sym held)
-            ∙ ap (λ (c : CopyState). Reading c.share w.first.wanted.read.place w.first.wanted.read.length) (sym one);
+        asked = a.asked ∙ ap (λ (h : Holding). Reading h.share w.first.wanted.read.offset w.first.wanted.read.length) (sym held)
+            ∙ ap (λ (c : CopyState). Reading c.share w.first.wanted.read.offset w.first.wanted.read.length) (sym one);
         answer = ap (λ (q : Request). q.outcome) request ∙ answered.answer;
       };
     }
 
 -- the part that a reader waited for is refused
-pub part_fault : (but : Option ℕ) (s : BeginningsState) (r : ReadingState) (reader place : ℕ) (check : Check) (bytes : List ℕ) (b : Blame) → AreReadingBut but s r → IsLive r.file reader → first_waiting r.file reader ≡ Some place
-    → IsAnsweredBy s.holdings.requests.entries place bytes → IsRefused r.file reader bytes check → IsBlameOf s r reader check b → IsPartFault s.holdings.requests.entries r.file b
-part_fault but s r reader place check bytes b reading live first answered refused blame =
+pub part_fault : (but : Option ℕ) (s : BeginningsState) (r : ReadingState) (reader position : ℕ) (check : Check) (bytes : List ℕ) (b : Blame) → AreReadingBut but s r → IsLive r.file reader → first_waiting r.file reader ≡ Some position
+    → IsAnsweredBy s.holdings.requests.entries position bytes → IsRefused r.file reader bytes check → IsBlameOf s r reader check b → IsPartFault s.holdings.requests.entries r.file b
+part_fault but s r reader position check bytes b reading live first answered refused blame =
     let now = reading.linked.live reader live in
     let one : now.holding ≡ blame.holding = one_there (slice_get r.holdings reader) now.holding blame.holding now.of blame.of in
     let held : now.held ≡ blame.held = one_there (slice_get s.holdings.table.holdings now.holding) now.held blame.held now.is (subst (λ x. IsHolding s.holdings.table x blame.held) (sym one) blame.is) in
     let k : IsRefused r.file reader bytes b.check = subst (IsRefused r.file reader bytes) (sym blame.check_is) refused in
-    let w = waits_first r.file reader place bytes b.check k first in
+    let w = waits_first r.file reader position bytes b.check k first in
     let own = reading.linked.kept.forth reader blame.holding blame.of in
     let own_held : own.held ≡ blame.held = one_there (slice_get s.holdings.table.holdings blame.holding) own.held blame.held own.is blame.is in
     let a = (reading.awaits.asked reader now.held k.first (record { live = live; holding = now.holding; of = now.of; is = now.is; left = now.left }) w.0).read in
-    let same : a.request ≡ answered.request = one_there (slice_get s.holdings.requests.entries place) a.request answered.request (ap (slice_get s.holdings.requests.entries) (sym w.1) ∙ a.there) answered.there in
+    let same : a.request ≡ answered.request = one_there (slice_get s.holdings.requests.entries position) a.request answered.request (ap (slice_get s.holdings.requests.entries) (sym w.1) ∙ a.there) answered.there in
     record {
       file = r.file;
       right = reading.linked.kept.right;
@@ -155,7 +155,7 @@ part_fault but s r reader place check bytes b reading live first answered refuse
       request = a.request;
       there = a.there;
       of_server = a.of_server ∙ ap (λ (h : Holding). h.server) held ∙ sym blame.of_server;
-      asked = a.asked ∙ ap (λ (h : Holding). Reading h.share k.first.wanted.read.place k.first.wanted.read.length) held ∙ ap (λ n. Reading n k.first.wanted.read.place k.first.wanted.read.length) (sym blame.of_share);
+      asked = a.asked ∙ ap (λ (h : Holding). Reading h.share k.first.wanted.read.offset k.first.wanted.read.length) held ∙ ap (λ n. Reading n k.first.wanted.read.offset k.first.wanted.read.length) (sym blame.of_share);
       answer = ap (λ (q : Request). q.outcome) same ∙ answered.answer;
     }
 
@@ -169,7 +169,7 @@ block_fault but s r reader b reading refuted blame =
       right = reading.linked.kept.right;
       same = same_itself r.file;
       answered = s.holdings.requests.entries;
-      keeps = λ place q body there answer. there;
+      keeps = λ position q body there answer. there;
       read = reading.linked.kept.answers;
       reader = reader;
       refuted = refuted;
@@ -186,7 +186,7 @@ block_answered entries f b k i low =
       request = a.request;
       there = k.keeps _ a.request _ a.there a.answer;
       of_server = a.of_server ∙ ap (λ (c : CopyState). c.server) k.reads;
-      asked = a.asked ∙ ap (λ (c : CopyState). Reading c.share (place_of s.geometry s.first s.end (Data i)) (length_of s.geometry s.first s.end (Data i))) k.reads;
+      asked = a.asked ∙ ap (λ (c : CopyState). Reading c.share (offset_of s.geometry s.first s.end (Data i)) (length_of s.geometry s.first s.end (Data i))) k.reads;
       bytes = a.bytes;
       answer = a.answer;
       long = a.long;

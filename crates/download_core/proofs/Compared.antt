@@ -2,7 +2,7 @@
 use Rattle.std.proofs.Common.{◌≡◌, ℕ, ◌⊎◌, inl, inr, true, false, List, Option, Some, None, refl, sym, ap, subst, ◌∙◌, true≢false}
 use Rattle.std.specs.Prelude.{slice_get, slice_set}
 use Rattle.std.proofs.lemmas.Bool.{cases_eq}
-use Rattle.lemmas.proofs.Places.{get_set, get_other, set_cases}
+use Rattle.lemmas.proofs.Positions.{get_set, get_other, set_cases}
 use Rattle.lemmas.proofs.Options.{one_there}
 use Rattle.request_record.specs.Record.{RequestsState}
 use Rattle.share_reading.specs.declared.opening.Opening.{Opening}
@@ -28,13 +28,13 @@ use Rattle.download_core.proofs.Follows.{Follows, KeepsReaders, follows_falls, f
 use Rattle.download_core.proofs.Started.{held_at}
 
 -- the opening that waits
-pub awaited : (s : BeginningsState) (holding place : ℕ) → AreBegun s → WaitsAt s holding place → (o : Opening) × Awaits s holding place o
-awaited s holding place known waits =
+pub awaited : (s : BeginningsState) (holding position : ℕ) → AreBegun s → WaitsAt s holding position → (o : Opening) × Awaits s holding position o
+awaited s holding position known waits =
     let h = held_at s holding waits.0 known waits.1 in
-    by h.0 h.1 waits.0.opening refl ((known.each holding h.0 waits.0 h.1 waits.1).waits place waits.2)
+    by h.0 h.1 waits.0.opening refl ((known.each holding h.0 waits.0 h.1 waits.1).waits position waits.2)
   where
-    by : (h : Holding) → IsHolding s.holdings.table holding h → (p : Option Opening) → waits.0.opening ≡ p → IsNextAt s.holdings.requests.entries h waits.0.opening place → (o : Opening) × Awaits s holding place o
-    by h is None e next = absurd (subst (λ (p : Option Opening). IsNextAt s.holdings.requests.entries h p place) e next)
+    by : (h : Holding) → IsHolding s.holdings.table holding h → (p : Option Opening) → waits.0.opening ≡ p → IsNextAt s.holdings.requests.entries h waits.0.opening position → (o : Opening) × Awaits s holding position o
+    by h is None e next = absurd (subst (λ (p : Option Opening). IsNextAt s.holdings.requests.entries h p position) e next)
     by h is (Some o) e next = (o, record { held = h; is = is; begun = waits.0; there = waits.1; of_opening = e; waiting = waits.2 })
 
 module _ (s t : BeginningsState) (r : ReadingState) (holding : ℕ) (told : IsTold (Some holding) s r holding) (done : Compares holding s t) (requests : t.holdings.requests ≡ s.holdings.requests) (known : AreBegun t) where
@@ -72,7 +72,7 @@ module _ (s t : BeginningsState) (r : ReadingState) (holding : ℕ) (told : IsTo
   compared_awaits : AreAwaited told.begun.reader t r
   compared_awaits = fallen_awaits s t r told.linked.kept follows told.begun.reader told.begun.reader told.awaits
       (λ x g w k a. asked_stays s.holdings.requests.entries t.holdings.requests.entries g w stays a)
-      (λ x g w k other. (other, λ a o. out_stays s.holdings.requests.entries t.holdings.requests.entries w.place stays o))
+      (λ x g w k other. (other, λ a o. out_stays s.holdings.requests.entries t.holdings.requests.entries w.position stays o))
 
   -- another one is as it was
   other_out : (x : ℕ) → (x ≡ holding → ⊥) → IsOut s x → IsOut t x

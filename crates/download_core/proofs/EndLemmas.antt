@@ -98,7 +98,7 @@ failed_other e = cc
 
 phase_beside : (total : ℕ) (s : BeginningsState) (f : Option FoundFile) → IsInPhase total s f → ReadsBeside s.holdings.requests.entries s.holdings.blamed (found_of f)
 phase_beside total s None k = tt
-phase_beside total s (Some f) k = reading_beside s f.place f.reading k.linked.kept
+phase_beside total s (Some f) k = reading_beside s f.position f.reading k.linked.kept
 
 -- a download that ran stands so
 pub kept_ends : (m : Machine) (status : DownloadStatus) → AllIsFair m → EndsAs m status → IsKept m status

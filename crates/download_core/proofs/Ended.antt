@@ -52,10 +52,10 @@ adds_trans h g k a b = record {
 }
 
 -- one of the parts that are planned
-pub planned_of : (f : FileState) (wanted : List Wanted) (offset len : ℕ) → All (λ (w : Wanted). IsPlannedRead f w.read.place w.read.length) wanted → IsOneOf wanted offset len → IsPlannedRead f offset len
+pub planned_of : (f : FileState) (wanted : List Wanted) (offset len : ℕ) → All (λ (w : Wanted). IsPlannedRead f w.read.offset w.read.length) wanted → IsOneOf wanted offset len → IsPlannedRead f offset len
 planned_of f wanted offset len all o =
-    let k = All-contains (λ (w : Wanted). IsPlannedRead f w.read.place w.read.length) wanted o.one all o.among in
-    subst (λ n. IsPlannedRead f n len) (sym o.place) (subst (λ n. IsPlannedRead f o.one.read.place n) (sym o.long) k)
+    let k = All-contains (λ (w : Wanted). IsPlannedRead f w.read.offset w.read.length) wanted o.one all o.among in
+    subst (λ n. IsPlannedRead f n len) (sym o.offset_is) (subst (λ n. IsPlannedRead f o.one.read.offset n) (sym o.long) k)
 
 -- nothing is asked
 pub asks_none : (f : FileState) (s t : BeginningsState) → t.holdings.requests ≡ s.holdings.requests → AddsReads (IsReadFor f) s.holdings.requests.entries t.holdings.requests.entries
@@ -71,7 +71,7 @@ continues_trans s t u r q p f g = record {
   pieces = adds_trans r.file.handout q.file.handout p.file.handout f.pieces g.pieces;
   answers = λ a. g.answers (f.answers a);
   reads = reads_trans (IsReadFor r.file) s.holdings.requests.entries t.holdings.requests.entries u.holdings.requests.entries (goes_stays t u g.goes) f.reads
-      (λ place n share offset len there le asked. planned_alike r.file q.file offset len f.same (g.reads place n share offset len there le asked));
+      (λ position n share offset len there le asked. planned_alike r.file q.file offset len f.same (g.reads position n share offset len there le asked));
 }
 
 module _ (s : BeginningsState) (r : ReadingState) (f : FileState) (reader : ℕ) (before : AreKept s r) (gone : IsGone s r reader) (lives : f.live ≡ without reader r.file.live) (shared : copies f ≡ copies r.file)
@@ -140,7 +140,7 @@ pub record OwnHolding (s : BeginningsState) (r : ReadingState) (reader : ℕ) : 
 
 pub own_holding : (s : BeginningsState) (r : ReadingState) (reader : ℕ) → AreKept s r → IsLive r.file reader → OwnHolding s r reader
 own_holding s r reader kept live =
-    let inside : reader < length r.file.readers = All-contains (λ (place : ℕ). place < length r.file.readers) r.file.live reader kept.right.live.there live in
+    let inside : reader < length r.file.readers = All-contains (λ (position : ℕ). position < length r.file.readers) r.file.live reader kept.right.live.there live in
     let l = kept.linked in
     let of : IsOf r reader (slice_index_or r.holdings reader 0) = slice_get-get_or r.holdings reader 0 (omega (arith, inside, l)) in
     let k = kept.forth reader (slice_index_or r.holdings reader 0) of in

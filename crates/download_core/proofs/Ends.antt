@@ -42,22 +42,22 @@ module _ (s : BeginningsState) (r : ReadingState) (reading : AreReading s r) (ta
   none_waits : SomeWaits r.file → ⊥
   none_waits w =
       let k = reading.linked.live w.reader w.live in
-      none_out s.holdings.requests.entries w.place idle
-      (reading.awaits.first w.reader w.place k.held (record { live = w.live; holding = k.holding; of = k.of; is = k.is; left = k.left }) (λ e. cc) w.first)
+      none_out s.holdings.requests.entries w.position idle
+      (reading.awaits.first w.reader w.position k.held (record { live = w.live; holding = k.holding; of = k.of; is = k.is; left = k.left }) (λ e. cc) w.first)
 
   -- the number of a holding that is left is one that is read
   module _ (none : NoneIsFree s.holdings.table) where
-    read_of : (place : ℕ) (h : Holding) → IsHolding s.holdings.table place h → h.left ≡ true → Contains (numbers_of r.file.readers r.file.live) h.share
-    read_of place h is left = by_choice h.suspended refl
+    read_of : (position : ℕ) (h : Holding) → IsHolding s.holdings.table position h → h.left ≡ true → Contains (numbers_of r.file.readers r.file.live) h.share
+    read_of position h is left = by_choice h.suspended refl
       where
         number : IsNumber s.holdings.table h.share (slice_index_or s.holdings.table.numbers h.share no_holding)
-        number = slice_get-get_or s.holdings.table.numbers h.share no_holding (table.below place h is)
+        number = slice_get-get_or s.holdings.table.numbers h.share no_holding (table.below position h is)
 
         reader_of : (p : ℕ) → (slice_index_or s.holdings.table.numbers h.share no_holding).reading ≡ Some p → Contains (numbers_of r.file.readers r.file.live) h.share
         reader_of p reads =
             let k = reading.busy.taken h.share p _ number reads in
             let f = reading.linked.kept.forth k.0 p k.1 in
-            let own = table.places h.share p _ number (table.reading h.share p _ number reads) in
+            let own = table.positions h.share p _ number (table.reading h.share p _ number reads) in
             let same : f.held ≡ own.0 = one_there (slice_get s.holdings.table.holdings p) f.held own.0 f.is own.1 in
             let live = reading.linked.kept.alive p k.0 f.held f.begun f.is f.there f.of_reader (ap (λ (x : Holding). x.left) same ∙ own.3) in
             let at = get_unmapped (λ (x : ReaderState). copy_of x) r.file.readers k.0 (copy f.held.server f.held.share) f.reads in
@@ -65,11 +65,11 @@ module _ (s : BeginningsState) (r : ReadingState) (reading : AreReading s r) (ta
             subst (Contains (numbers_of r.file.readers r.file.live)) share (contains_map (λ x. share_in (slice_get r.file.readers x)) r.file.live k.0 live)
 
         by_number : (o : Option ℕ) → (slice_index_or s.holdings.table.numbers h.share no_holding).reading ≡ o → h.suspended ≡ false → Contains (numbers_of r.file.readers r.file.live) h.share
-        by_number None e open_now = absurd (none place h is (record { left = left; choosable = open_now; number = slice_index_or s.holdings.table.numbers h.share no_holding; there = number; unread = e }))
+        by_number None e open_now = absurd (none position h is (record { left = left; choosable = open_now; number = slice_index_or s.holdings.table.numbers h.share no_holding; there = number; unread = e }))
         by_number (Some p) e open_now = reader_of p e
 
         by_choice : (b : Bool) → h.suspended ≡ b → Contains (numbers_of r.file.readers r.file.live) h.share
-        by_choice true e = absurd (let o = reading.busy.suspended place h is left e (λ f. cc) in none_out s.holdings.requests.entries o.request idle o.out)
+        by_choice true e = absurd (let o = reading.busy.suspended position h is left e (λ f. cc) in none_out s.holdings.requests.entries o.request idle o.out)
         by_choice false e = by_number (slice_index_or s.holdings.table.numbers h.share no_holding).reading refl e
 
     left_numbers : (server share : ℕ) → share < r.file.handout.geometry.total → IsOffered s.holdings.requests.entries server share → IsLeft s.holdings.requests.entries s.holdings.blamed server share

@@ -31,17 +31,17 @@ use Rattle.share_layout.specs.Geometry.{segment_count}
 use Rattle.download_parts.proofs.NumberLemmas.{below_ceil, ceil_most}
 use Rattle.download_file.specs.Right.{IsFile}
 
-pub head_answers : {cap : VerifyCapValue} {entries : List Request} {place : ℕ} {u : Contents} → (h : IsHead cap entries place u) → IsAnsweredBy entries place h.text
+pub head_answers : {cap : VerifyCapValue} {entries : List Request} {position : ℕ} {u : Contents} → (h : IsHead cap entries position u) → IsAnsweredBy entries position h.text
 head_answers h = record { request = h.request; there = h.there; answer = h.answer }
 
--- the answer at the place is the extension block
-same_text : (cap : VerifyCapValue) (entries : List Request) (place : ℕ) (u : Contents) (h : IsHead cap entries place u) (text : List ℕ) → IsAnsweredBy entries place text → h.text ≡ text
-same_text cap entries place u h text a =
-    let one : h.request ≡ a.request = one_there (slice_get entries place) h.request a.request h.there a.there in
+-- the answer at the position is the extension block
+same_text : (cap : VerifyCapValue) (entries : List Request) (position : ℕ) (u : Contents) (h : IsHead cap entries position u) (text : List ℕ) → IsAnsweredBy entries position text → h.text ≡ text
+same_text cap entries position u h text a =
+    let one : h.request ≡ a.request = one_there (slice_get entries position) h.request a.request h.there a.there in
     let two : Answered (Data h.text) ≡ Answered (Data text) = sym h.answer ∙ ap (λ (r : Request). r.outcome) one ∙ a.answer in
     cc
 
-pub proves_made : (verify : VerifyCapValue) (cap : ReadCapValue) → verify ≡ verify_cap_of cap → (entries : List Request) (f : FoundFile) → IsHead (verify_cap_of cap) entries f.place f.reading.file.handout.ueb → (text : List ℕ) → IsAnsweredBy entries f.place text
+pub proves_made : (verify : VerifyCapValue) (cap : ReadCapValue) → verify ≡ verify_cap_of cap → (entries : List Request) (f : FoundFile) → IsHead (verify_cap_of cap) entries f.position f.reading.file.handout.ueb → (text : List ℕ) → IsAnsweredBy entries f.position text
     → (block : List ℕ) (parts : List EvidencePart) → block ≡ text → (file : FileState) → file ≡ f.reading.file → (made : List EvidencePart) → parts ≡ made
     → map (λ (p : EvidencePart). p.number) made ≡ range_with_len file.first (made_end file - file.first)
     → All (λ (p : EvidencePart). IsSegmentBy file.handout.ueb p.number p.segment p.path) made
@@ -50,7 +50,7 @@ pub proves_made : (verify : VerifyCapValue) (cap : ReadCapValue) → verify ≡ 
 proves_made verify cap is entries f head text answered block parts same file file_is made parts_are all by each = record {
   proved = record {
     ueb = subst (λ (v : VerifyCapValue). IsUebFor v block f.reading.file.handout.ueb) (sym is)
-        (subst (λ (b : List ℕ). IsUebFor (verify_cap_of cap) b f.reading.file.handout.ueb) (same_text (verify_cap_of cap) entries f.place f.reading.file.handout.ueb head text answered ∙ sym same) head.block);
+        (subst (λ (b : List ℕ). IsUebFor (verify_cap_of cap) b f.reading.file.handout.ueb) (same_text (verify_cap_of cap) entries f.position f.reading.file.handout.ueb head text answered ∙ sym same) head.block);
     parts = subst (λ (l : List EvidencePart). All (λ (p : EvidencePart). IsSegmentBy f.reading.file.handout.ueb p.number p.segment p.path) l) (sym parts_are)
         (subst (λ (x : FileState). All (λ (p : EvidencePart). IsSegmentBy x.handout.ueb p.number p.segment p.path) made) file_is by);
   };

@@ -48,10 +48,10 @@ may_stay es ns (Some f) server share offset len stays (inr k) = inr k
 pub fair_goes : (cap : VerifyCapValue) (s t : BeginningsState) (f : Option Found) → GoesFrom s.holdings.requests.entries t.holdings.requests.entries → t.holdings.blamed ≡ s.holdings.blamed → IsFair cap s f → IsFair cap t f
 fair_goes cap s t f goes blamed k = record {
   causes = λ i b is. cause_stays cap s.holdings.requests.entries t.holdings.requests.entries f b goes.stays (k.causes i b (ap (λ (l : List Blame). slice_get l i) (sym blamed) ∙ is));
-  reads = λ place r share offset len there asked. (
-      let was = goes.alike place r there in
+  reads = λ position r share offset len there asked. (
+      let was = goes.alike position r there in
       subst (λ server. MayRead t.holdings.requests.entries f server share offset len) was.of_server
-      (may_stay s.holdings.requests.entries t.holdings.requests.entries f was.request.server share offset len goes.stays (k.reads place was.request share offset len was.there (was.same ∙ asked))));
+      (may_stay s.holdings.requests.entries t.holdings.requests.entries f was.request.server share offset len goes.stays (k.reads position was.request share offset len was.there (was.same ∙ asked))));
 }
 
 -- ---- more is asked and blamed
@@ -63,23 +63,23 @@ fair_grows cap s t f goes blames reads k = record {
     | inl was ↦ cause_stays cap s.holdings.requests.entries t.holdings.requests.entries f b stays (k.causes i b was)
     | inr new ↦ blames i b is new.0
   ];
-  reads = λ place r share offset len there asked. elim (cases_lt place (length s.holdings.requests.entries)) [
-    | inl lt ↦ before place r share offset len there asked lt
-    | inr ge ↦ reads place r share offset len there ge asked
+  reads = λ position r share offset len there asked. elim (cases_lt position (length s.holdings.requests.entries)) [
+    | inl lt ↦ before position r share offset len there asked lt
+    | inr ge ↦ reads position r share offset len there ge asked
   ];
 }
   where
     stays : StaysTo s.holdings.requests.entries t.holdings.requests.entries
     stays i r there quiet = goes_stays s t goes i r there
 
-    before : (place : ℕ) (r : Request) (share offset len : ℕ) → slice_get t.holdings.requests.entries place ≡ Some r → r.asked ≡ Reading share offset len → place < length s.holdings.requests.entries
+    before : (position : ℕ) (r : Request) (share offset len : ℕ) → slice_get t.holdings.requests.entries position ≡ Some r → r.asked ≡ Reading share offset len → position < length s.holdings.requests.entries
         → MayRead t.holdings.requests.entries f r.server share offset len
-    before place r share offset len there asked lt =
+    before position r share offset len there asked lt =
         let es = s.holdings.requests.entries in
-        let old = slice_index_or es place r in
-        let was : slice_get es place ≡ Some old = slice_get-get_or es place r lt in
-        let same : old ≡ r = one_there (slice_get t.holdings.requests.entries place) old r (goes_stays s t goes place old was) there in
-        may_stay es t.holdings.requests.entries f r.server share offset len stays (k.reads place r share offset len (was ∙ ap Some same) asked)
+        let old = slice_index_or es position r in
+        let was : slice_get es position ≡ Some old = slice_get-get_or es position r lt in
+        let same : old ≡ r = one_there (slice_get t.holdings.requests.entries position) old r (goes_stays s t goes position old was) there in
+        may_stay es t.holdings.requests.entries f r.server share offset len stays (k.reads position r share offset len (was ∙ ap Some same) asked)
 
 -- shares are opened
 pub fair_opened : (cap : VerifyCapValue) (s t : BeginningsState) → GoesOn s t → AddsBlames (IsOpeningFault cap s.holdings.requests.entries) s.holdings.blamed t.holdings.blamed
@@ -96,7 +96,7 @@ fair_opened cap s t goes blames low reads =
 fair_found : (cap : VerifyCapValue) (s : BeginningsState) (f : Found) → cap.total ≡ f.file.handout.geometry.total → IsFair cap s None → IsFair cap s (Some f)
 fair_found cap s f total k = record {
   causes = λ i b is. let cause = k.causes i b is in inl (inl (inl cause.0, subst (λ n. b.share < n) total cause.1));
-  reads = λ place r share offset len there asked. inl (k.reads place r share offset len there asked);
+  reads = λ position r share offset len there asked. inl (k.reads position r share offset len there asked);
 }
 
 pub fair_accepted : (cap : VerifyCapValue) (s t : BeginningsState) (g : Geometry) (f : Found) → GoesOn s t → t.holdings.requests ≡ s.holdings.requests → f.file.handout.geometry ≡ g → cap.total ≡ g.total
@@ -129,16 +129,16 @@ cause_on cap es f g b same (inr k) = inr (block_moved es es f.file g.file b (λ 
 pub fair_on : (cap : VerifyCapValue) (s : BeginningsState) (f g : Found) → IsSameFile f.file g.file → IsFair cap s (Some f) → IsFair cap s (Some g)
 fair_on cap s f g same k = record {
   causes = λ i b is. cause_on cap s.holdings.requests.entries f g b same (k.causes i b is);
-  reads = λ place r share offset len there asked. read place r share offset len (k.reads place r share offset len there asked);
+  reads = λ position r share offset len there asked. read position r share offset len (k.reads position r share offset len there asked);
 }
   where
-    read : (place : ℕ) (r : Request) (share offset len : ℕ) → MayRead s.holdings.requests.entries (Some f) r.server share offset len → MayRead s.holdings.requests.entries (Some g) r.server share offset len
-    read place r share offset len (inl own) = inl own
-    read place r share offset len (inr planned) = inr (planned_on f.file g.file offset len same planned)
+    read : (position : ℕ) (r : Request) (share offset len : ℕ) → MayRead s.holdings.requests.entries (Some f) r.server share offset len → MayRead s.holdings.requests.entries (Some g) r.server share offset len
+    read position r share offset len (inl own) = inl own
+    read position r share offset len (inr planned) = inr (planned_on f.file g.file offset len same planned)
 
 -- parts of a file are asked for
 pub reads_for : (entries : List Request) (f : Found) (old new : List Request) → AddsReads (IsReadFor f.file) old new → AddsReads (MayRead entries (Some f)) old new
-reads_for entries f old new reads place r share offset len there le asked = inr (reads place r share offset len there le asked)
+reads_for entries f old new reads position r share offset len there le asked = inr (reads position r share offset len there le asked)
 
 -- what a message brought is refused
 pub heard_fair : (cap : VerifyCapValue) (s t : BeginningsState) (f : Found) → t.holdings.requests ≡ s.holdings.requests → AddsBlames (HasCause cap s.holdings.requests.entries f.file) s.holdings.blamed t.holdings.blamed

@@ -16,8 +16,8 @@ use Rattle.download_core.proofs.ReadLemmas.{begun_at}
 use Rattle.download_core.proofs.Records.{some_waits}
 
 -- a share whose next read is out waits
-out_counts : (s : BeginningsState) (place : ℕ) → IsOut s place → 0 < outstanding_count s.holdings.requests.entries
-out_counts s place o = some_waits s.holdings.requests.entries o.request o.out.request o.out.there o.out.waits
+out_counts : (s : BeginningsState) (position : ℕ) → IsOut s position → 0 < outstanding_count s.holdings.requests.entries
+out_counts s position o = some_waits s.holdings.requests.entries o.request o.out.request o.out.there o.out.waits
 
 -- a number is read or not
 abbrev reads_one : NumberState → ℕ
@@ -38,7 +38,7 @@ module _ (total needed : ℕ) (s : BeginningsState) (k : AreOpened total nobody 
     where
       by : (o : Option ℕ) → n.reading ≡ o → o ≡ None
       by None e = refl
-      by (Some place) e = (let w = out_counts s place (k.opening.works share place n at e (λ x. x)) in absurd (omega (arith, w, quiet)))
+      by (Some position) e = (let w = out_counts s position (k.opening.works share position n at e (λ x. x)) in absurd (omega (arith, w, quiet)))
 
   none_free : NoneIsFree s.holdings.table
   none_free = elim enough [
@@ -53,16 +53,16 @@ module _ (total needed : ℕ) (s : BeginningsState) (k : AreOpened total nobody 
       let held = k.known.held server share offered inside in
       by held.0 held.1 held.2 held.3 held.4 inside held.1.left refl
     where
-      by : (place : ℕ) (h : Holding) → IsHolding s.holdings.table place h → h.server ≡ server → h.share ≡ share → share < length s.holdings.table.numbers → (is_left : Bool) → h.left ≡ is_left → ⊥
-      by place h is of_server of_share inside false e = elim (k.known.right.others place h is e) [
+      by : (position : ℕ) (h : Holding) → IsHolding s.holdings.table position h → h.server ≡ server → h.share ≡ share → share < length s.holdings.table.numbers → (is_left : Bool) → h.left ≡ is_left → ⊥
+      by position h is of_server of_share inside false e = elim (k.known.right.others position h is e) [
         | inl gone ↦ left.0 (subst (λ (n : ℕ). IsGone s.holdings.requests.entries n share) of_server (subst (λ (n : ℕ). IsGone s.holdings.requests.entries h.server n) of_share gone))
         | inr blamed ↦ left.1 (subst (λ (n : ℕ). IsBlamed s.holdings.blamed n share) of_server (subst (λ (n : ℕ). IsBlamed s.holdings.blamed h.server n) of_share blamed))
       ]
-      by place h is of_server of_share inside true e =
+      by position h is of_server of_share inside true e =
           let at : IsNumber s.holdings.table h.share (slice_index_or s.holdings.table.numbers share no_holding) = ap (slice_get s.holdings.table.numbers) of_share ∙ slice_get-get_or s.holdings.table.numbers share no_holding inside in
-          none_free place h is (record {
+          none_free position h is (record {
             left = e;
-            choosable = (k.opening.each place h (slice_index_or s.begun place unbegun) is (begun_at s place h k.known.counted is)).choosable;
+            choosable = (k.opening.each position h (slice_index_or s.begun position unbegun) is (begun_at s position h k.known.counted is)).choosable;
             number = slice_index_or s.holdings.table.numbers share no_holding;
             there = at;
             unread = unread h.share (slice_index_or s.holdings.table.numbers share no_holding) at;

@@ -3,7 +3,7 @@ use Rattle.std.proofs.Common.{◌≡◌, ℕ, zero, suc, ◌+◌, ◌-◌, ◌<�
 use Rattle.std.specs.Prelude.{Bool, slice_get, slice_set, slice_index_or}
 use Rattle.std.proofs.lemmas.Bool.{cases_eq, cases_lt}
 use Rattle.std.proofs.lemmas.Option.{slice_get-get_or, slice_get_within}
-use Rattle.lemmas.proofs.Places.{get_set, get_other, set_cases, get_left}
+use Rattle.lemmas.proofs.Positions.{get_set, get_other, set_cases, get_left}
 use Rattle.lemmas.proofs.Options.{one_there}
 use Rattle.request_record.specs.declared.requests.Asked.TheVariants.{Holdings, Reading}
 use Rattle.request_record.specs.declared.requests.Request.{Request}
@@ -17,7 +17,7 @@ use Rattle.download_shares.specs.BeginningMoves.{rested}
 use Rattle.download_shares.specs.Reads.{IsReadAt}
 use Rattle.download_shares.specs.BeginningState.{unbegun}
 use Rattle.download_shares.specs.declared.begun.Begun.{Begun}
-use Rattle.download_shares.proofs.Asking.{distinct_places}
+use Rattle.download_shares.proofs.Asking.{distinct_positions}
 use Rattle.download_shares.proofs.Entries.{read_alike}
 use Rattle.download_shares.proofs.Falling.{Falls, IsReadOn}
 use Rattle.download_shares.proofs.Hearing.{Becomes, becomes_falls}
@@ -26,9 +26,9 @@ use Rattle.download_shares.proofs.Knowing.{shares_suspended}
 -- ---- the holdings
 
 -- a holding as it was
-pub record WasHeld (t : TableState) (place : ℕ) (g : Holding) : Type 0 where
+pub record WasHeld (t : TableState) (position : ℕ) (g : Holding) : Type 0 where
   pub held : Holding
-  pub is : IsHolding t place held
+  pub is : IsHolding t position held
   pub of_server : g.server ≡ held.server
   pub of_share : g.share ≡ held.share
   pub left : g.left ≡ true → held.left ≡ true
@@ -36,20 +36,20 @@ pub record WasHeld (t : TableState) (place : ℕ) (g : Holding) : Type 0 where
 -- the holdings are of the same shares, fewer are left and read, and more may come behind them
 pub record Follows (t u : TableState) : Type 0 where
   pub count : length u.numbers ≡ length t.numbers
-  pub forth : (place : ℕ) (h : Holding) → IsHolding t place h
-      → (g : Holding) × IsHolding u place g × (g.server ≡ h.server) × (g.share ≡ h.share)
-  pub back : (place : ℕ) (g : Holding) → IsHolding u place g
-      → WasHeld t place g ⊎ (length t.holdings ≤ place)
-  pub kept : (share place : ℕ) (n : NumberState) → IsNumber t share n → n.reading ≡ Some place
-      → IsReadOn u share place
-  pub reading : (share place : ℕ) (m : NumberState) → IsNumber u share m → m.reading ≡ Some place
-      → (n : NumberState) × IsNumber t share n × (n.reading ≡ Some place)
+  pub forth : (position : ℕ) (h : Holding) → IsHolding t position h
+      → (g : Holding) × IsHolding u position g × (g.server ≡ h.server) × (g.share ≡ h.share)
+  pub back : (position : ℕ) (g : Holding) → IsHolding u position g
+      → WasHeld t position g ⊎ (length t.holdings ≤ position)
+  pub kept : (share position : ℕ) (n : NumberState) → IsNumber t share n → n.reading ≡ Some position
+      → IsReadOn u share position
+  pub reading : (share position : ℕ) (m : NumberState) → IsNumber u share m → m.reading ≡ Some position
+      → (n : NumberState) × IsNumber t share n × (n.reading ≡ Some position)
 
 pub follows_becomes : (t u : TableState) → Becomes t u → Follows t u
 follows_becomes t u b = record {
   count = b.count;
   forth = b.forth;
-  back = λ place g e. elim (b.back place g e) [
+  back = λ position g e. elim (b.back position g e) [
     | inl w ↦ inl (record { held = w.held; is = w.is; of_server = w.of_server; of_share = w.of_share; left = w.left })
     | inr new ↦ inr new.0
   ];
@@ -64,20 +64,20 @@ pub follows_suspended : (holding : ℕ) (suspended : Bool) (t u : TableState) �
 follows_suspended holding suspended t u k = record {
   count = ap length k.0;
   forth = (shares_suspended suspended holding t u k).pairs.forth;
-  back = λ place g e. inl (was place g (set_cases t.holdings holding place (record k.1.0 { suspended = suspended }) g (sym (ap (λ (l : List Holding). slice_get l place) k.1.1.holdings) ∙ e)));
-  kept = λ share place n e reads. inl (n, ap (λ (l : List NumberState). slice_get l share) k.0 ∙ e, reads);
-  reading = λ share place m e reads. (m, sym (ap (λ (l : List NumberState). slice_get l share) k.0) ∙ e, reads);
+  back = λ position g e. inl (was position g (set_cases t.holdings holding position (record k.1.0 { suspended = suspended }) g (sym (ap (λ (l : List Holding). slice_get l position) k.1.1.holdings) ∙ e)));
+  kept = λ share position n e reads. inl (n, ap (λ (l : List NumberState). slice_get l share) k.0 ∙ e, reads);
+  reading = λ share position m e reads. (m, sym (ap (λ (l : List NumberState). slice_get l share) k.0) ∙ e, reads);
 }
   where
-    was : (place : ℕ) (g : Holding) → ((place ≡ holding) × (record k.1.0 { suspended = suspended } ≡ g)) ⊎ ((place ≡ holding → ⊥) × (slice_get t.holdings place ≡ Some g)) → WasHeld t place g
-    was place g (inl here) = record {
+    was : (position : ℕ) (g : Holding) → ((position ≡ holding) × (record k.1.0 { suspended = suspended } ≡ g)) ⊎ ((position ≡ holding → ⊥) × (slice_get t.holdings position ≡ Some g)) → WasHeld t position g
+    was position g (inl here) = record {
       held = k.1.0;
       is = ap (slice_get t.holdings) here.0 ∙ k.1.1.is;
       of_server = sym (ap (λ (x : Holding). x.server) here.1);
       of_share = sym (ap (λ (x : Holding). x.share) here.1);
       left = λ l. ap (λ (x : Holding). x.left) here.1 ∙ l;
     }
-    was place g (inr old) = record { held = g; is = old.1; of_server = refl; of_share = refl; left = λ l. l }
+    was position g (inr old) = record { held = g; is = old.1; of_server = refl; of_share = refl; left = λ l. l }
 
 -- ---- their readers
 
@@ -165,10 +165,10 @@ read_of_some s g i offset len right read = elim (cases_lt i s.servers) [
         }
 
 -- nothing was asked of those that came behind the others
-pub none_asked_behind : (s u : HoldingsState) (place : ℕ) (g : Holding) (i offset len : ℕ) → IsRight s → IsRight u → Follows s.table u.table → AskedAlike s.requests.entries u.requests.entries
-    → IsHolding u.table place g → length s.table.holdings ≤ place → IsReadAt u.requests.entries g i offset len → ⊥
-none_asked_behind s u place g i offset len right now follows alike is le read =
+pub none_asked_behind : (s u : HoldingsState) (position : ℕ) (g : Holding) (i offset len : ℕ) → IsRight s → IsRight u → Follows s.table u.table → AskedAlike s.requests.entries u.requests.entries
+    → IsHolding u.table position g → length s.table.holdings ≤ position → IsReadAt u.requests.entries g i offset len → ⊥
+none_asked_behind s u position g i offset len right now follows alike is le read =
     let o = read_of_some s g i offset len right (read_alike s.requests.entries u.requests.entries g g i offset len alike refl refl read) in
     let f = follows.forth o.holding o.held o.is in
     let inside = slice_get_within s.table.holdings o.holding o.held o.is in
-    distinct_places now o.holding place f.0 g f.1 is (f.2 ∙ o.of_server) (f.3 ∙ o.of_share) (λ e. omega (arith, inside, le, e))
+    distinct_positions now o.holding position f.0 g f.1 is (f.2 ∙ o.of_server) (f.3 ∙ o.of_share) (λ e. omega (arith, inside, le, e))

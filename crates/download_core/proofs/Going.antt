@@ -68,7 +68,7 @@ pieces_trans x y z first second = record {
 
 pub grows_none : (from : ℕ) (f : Option FoundFile) → FoundGrows from f f
 grows_none from None = tt
-grows_none from (Some f) = record { place = refl; same = same_itself f.reading.file; pieces = pieces_none f.reading.file.handout }
+grows_none from (Some f) = record { position = refl; same = same_itself f.reading.file; pieces = pieces_none f.reading.file.handout }
 
 pub grows_trans : (from : ℕ) (x y z : Option FoundFile) → FoundGrows from x y → FoundGrows from y z → FoundGrows from x z
 grows_trans from None None None first second = tt
@@ -78,7 +78,7 @@ grows_trans from None (Some b) (Some c) first second = second.pieces.handed ∙ 
 grows_trans from (Some a) None z first second = absurd first
 grows_trans from (Some a) (Some b) None first second = absurd second
 grows_trans from (Some a) (Some b) (Some c) first second = record {
-  place = second.place ∙ first.place;
+  position = second.position ∙ first.position;
   same = same_two a.reading.file b.reading.file c.reading.file first.same second.same;
   pieces = pieces_trans a.reading.file.handout b.reading.file.handout c.reading.file.handout first.pieces second.pieces;
 }
@@ -100,15 +100,15 @@ plans_trans from es ns ms None (Some g) stays grows (inr same) first second = su
 plans_trans from es ns ms (Some f) None stays grows still first second = absurd grows
 plans_trans from es ns ms (Some f) (Some g) stays grows still first second =
     reads_trans (reads_planned g.reading.file) es ns ms stays
-    (λ place r share offset len there le asked. planned_on f.reading.file g.reading.file offset len grows.same (first place r share offset len there le asked))
+    (λ position r share offset len there le asked. planned_on f.reading.file g.reading.file offset len grows.same (first position r share offset len there le asked))
     second
 
 -- as many requests were there before the record went on
 pub plans_from : (f : Option Found) (es ns ms : List Request) → AskedAlike es ns → PlansMore f ns ms → PlansMore f es ms
 plans_from None es ns ms alike more = tt
-plans_from (Some f) es ns ms alike more = λ place r share offset len there le asked. elim (cases_lt place (length ns)) [
-  | inl lt ↦ (let w = alike place (slice_index_or ns place r) (slice_get-get_or ns place r lt) in let l = slice_get_within es place w.request w.there in absurd (omega (arith, l, le)))
-  | inr ge ↦ more place r share offset len there ge asked
+plans_from (Some f) es ns ms alike more = λ position r share offset len there le asked. elim (cases_lt position (length ns)) [
+  | inl lt ↦ (let w = alike position (slice_index_or ns position r) (slice_get-get_or ns position r lt) in let l = slice_get_within es position w.request w.there in absurd (omega (arith, l, le)))
+  | inr ge ↦ more position r share offset len there ge asked
 ]
 
 -- ---- the whole
@@ -161,26 +161,26 @@ moves_read m f t r is on blames = record {
   from_is = refl;
   to_is = refl;
   goes = on.goes;
-  found = subst (λ (o : Option FoundFile). FoundGrows m.from o (Some (record f { reading = r }))) (sym is) (record { place = refl; same = on.same; pieces = on.pieces });
+  found = subst (λ (o : Option FoundFile). FoundGrows m.from o (Some (record f { reading = r }))) (sym is) (record { position = refl; same = on.same; pieces = on.pieces });
   file = λ k. file (subst (λ (o : Option FoundFile). IsFileIfFound m.cap m.from m.to (entries_of m) (found_of o)) is k);
   fair = λ k. fair (subst (λ (o : Option FoundFile). IsFair (verify_cap_of m.cap) m.beginnings (found_of o)) is k);
-  later = λ place q share offset len there le asked. planned_on f.reading.file r.file offset len on.same (on.reads place q share offset len there le asked);
+  later = λ position q share offset len there le asked. planned_on f.reading.file r.file offset len on.same (on.reads position q share offset len there le asked);
 }
   where
     fair : IsFair (verify_cap_of m.cap) m.beginnings (found_of (Some f)) → IsFair (verify_cap_of m.cap) t (found_of (Some (record f { reading = r })))
     fair k =
-        let old : Found = record { place = f.place; file = f.reading.file } in
-        let new : Found = record { place = f.place; file = r.file } in
+        let old : Found = record { position = f.position; file = f.reading.file } in
+        let new : Found = record { position = f.position; file = r.file } in
         fair_grows (verify_cap_of m.cap) m.beginnings t (Some new) on.goes blames
         (reads_for t.holdings.requests.entries new (entries_of m) t.holdings.requests.entries
-        (λ place q share offset len there le asked. planned_on f.reading.file r.file offset len on.same (on.reads place q share offset len there le asked)))
+        (λ position q share offset len there le asked. planned_on f.reading.file r.file offset len on.same (on.reads position q share offset len there le asked)))
         (fair_on (verify_cap_of m.cap) m.beginnings old new on.same k)
 
     file : IsFileIfFound m.cap m.from m.to (entries_of m) (found_of (Some f)) → IsFileIfFound m.cap m.from m.to t.holdings.requests.entries (found_of (Some (record f { reading = r })))
     file k =
         let more = file_stays m.cap m.from m.to (entries_of m) t.holdings.requests.entries (found_of (Some f)) (stays_on m.beginnings t on.goes) k in
         record {
-          head = subst (λ (u : Contents). IsHead (verify_cap_of m.cap) t.holdings.requests.entries f.place u) (sym on.same.ueb) more.head;
+          head = subst (λ (u : Contents). IsHead (verify_cap_of m.cap) t.holdings.requests.entries f.position u) (sym on.same.ueb) more.head;
           key = on.same.key ∙ k.key;
           first = on.same.first ∙ k.first ∙ ap (λ (g : Geometry). m.from / g.segment_size) (sym on.same.geometry);
           to_is = on.same.to ∙ k.to_is;
@@ -200,7 +200,7 @@ moves_found m t g is goes handed same blames total low file = record {
   goes = goes;
   found = subst (λ (o : Option FoundFile). FoundGrows m.from o (Some g)) (sym is) handed;
   file = λ k. file;
-  fair = λ k. fair_accepted (verify_cap_of m.cap) m.beginnings t g.reading.file.handout.geometry (record { place = g.place; file = g.reading.file }) goes same refl total blames low
+  fair = λ k. fair_accepted (verify_cap_of m.cap) m.beginnings t g.reading.file.handout.geometry (record { position = g.position; file = g.reading.file }) goes same refl total blames low
       (subst (λ (f : Option FoundFile). IsFair (verify_cap_of m.cap) m.beginnings (found_of f)) is k);
   later = plans_none (found_of (Some g)) (entries_of m) t.holdings.requests.entries (ap (λ (r : RequestsState). r.entries) same);
 }
@@ -233,45 +233,45 @@ for_on m n on wanted = record {
 }
 
 -- nothing came to the shares that are opened
-pub opened_still : (total : ℕ) (s : BeginningsState) (told : News) → ((holding place : ℕ) → told ≡ news.Beginning holding place → ⊥) → AreOpened total (IsToldOf told) s → AreOpened total nobody s
+pub opened_still : (total : ℕ) (s : BeginningsState) (told : News) → ((holding position : ℕ) → told ≡ news.Beginning holding position → ⊥) → AreOpened total (IsToldOf told) s → AreOpened total nobody s
 opened_still total s news.Nothing other k = record { known = k.known; opening = k.opening; count = k.count }
 opened_still total s (news.Gone holding) other k = record { known = k.known; opening = k.opening; count = k.count }
-opened_still total s (news.Bytes holding place) other k = record { known = k.known; opening = k.opening; count = k.count }
-opened_still total s (news.Beginning holding place) other k = absurd (other holding place refl)
+opened_still total s (news.Bytes holding position) other k = record { known = k.known; opening = k.opening; count = k.count }
+opened_still total s (news.Beginning holding position) other k = absurd (other holding position refl)
 
 -- an extension block is accepted, and nothing of its file is read yet
-module _ (m : Machine) (t : BeginningsState) (place : ℕ) (o : Opened) (r : ReadingState) (none : m.found ≡ None) (wanted : IsFor m) (block : IsBlockAt m.verify (entries_of m) place o)
+module _ (m : Machine) (t : BeginningsState) (position : ℕ) (o : Opened) (r : ReadingState) (none : m.found ≡ None) (wanted : IsFor m) (block : IsBlockAt m.verify (entries_of m) position o)
     (goes : GoesOn m.beginnings t) (same : t.holdings.requests ≡ m.beginnings.holdings.requests) (file : r.file ≡ new_file m.cap.key o.ueb o.geometry m.from m.to) where
-  head : IsHead (verify_cap_of m.cap) t.holdings.requests.entries place o.ueb
-  head = subst (λ (q : RequestsState). IsHead (verify_cap_of m.cap) q.entries place o.ueb) (sym same)
-      (subst (λ (c : VerifyCapValue). IsHead c (entries_of m) place o.ueb) wanted.verify
+  head : IsHead (verify_cap_of m.cap) t.holdings.requests.entries position o.ueb
+  head = subst (λ (q : RequestsState). IsHead (verify_cap_of m.cap) q.entries position o.ueb) (sym same)
+      (subst (λ (c : VerifyCapValue). IsHead c (entries_of m) position o.ueb) wanted.verify
       (record { request = block.request; there = block.there; share = block.share; offset = block.offset; len = block.len; asked = block.asked; text = block.text; answer = block.answer; whole = block.whole; block = block.block }))
 
   nothing_read : IsRead t.holdings.requests.entries (new_file m.cap.key o.ueb o.geometry m.from m.to)
   nothing_read = record {
-    held = λ place r at. absurd cc;
+    held = λ position r at. absurd cc;
     made = λ group number among. absurd (Contains-nil group among);
     ready = λ p among. absurd (Contains-nil p among);
   }
 
-  file_of : IsFileIfFound m.cap m.from m.to t.holdings.requests.entries (found_of (Some (record { place = place; reading = r })))
+  file_of : IsFileIfFound m.cap m.from m.to t.holdings.requests.entries (found_of (Some (record { position = position; reading = r })))
   file_of = record {
-    head = subst (λ (f : FileState). IsHead (verify_cap_of m.cap) t.holdings.requests.entries place f.handout.ueb) (sym file) head;
+    head = subst (λ (f : FileState). IsHead (verify_cap_of m.cap) t.holdings.requests.entries position f.handout.ueb) (sym file) head;
     key = ap (λ (f : FileState). f.handout.key) file;
     first = ap (λ (f : FileState). f.first) file ∙ ap (λ (f : FileState). m.from / f.handout.geometry.segment_size) (sym file);
     to_is = ap (λ (f : FileState). f.handout.to) file;
     answers = subst (IsRead t.holdings.requests.entries) (sym file) nothing_read;
   }
 
-  pub found_way : AreReading t r → IsUnderWay (record m { beginnings = t; found = Some (record { place = place; reading = r }) })
+  pub found_way : AreReading t r → IsUnderWay (record m { beginnings = t; found = Some (record { position = position; reading = r }) })
   found_way reading = record { wanted = record { verify = wanted.verify; some = wanted.some; inside = wanted.inside }; file = file_of; phase = reading }
 
   total_is : m.cap.total ≡ o.geometry.total
   total_is = sym (ap (λ (v : VerifyCapValue). v.total) wanted.verify) ∙ sym block.block.total ∙ ap (λ (g : Geometry). g.total) (sym block.geometry)
 
   pub found_moves : AddsBlames (IsOtherHeader o.geometry (entries_of m)) m.beginnings.holdings.blamed t.holdings.blamed
-      → AddsBlames (λ b. b.share < m.cap.total) m.beginnings.holdings.blamed t.holdings.blamed → MovesOn m (record m { beginnings = t; found = Some (record { place = place; reading = r }) })
-  found_moves blames low = moves_found m t (record { place = place; reading = r }) none goes (ap (λ (f : FileState). f.handout.handed) file) same
+      → AddsBlames (λ b. b.share < m.cap.total) m.beginnings.holdings.blamed t.holdings.blamed → MovesOn m (record m { beginnings = t; found = Some (record { position = position; reading = r }) })
+  found_moves blames low = moves_found m t (record { position = position; reading = r }) none goes (ap (λ (f : FileState). f.handout.handed) file) same
       (subst (λ (f : FileState). AddsBlames (IsOtherHeader f.handout.geometry (entries_of m)) m.beginnings.holdings.blamed t.holdings.blamed) (sym file) blames)
       (total_is ∙ ap (λ (f : FileState). f.handout.geometry.total) (sym file)) low file_of
 
@@ -280,7 +280,7 @@ module _ (m : Machine) (t : BeginningsState) (place : ℕ) (o : Opened) (r : Rea
 head_grows : (from : ℕ) (f g : Option FoundFile) → FoundGrows from f g → StaysAccepted (accepted_in (found_of f)) (accepted_in (found_of g))
 head_grows from None g more = tt
 head_grows from (Some a) None more = absurd more
-head_grows from (Some a) (Some b) more = ap Some more.place
+head_grows from (Some a) (Some b) more = ap Some more.position
 
 handed_grows : (from : ℕ) (f g : Option FoundFile) → FoundGrows from f g → handed_in from (found_of g) ≡ handed_in from (found_of f)
 handed_grows from None None more = refl
@@ -304,10 +304,10 @@ given_grows : (from : ℕ) (es ns : List Request) (f g : Option FoundFile) (cap 
 given_grows from es ns None g cap to stays has more p found there given = absurd cc
 given_grows from es ns (Some a) None cap to stays has more p found there given = absurd more
 given_grows from es ns (Some a) (Some b) cap to stays has more p found there given =
-    let same : record { place = a.place; file = a.reading.file } ≡ found = cc in
+    let same : record { position = a.position; file = a.reading.file } ≡ found = cc in
     let here : file.IsGivenBy es a.reading.file p = subst (λ (x : Found). file.IsGivenBy es x.file p) (sym same) given in
     record {
-      found = record { place = b.place; file = b.reading.file };
+      found = record { position = b.position; file = b.reading.file };
       there = refl;
       given = more.same.given ns p (given_keep es ns a.reading.file p (keeps_answers es ns stays) has.answers here);
     }
@@ -316,22 +316,22 @@ given_grows from es ns (Some a) (Some b) cap to stays has more p found there giv
 pub record HashesStill (ns : List Request) (o : Option Found) (block input : List ℕ) : Type 0 where
   pub found : Found
   pub there : o ≡ Some found
-  pub answer : AnsweredWith ns found.place block
+  pub answer : AnsweredWith ns found.position block
   pub hashed : IsHashedWith ns found.file block input
 
 hashed_grows : (from : ℕ) (es ns : List Request) (f g : Option FoundFile) (cap : ReadCapValue) (to : ℕ) → StaysTo es ns → IsFileIfFound cap from to es (found_of f) → FoundGrows from f g
-    → (block input : List ℕ) (found : Found) → found_of f ≡ Some found → AnsweredWith es found.place block → IsHashedWith es found.file block input → HashesStill ns (found_of g) block input
+    → (block input : List ℕ) (found : Found) → found_of f ≡ Some found → AnsweredWith es found.position block → IsHashedWith es found.file block input → HashesStill ns (found_of g) block input
 hashed_grows from es ns None g cap to stays has more block input found there answer hashed = absurd cc
 hashed_grows from es ns (Some a) None cap to stays has more block input found there answer hashed = absurd more
 hashed_grows from es ns (Some a) (Some b) cap to stays has more block input found there answer hashed =
-    let same : record { place = a.place; file = a.reading.file } ≡ found = cc in
-    let here : AnsweredWith es a.place block = subst (λ (x : Found). AnsweredWith es x.place block) (sym same) answer in
+    let same : record { position = a.position; file = a.reading.file } ≡ found = cc in
+    let here : AnsweredWith es a.position block = subst (λ (x : Found). AnsweredWith es x.position block) (sym same) answer in
     let own : IsHashedWith es a.reading.file block input = subst (λ (x : Found). IsHashedWith es x.file block input) (sym same) hashed in
     record {
-      found = record { place = b.place; file = b.reading.file };
+      found = record { position = b.position; file = b.reading.file };
       there = refl;
-      answer = subst (λ (n : ℕ). AnsweredWith ns n block) (sym more.place)
-          (record { request = here.request; there = keeps_answers es ns stays a.place here.request _ here.there here.answer; answer = here.answer });
+      answer = subst (λ (n : ℕ). AnsweredWith ns n block) (sym more.position)
+          (record { request = here.request; there = keeps_answers es ns stays a.position here.request _ here.there here.answer; answer = here.answer });
       hashed = elim own [
         | inl is ↦ inl is
         | inr k ↦ inr (hashed_stay es ns a.reading.file b.reading.file input (keeps_answers es ns stays) has.answers more.same k)
@@ -349,10 +349,10 @@ tested_grows : (from : ℕ) (es ns : List Request) (f g : Option FoundFile) (cap
 tested_grows from es ns None g cap to stays has more input found there tested = absurd cc
 tested_grows from es ns (Some a) None cap to stays has more input found there tested = absurd more
 tested_grows from es ns (Some a) (Some b) cap to stays has more input found there tested =
-    let same : record { place = a.place; file = a.reading.file } ≡ found = cc in
+    let same : record { position = a.position; file = a.reading.file } ≡ found = cc in
     let own : IsTested es a.reading.file input = subst (λ (x : Found). IsTested es x.file input) (sym same) tested in
     record {
-      found = record { place = b.place; file = b.reading.file };
+      found = record { position = b.position; file = b.reading.file };
       there = refl;
       tested = tested_stay es ns a.reading.file b.reading.file input (keeps_answers es ns stays) has.answers more.same own;
     }

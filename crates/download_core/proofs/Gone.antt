@@ -7,7 +7,7 @@ use Rattle.download_segments.specs.State.{HandoutState}
 use Rattle.download_segments.specs.Handout.{next_segment}
 use Rattle.download_file.specs.Asked.{AreAskedUp, IsAskedUp}
 use Rattle.download_file.specs.Making.{CanNotGoOn, MustWait, SomeWaits}
-use Rattle.download_file.specs.State.{FileState, IsComplete, IsLive, ReaderState, first_place, waiting_in}
+use Rattle.download_file.specs.State.{FileState, IsComplete, IsLive, ReaderState, first_position, waiting_in}
 use Rattle.download_core.specs.ReadingPrompt.{IsPrompt}
 use Rattle.download_core.specs.Reading.{AreReading}
 use Rattle.download_core.specs.ReadingState.{ReadingState}
@@ -28,8 +28,8 @@ module _ (a b d : BeginningsState) (x y z : ReadingState) (enough : (x.file.hand
   moved w = record {
     reader = w.reader;
     live = subst (λ (l : List ℕ). Contains l w.reader) (sym still.live) w.live;
-    place = w.place;
-    first = ap (λ (l : List ReaderState). first_place (waiting_in (slice_get l w.reader))) still.readers ∙ w.first;
+    position = w.position;
+    first = ap (λ (l : List ReaderState). first_position (waiting_in (slice_get l w.reader))) still.readers ∙ w.first;
   }
 
   few : length y.file.live < y.file.handout.geometry.needed → (x.file.handout.geometry.needed ≤ length x.file.live) ⊎ NoneIsFree a.holdings.table → IsStuck d z
@@ -61,7 +61,7 @@ pub prompt_now : (patient : Bool) (s : BeginningsState) (r : ReadingState) → A
 prompt_now patient s r reading waits asked = record {
   waits = waits;
   asked = asked;
-  out = λ reader place live first.
+  out = λ reader position live first.
       let k = reading.linked.live reader live in
-      reading.awaits.first reader place k.held (record { live = live; holding = k.holding; of = k.of; is = k.is; left = k.left }) (λ e. cc) first;
+      reading.awaits.first reader position k.held (record { live = live; holding = k.holding; of = k.of; is = k.is; left = k.left }) (λ e. cc) first;
 }

@@ -59,9 +59,9 @@ sent_stays old new (Some f) takes = λ p g.
     subst (λ (d : DownloadState). IsGivenBy d p) (sym takes.3) (record { found = g.found; there = g.there; given = g.given })
 
 -- where a piece is taken
-module _ (entries : List Request) (pieces : List Piece) (place : ℕ) (f : Found) where
+module _ (entries : List Request) (pieces : List Piece) (position : ℕ) (f : Found) where
   abbrev after : FileState
-  after = (with_handed pieces place f).file
+  after = (with_handed pieces position f).file
 
   module _ (number : ℕ) (segment : List ℕ) (m : file.IsMadeSegment entries f.file number segment) where
     again : IsMade entries after.handout after.readers m.group number
@@ -97,19 +97,19 @@ sent_hashed old new None takes = hashed_itself old new takes.1
 sent_hashed old new (Some f) takes = λ input h.
     subst (λ (d : DownloadState). IsHashed d input) (sym takes.3) (record { found = h.found; there = h.there; block = h.block; answer = h.answer; hashed = h.hashed })
 
-handed_hashed : (entries : List Request) (pieces : List Piece) (place : ℕ) (f : Found) (block input : List ℕ)
-    → IsHashedWith entries f.file block input → IsHashedWith entries (with_handed pieces place f).file block input
-handed_hashed entries pieces place f block input (inl is) = inl is
-handed_hashed entries pieces place f block input (inr (file_hashed.segment number bytes m is)) =
+handed_hashed : (entries : List Request) (pieces : List Piece) (position : ℕ) (f : Found) (block input : List ℕ)
+    → IsHashedWith entries f.file block input → IsHashedWith entries (with_handed pieces position f).file block input
+handed_hashed entries pieces position f block input (inl is) = inl is
+handed_hashed entries pieces position f block input (inr (file_hashed.segment number bytes m is)) =
     inr (file_hashed.segment number bytes
-    (record { group = m.group; among = m.among; from = m.from; before = m.before; made = again entries pieces place f number bytes m; is = again_is entries pieces place f number bytes m ∙ m.is }) is)
-handed_hashed entries pieces place f block input (inr (file_hashed.node k)) =
+    (record { group = m.group; among = m.among; from = m.from; before = m.before; made = again entries pieces position f number bytes m; is = again_is entries pieces position f number bytes m ∙ m.is }) is)
+handed_hashed entries pieces position f block input (inr (file_hashed.node k)) =
     inr (file_hashed.node (record { number = k.number; left = k.left; right = k.right; knows_left = k.knows_left; knows_right = k.knows_right; is = k.is }))
 
 pub taken_hashed : (old new : DownloadState) (o : Option Piece) → TakesPiece old o new → StaysHashed old new
 taken_hashed old new None takes = hashed_itself old new takes.1
 taken_hashed old new (Some q) takes = λ input h.
-    let end : ℕ = q.place + length q.bytes in
+    let end : ℕ = q.offset + length q.bytes in
     subst (λ (d : DownloadState). IsHashed d input) (sym takes.1) (record {
       found = with_handed (ready new) end h.found;
       there = ap (found_handed (ready new) end) h.there;
@@ -121,7 +121,7 @@ taken_hashed old new (Some q) takes = λ input h.
 pub taken_stays : (old new : DownloadState) (o : Option Piece) → TakesPiece old o new → StaysGiven old new
 taken_stays old new None takes = stays_itself old new takes.1
 taken_stays old new (Some q) takes = λ p g.
-    let end : ℕ = q.place + length q.bytes in
+    let end : ℕ = q.offset + length q.bytes in
     subst (λ (d : DownloadState). IsGivenBy d p) (sym takes.1) (record {
       found = with_handed (ready new) end g.found;
       there = ap (found_handed (ready new) end) g.there;

@@ -2,7 +2,7 @@
 use Rattle.std.proofs.Common.{◌≡◌, ℕ, ◌-◌, ◌≤◌, ◌⊎◌, inl, inr, true, false, List, length, Option, Some, None, refl, sym, ap, subst, ◌∙◌, arith, true≢false}
 use Rattle.std.specs.Prelude.{◌≢◌, slice_get, slice_index_or}
 use Rattle.std.proofs.lemmas.Option.{slice_get-get_or, slice_get_within}
-use Rattle.lemmas.proofs.Places.{get_left}
+use Rattle.lemmas.proofs.Positions.{get_left}
 use Rattle.lemmas.proofs.Options.{one_there}
 use Rattle.request_record.specs.declared.requests.Asked.TheVariants.{Holdings, Reading}
 use Rattle.request_record.specs.declared.requests.Outcome.TheVariants.{Answered}
@@ -82,7 +82,7 @@ module _ (s u : BeginningsState) (r : ReadingState) (from : ℕ) (m : Message) (
   readers = readers_more hears.count s.begun u.begun hears.begun
 
   pub heard_answers : IsRead ns r.file
-  heard_answers = reads_keep es ns r.file (λ place q body there answer. grows.stays place q there (ap is_outstanding answer)) reading.linked.kept.answers
+  heard_answers = reads_keep es ns r.file (λ position q body there answer. grows.stays position q there (ap is_outstanding answer)) reading.linked.kept.answers
 
   pub heard_kept : AreKept u r
   heard_kept = fallen_kept s u r reading.linked known follows readers alike heard_answers
@@ -130,36 +130,36 @@ module _ (s u : BeginningsState) (r : ReadingState) (from : ℕ) (m : Message) (
   pub heard_awaits : (but : Option ℕ) → IsToldReader u told but → AreAwaited but u r
   heard_awaits but is = fallen_awaits s u r reading.linked.kept follows None but reading.awaits still out
     where
-      moved : (reader : ℕ) (g : Holding) (w : Waiting) → IsReading u r reader g → IsAskedOf es g w → IsOutAt es w.place → (holding : ℕ) × IsOf r reader holding × (IsOutAt ns w.place ⊎ (what ≡ heard.Bytes holding w.place))
+      moved : (reader : ℕ) (g : Holding) (w : Waiting) → IsReading u r reader g → IsAskedOf es g w → IsOutAt es w.position → (holding : ℕ) × IsOf r reader holding × (IsOutAt ns w.position ⊎ (what ≡ heard.Bytes holding w.position))
       moved reader g w k a o =
           let h = read_back s u r reading.linked.kept follows reader g k in
           let one : h.1.holding ≡ k.holding = one_there (slice_get r.holdings reader) h.1.holding k.holding h.1.of k.of in (
             k.holding,
             k.of,
-            out_or_told k.holding h.0 g w.place w.wanted.read.place w.wanted.read.length (subst (λ x. IsHolding s.holdings.table x h.0) one h.1.is) k.is k.left
-                (read_as es g h.0 w.place w.wanted.read.place w.wanted.read.length (sym h.2) (sym h.3) a.read) o,
+            out_or_told k.holding h.0 g w.position w.wanted.read.offset w.wanted.read.length (subst (λ x. IsHolding s.holdings.table x h.0) one h.1.is) k.is k.left
+                (read_as es g h.0 w.position w.wanted.read.offset w.wanted.read.length (sym h.2) (sym h.3) a.read) o,
           )
 
       still : (reader : ℕ) (g : Holding) (w : Waiting) → IsReading u r reader g → IsAskedOf es g w → IsAskedOf ns g w
       still reader g w k a = record {
-        read = read_grows es ns g g w.place w.wanted.read.place w.wanted.read.length grows refl refl a.read;
+        read = read_grows es ns g g w.position w.wanted.read.offset w.wanted.read.length grows refl refl a.read;
         state = state_of a.state;
       }
         where
-          state_of : IsOutAt es w.place ⊎ ((b : List ℕ) × IsAnsweredBy es w.place b) → IsOutAt ns w.place ⊎ ((b : List ℕ) × IsAnsweredBy ns w.place b)
+          state_of : IsOutAt es w.position ⊎ ((b : List ℕ) × IsAnsweredBy es w.position b) → IsOutAt ns w.position ⊎ ((b : List ℕ) × IsAnsweredBy ns w.position b)
           state_of (inl o) =
               let t = moved reader g w k a o in
-              elim t.2 [ inl on ↦ inl on | inr e ↦ inr (bytes_of t.0 w.place e) ]
-          state_of (inr b) = inr (b.0, record { request = b.1.request; there = grows.stays w.place b.1.request b.1.there (ap is_outstanding b.1.answer); answer = b.1.answer })
+              elim t.2 [ inl on ↦ inl on | inr e ↦ inr (bytes_of t.0 w.position e) ]
+          state_of (inr b) = inr (b.0, record { request = b.1.request; there = grows.stays w.position b.1.request b.1.there (ap is_outstanding b.1.answer); answer = b.1.answer })
 
-      out : (reader : ℕ) (g : Holding) (w : Waiting) → IsReading u r reader g → but ≢ Some reader → (None ≢ Some reader) × (IsAskedOf es g w → IsOutAt es w.place → IsOutAt ns w.place)
+      out : (reader : ℕ) (g : Holding) (w : Waiting) → IsReading u r reader g → but ≢ Some reader → (None ≢ Some reader) × (IsAskedOf es g w → IsOutAt es w.position → IsOutAt ns w.position)
       out reader g w k other = (
         (λ e. cc),
         λ a o.
             let t = moved reader g w k a o in
             elim t.2 [
               | inl on ↦ on
-              | inr e ↦ absurd (other (own t.0 t.1 (reader_of t.0 w.place but e is)))
+              | inr e ↦ absurd (other (own t.0 t.1 (reader_of t.0 w.position but e is)))
             ],
       )
         where

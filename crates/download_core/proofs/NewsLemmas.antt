@@ -19,22 +19,22 @@ use Rattle.download_core.proofs.Records.{GoesFrom, file_stays}
 
 -- ---- the opening that waits for the answer
 
-waits_of : (s : BeginningsState) (what : Heard) (holding place : ℕ) → IsNewsOf s what (news.Beginning holding place) → WaitsAt s holding place
-waits_of s heard.Nothing holding place e = absurd cc
-waits_of s heard.Held holding place e = absurd cc
-waits_of s (heard.Gone other) holding place e = absurd cc
-waits_of s (heard.Bytes other at) holding place (inl k) =
+waits_of : (s : BeginningsState) (what : Heard) (holding position : ℕ) → IsNewsOf s what (news.Beginning holding position) → WaitsAt s holding position
+waits_of s heard.Nothing holding position e = absurd cc
+waits_of s heard.Held holding position e = absurd cc
+waits_of s (heard.Gone other) holding position e = absurd cc
+waits_of s (heard.Bytes other at) holding position (inl k) =
     let same = k.0 in
     let one : holding ≡ other = cc in
-    let two : place ≡ at = cc in
-    subst (λ (x : ℕ). WaitsAt s x place) (sym one) (subst (λ (x : ℕ). WaitsAt s other x) (sym two) k.1)
-waits_of s (heard.Bytes other at) holding place (inr k) = (let same = k.0 in absurd cc)
+    let two : position ≡ at = cc in
+    subst (λ (x : ℕ). WaitsAt s x position) (sym one) (subst (λ (x : ℕ). WaitsAt s other x) (sym two) k.1)
+waits_of s (heard.Bytes other at) holding position (inr k) = (let same = k.0 in absurd cc)
 
 awaits_news : (s : BeginningsState) (what : Heard) (told : News) → AreBegun s → IsNewsOf s what told → AwaitsNews s told
 awaits_news s what news.Nothing known tells = tt
 awaits_news s what (news.Gone holding) known tells = tt
-awaits_news s what (news.Bytes holding place) known tells = tt
-awaits_news s what (news.Beginning holding place) known tells = awaited s holding place known (waits_of s what holding place tells)
+awaits_news s what (news.Bytes holding position) known tells = tt
+awaits_news s what (news.Beginning holding position) known tells = awaited s holding position known (waits_of s what holding position tells)
 
 -- ---- a message
 

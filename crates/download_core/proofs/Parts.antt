@@ -4,7 +4,7 @@ use Rattle.std.specs.Prelude.{slice_get, slice_index_or, All, AllPairs}
 use Rattle.std.proofs.lemmas.List.{get_or-take, length-append, length-take, take_more}
 use Rattle.std.proofs.lemmas.List.Elements.{Contains-append_left, Contains-append_right, Contains-push_cases}
 use Rattle.std.proofs.lemmas.Option.{slice_get_within}
-use Rattle.lemmas.proofs.Places.{get_last, get_push}
+use Rattle.lemmas.proofs.Positions.{get_last, get_push}
 use Rattle.lemmas.proofs.Options.{one_there}
 use Rattle.placement.proofs.Members.{Contains-head, Contains-nil}
 use Rattle.request_record.specs.declared.requests.Asked.{Asked}
@@ -24,24 +24,24 @@ use Rattle.download_shares.proofs.Entries.{read_pushed}
 use Rattle.download_parts.specs.PlanLaws.{AreApart}
 use Rattle.download_supply.specs.declared.wanted.Wanted.{Wanted}
 use Rattle.download_file.specs.Asked.{IsOneOf}
-use Rattle.download_file.specs.State.{placed}
+use Rattle.download_file.specs.State.{waiting_from}
 use Rattle.download_file.specs.declared.reader.Waiting.{Waiting}
-use Rattle.download_file.proofs.AskLemmas.{placed_more}
+use Rattle.download_file.proofs.AskLemmas.{waiting_from_more}
 use Rattle.download_core.specs.ReadingSteps.{AsksParts, Grows, IsAskedNow, IsSamePair}
 
 -- ---- what was answered stays
 
 pub keeps_none : (s t : BeginningsState) → t.holdings.requests ≡ s.holdings.requests → Grows s t
-keeps_none s t e = record { stays = λ place r body there answer. ap (λ (q : RequestsState). slice_get q.entries place) e ∙ there }
+keeps_none s t e = record { stays = λ position r body there answer. ap (λ (q : RequestsState). slice_get q.entries position) e ∙ there }
 
 pub keeps_asked : (s t : BeginningsState) (holding offset len : ℕ) → Asks holding offset len s.holdings t.holdings → Grows s t
 keeps_asked s t holding offset len a = record {
-  stays = λ place r body there answer. ap (λ (x : HoldingsState). slice_get x.requests.entries place) a.2
-      ∙ get_push s.holdings.requests.entries (first_request a.0.server (Reading a.0.share offset len) s.holdings.requests.clock) place (slice_get_within s.holdings.requests.entries place r there) ∙ there;
+  stays = λ position r body there answer. ap (λ (x : HoldingsState). slice_get x.requests.entries position) a.2
+      ∙ get_push s.holdings.requests.entries (first_request a.0.server (Reading a.0.share offset len) s.holdings.requests.clock) position (slice_get_within s.holdings.requests.entries position r there) ∙ there;
 }
 
 pub keeps_trans : (s t u : BeginningsState) → Grows s t → Grows t u → Grows s u
-keeps_trans s t u f g = record { stays = λ place r body there answer. g.stays place r body (f.stays place r body there answer) answer }
+keeps_trans s t u f g = record { stays = λ position r body there answer. g.stays position r body (f.stays position r body there answer) answer }
 
 -- ---- one of the first parts
 
@@ -49,7 +49,7 @@ pub record IsEarlier (wanted : List Wanted) (i offset len : ℕ) : Type 0 where
   pub index : ℕ
   pub below : index < i
   pub inside : index < length wanted
-  pub place : (d : Wanted) → offset ≡ (slice_index_or wanted index d).read.place
+  pub offset_is : (d : Wanted) → offset ≡ (slice_index_or wanted index d).read.offset
   pub long : (d : Wanted) → len ≡ (slice_index_or wanted index d).read.length
 
 any_default : (xs : List Wanted) (i : ℕ) (d e : Wanted) → i < length xs → slice_index_or xs i d ≡ slice_index_or xs i e
@@ -69,7 +69,7 @@ earlier wanted i offset len o =
       index = k.0;
       below = below;
       inside = inside;
-      place = λ d. o.place ∙ ap (λ (w : Wanted). w.read.place) (sym is ∙ any_default wanted k.0 o.one d inside);
+      offset_is = λ d. o.offset_is ∙ ap (λ (w : Wanted). w.read.offset) (sym is ∙ any_default wanted k.0 o.one d inside);
       long = λ d. o.long ∙ ap (λ (w : Wanted). w.read.length) (sym is ∙ any_default wanted k.0 o.one d inside);
     }
 
@@ -77,23 +77,23 @@ one_more : (wanted : List Wanted) (i offset len : ℕ) (d : Wanted) → i < leng
 one_more wanted i offset len d lt o = record {
   one = o.one;
   among = subst (λ (l : List Wanted). Contains l o.one) (sym (take_more wanted i d lt)) (Contains-append_left (take i wanted) (slice_index_or wanted i d ∷ []) o.one o.among);
-  place = o.place;
+  offset_is = o.offset_is;
   long = o.long;
 }
 
-this_one : (wanted : List Wanted) (i : ℕ) (d : Wanted) → i < length wanted → IsOneOf (take (i + 1) wanted) (slice_index_or wanted i d).read.place (slice_index_or wanted i d).read.length
+this_one : (wanted : List Wanted) (i : ℕ) (d : Wanted) → i < length wanted → IsOneOf (take (i + 1) wanted) (slice_index_or wanted i d).read.offset (slice_index_or wanted i d).read.length
 this_one wanted i d lt = record {
   one = slice_index_or wanted i d;
   among = subst (λ (l : List Wanted). Contains l (slice_index_or wanted i d)) (sym (take_more wanted i d lt)) (Contains-append_right (take i wanted) (slice_index_or wanted i d ∷ []) (slice_index_or wanted i d) (Contains-head (slice_index_or wanted i d) []));
-  place = refl;
+  offset_is = refl;
   long = refl;
 }
 
 -- one of all
-pub one_of : (wanted : List Wanted) (i : ℕ) (d : Wanted) → i < length wanted → IsOneOf wanted (slice_index_or wanted i d).read.place (slice_index_or wanted i d).read.length
+pub one_of : (wanted : List Wanted) (i : ℕ) (d : Wanted) → i < length wanted → IsOneOf wanted (slice_index_or wanted i d).read.offset (slice_index_or wanted i d).read.length
 one_of wanted i d lt =
     let w = slice_index_or wanted i d in
-    record { one = w; among = (i, lt, any_default wanted i w d lt); place = refl; long = refl }
+    record { one = w; among = (i, lt, any_default wanted i w d lt); offset_is = refl; long = refl }
 
 -- ---- the next one
 
@@ -101,23 +101,23 @@ module _ (holding : ℕ) (wanted : List Wanted) (s t : BeginningsState) (i : ℕ
   abbrev pub w : Wanted
   w = slice_index_or wanted i d
 
-  pub next_unasked : All (λ (w : Wanted). IsUnasked s.holdings holding w.read.place w.read.length) wanted → AllPairs (λ (v w : Wanted). AreApart v.read.place v.read.length w.read.place w.read.length) wanted
-      → IsUnasked t.holdings holding w.read.place w.read.length
-  next_unasked fresh apart = unasked_by t.holdings holding w.read.place w.read.length
-      (λ h j place len is read. by h j place len (sym (ap (λ (u : TableState). slice_get u.holdings holding) before.table) ∙ is) (before.reads h j place len read))
+  pub next_unasked : All (λ (w : Wanted). IsUnasked s.holdings holding w.read.offset w.read.length) wanted → AllPairs (λ (v w : Wanted). AreApart v.read.offset v.read.length w.read.offset w.read.length) wanted
+      → IsUnasked t.holdings holding w.read.offset w.read.length
+  next_unasked fresh apart = unasked_by t.holdings holding w.read.offset w.read.length
+      (λ h j position len is read. by h j position len (sym (ap (λ (u : TableState). slice_get u.holdings holding) before.table) ∙ is) (before.reads h j position len read))
     where
-      by : (h : Holding) (j place len : ℕ) → IsHolding s.holdings.table holding h → IsReadAt s.holdings.requests.entries h j place len ⊎ (IsSamePair s holding h × IsOneOf (take i wanted) place len)
-          → (place + len ≤ w.read.place) ⊎ (w.read.place + w.read.length ≤ place)
-      by h j place len is (inl old) =
-          let a : AsksApart old.request.asked (Reading h.share w.read.place w.read.length) = fresh i d lt h j old.request is old.there old.of_server in
-          (subst (λ (q : Asked). AsksApart q (Reading h.share w.read.place w.read.length)) old.asked a) refl
-      by h j place len is (inr new) =
-          let e = earlier wanted i place len new.1 in
-          subst (λ n. (n + len ≤ w.read.place) ⊎ (w.read.place + w.read.length ≤ n)) (sym (e.place d))
-          (subst (λ n. ((slice_index_or wanted e.index d).read.place + n ≤ w.read.place) ⊎ (w.read.place + w.read.length ≤ (slice_index_or wanted e.index d).read.place)) (sym (e.long d))
+      by : (h : Holding) (j position len : ℕ) → IsHolding s.holdings.table holding h → IsReadAt s.holdings.requests.entries h j position len ⊎ (IsSamePair s holding h × IsOneOf (take i wanted) position len)
+          → (position + len ≤ w.read.offset) ⊎ (w.read.offset + w.read.length ≤ position)
+      by h j position len is (inl old) =
+          let a : AsksApart old.request.asked (Reading h.share w.read.offset w.read.length) = fresh i d lt h j old.request is old.there old.of_server in
+          (subst (λ (q : Asked). AsksApart q (Reading h.share w.read.offset w.read.length)) old.asked a) refl
+      by h j position len is (inr new) =
+          let e = earlier wanted i position len new.1 in
+          subst (λ n. (n + len ≤ w.read.offset) ⊎ (w.read.offset + w.read.length ≤ n)) (sym (e.offset_is d))
+          (subst (λ n. ((slice_index_or wanted e.index d).read.offset + n ≤ w.read.offset) ⊎ (w.read.offset + w.read.length ≤ (slice_index_or wanted e.index d).read.offset)) (sym (e.long d))
           (apart e.index i d e.below lt))
 
-  module _ (u : BeginningsState) (a : Asks holding w.read.place w.read.length t.holdings u.holdings) where
+  module _ (u : BeginningsState) (a : Asks holding w.read.offset w.read.length t.holdings u.holdings) where
     abbrev pub ts : List Request
     ts = t.holdings.requests.entries
 
@@ -125,7 +125,7 @@ module _ (holding : ℕ) (wanted : List Wanted) (s t : BeginningsState) (i : ℕ
     us = u.holdings.requests.entries
 
     abbrev pub asked_here : Request
-    asked_here = first_request a.0.server (Reading a.0.share w.read.place w.read.length) t.holdings.requests.clock
+    asked_here = first_request a.0.server (Reading a.0.share w.read.offset w.read.length) t.holdings.requests.clock
 
     entries_are : us ≡ ts ++ asked_here ∷ []
     entries_are = ap (λ (x : HoldingsState). x.requests.entries) a.2
@@ -147,17 +147,17 @@ module _ (holding : ℕ) (wanted : List Wanted) (s t : BeginningsState) (i : ℕ
 
     still_asked : (h : Holding) (v : Waiting) → IsAskedNow ts h v → IsAskedNow us h v
     still_asked h v k = record {
-      read = record { request = k.read.request; there = there_still v.place k.read.request k.read.there; of_server = k.read.of_server; asked = k.read.asked };
-      out = record { request = k.out.request; there = there_still v.place k.out.request k.out.there; waits = k.out.waits };
+      read = record { request = k.read.request; there = there_still v.position k.read.request k.read.there; of_server = k.read.of_server; asked = k.read.asked };
+      out = record { request = k.out.request; there = there_still v.position k.out.request k.out.there; waits = k.out.waits };
     }
 
-    asked_now : (h : Holding) (v : Waiting) → IsHolding s.holdings.table holding h → Contains (placed (length s.holdings.requests.entries) (take (i + 1) wanted)) v → IsAskedNow us h v
+    asked_now : (h : Holding) (v : Waiting) → IsHolding s.holdings.table holding h → Contains (waiting_from (length s.holdings.requests.entries) (take (i + 1) wanted)) v → IsAskedNow us h v
     asked_now h v is among =
-        elim (Contains-push_cases (placed (length s.holdings.requests.entries) (take i wanted)) (record { place = length s.holdings.requests.entries + length (take i wanted); wanted = w }) v
-        (subst (λ (l : List Waiting). Contains l v) (ap (placed (length s.holdings.requests.entries)) (take_more wanted i d lt) ∙ placed_more (length s.holdings.requests.entries) (take i wanted) w) among)) [
+        elim (Contains-push_cases (waiting_from (length s.holdings.requests.entries) (take i wanted)) (record { position = length s.holdings.requests.entries + length (take i wanted); wanted = w }) v
+        (subst (λ (l : List Waiting). Contains l v) (ap (waiting_from (length s.holdings.requests.entries)) (take_more wanted i d lt) ∙ waiting_from_more (length s.holdings.requests.entries) (take i wanted) w) among)) [
           | inl old ↦ still_asked h v (before.asked h v is old)
           | inr last ↦ subst (IsAskedNow us h) last (record {
-            read = record { request = asked_here; there = here; of_server = ap (λ (x : Holding). x.server) same; asked = ap (λ (x : Holding). Reading x.share w.read.place w.read.length) same };
+            read = record { request = asked_here; there = here; of_server = ap (λ (x : Holding). x.server) same; asked = ap (λ (x : Holding). Reading x.share w.read.offset w.read.length) same };
             out = record { request = asked_here; there = here; waits = refl };
           })
         ]
@@ -165,28 +165,28 @@ module _ (holding : ℕ) (wanted : List Wanted) (s t : BeginningsState) (i : ℕ
         same : a.0 ≡ h
         same = one_there (slice_get s.holdings.table.holdings holding) a.0 h (sym (ap (λ (x : TableState). slice_get x.holdings holding) before.table) ∙ a.1) is
 
-  pub next_asked : (u : BeginningsState) → AreBegun u → Asks holding w.read.place w.read.length t.holdings u.holdings → u.begun ≡ t.begun → AsksParts holding (take (i + 1) wanted) s u
+  pub next_asked : (u : BeginningsState) → AreBegun u → Asks holding w.read.offset w.read.length t.holdings u.holdings → u.begun ≡ t.begun → AsksParts holding (take (i + 1) wanted) s u
   next_asked u known a same = record {
     known = known;
     table = ap (λ (x : HoldingsState). x.table) a.2 ∙ before.table;
     begun = same ∙ before.begun;
     reads = λ h j offset len read. by h j offset len
-        (read_pushed t.holdings.requests.entries (first_request a.0.server (Reading a.0.share w.read.place w.read.length) t.holdings.requests.clock) h j offset len
+        (read_pushed t.holdings.requests.entries (first_request a.0.server (Reading a.0.share w.read.offset w.read.length) t.holdings.requests.clock) h j offset len
         (subst (λ (x : HoldingsState). IsReadAt x.requests.entries h j offset len) a.2 read));
     count = count_now u a;
     asked = asked_now u a;
   }
     where
-      by : (h : Holding) (j offset len : ℕ) → IsReadAt t.holdings.requests.entries h j offset len ⊎ ((j ≡ length t.holdings.requests.entries) × (a.0.server ≡ h.server) × (Reading a.0.share w.read.place w.read.length ≡ Reading h.share offset len))
+      by : (h : Holding) (j offset len : ℕ) → IsReadAt t.holdings.requests.entries h j offset len ⊎ ((j ≡ length t.holdings.requests.entries) × (a.0.server ≡ h.server) × (Reading a.0.share w.read.offset w.read.length ≡ Reading h.share offset len))
           → IsReadAt s.holdings.requests.entries h j offset len ⊎ (IsSamePair s holding h × IsOneOf (take (i + 1) wanted) offset len)
       by h j offset len (inl old) = elim (before.reads h j offset len old) [ inl was ↦ inl was | inr k ↦ inr (k.0, one_more wanted i offset len d lt k.1) ]
       by h j offset len (inr new) =
           let shares : a.0.share ≡ h.share = cc in
-          let places : w.read.place ≡ offset = cc in
+          let positions : w.read.offset ≡ offset = cc in
           let lengths : w.read.length ≡ len = cc in
           inr (
             (a.0, sym (ap (λ (u : TableState). slice_get u.holdings holding) before.table) ∙ a.1, new.1, shares),
-            subst (λ n. IsOneOf (take (i + 1) wanted) n len) places (subst (λ n. IsOneOf (take (i + 1) wanted) w.read.place n) lengths (this_one wanted i d lt)),
+            subst (λ n. IsOneOf (take (i + 1) wanted) n len) positions (subst (λ n. IsOneOf (take (i + 1) wanted) w.read.offset n) lengths (this_one wanted i d lt)),
           )
 
 pub none_asked : (holding : ℕ) (wanted : List Wanted) (s : BeginningsState) → AreBegun s → AsksParts holding (take 0 wanted) s s

@@ -37,14 +37,14 @@ use Rattle.download_core.proofs.Records.{GoesFrom}
 
 -- ---- the share that a request asks for
 
--- the request at a place asks for bytes of the share of a holding
-pub record IsReadOfHolding (s : HoldingsState) (place share offset len server : ℕ) : Type 0 where
+-- the request at a position asks for bytes of the share of a holding
+pub record IsReadOfHolding (s : HoldingsState) (position share offset len server : ℕ) : Type 0 where
   pub holding : ℕ
   pub held : Holding
   pub is : IsHolding s.table holding held
   pub of_server : server ≡ held.server
   pub of_share : share ≡ held.share
-  pub read : IsReadAt s.requests.entries held place offset len
+  pub read : IsReadAt s.requests.entries held position offset len
 
 -- it asks for bytes of the share of a holding
 pub record IsOwnedAt (s : HoldingsState) (r : Request) : Type 0 where
@@ -57,22 +57,22 @@ pub record IsOwnedAt (s : HoldingsState) (r : Request) : Type 0 where
   pub asked : r.asked ≡ Reading held.share offset len
 
 -- each request asks what a server holds, or for bytes of a share
-pub asked_of : (s : HoldingsState) → IsRight s → (place : ℕ) (r : Request) → slice_get s.requests.entries place ≡ Some r → (r.asked ≡ Holdings) ⊎ IsOwnedAt s r
-asked_of s right place r there = elim (cases_lt place s.servers) [
-  | inl lt ↦ inl (right.first place r there lt)
+pub asked_of : (s : HoldingsState) → IsRight s → (position : ℕ) (r : Request) → slice_get s.requests.entries position ≡ Some r → (r.asked ≡ Holdings) ⊎ IsOwnedAt s r
+asked_of s right position r there = elim (cases_lt position s.servers) [
+  | inl lt ↦ inl (right.first position r there lt)
   | inr le ↦ inr (behind le)
 ]
   where
-    behind : s.servers ≤ place → IsOwnedAt s r
+    behind : s.servers ≤ position → IsOwnedAt s r
     behind le =
-        let w = slice_get_within s.requests.entries place r there in
+        let w = slice_get_within s.requests.entries position r there in
         let c = right.counted in
-        let own : slice_get s.owners (place - s.servers) ≡ Some (slice_index_or s.owners (place - s.servers) 0) = slice_get-get_or s.owners (place - s.servers) 0 (omega (arith, le, w, c)) in
-        let o = right.owned (place - s.servers) (slice_index_or s.owners (place - s.servers) 0) own in
-        let at : s.servers + (place - s.servers) ≡ place = omega (arith, le) in
-        let same : o.request ≡ r = one_there (slice_get s.requests.entries place) o.request r (ap (slice_get s.requests.entries) (sym at) ∙ o.there) there in
+        let own : slice_get s.owners (position - s.servers) ≡ Some (slice_index_or s.owners (position - s.servers) 0) = slice_get-get_or s.owners (position - s.servers) 0 (omega (arith, le, w, c)) in
+        let o = right.owned (position - s.servers) (slice_index_or s.owners (position - s.servers) 0) own in
+        let at : s.servers + (position - s.servers) ≡ position = omega (arith, le) in
+        let same : o.request ≡ r = one_there (slice_get s.requests.entries position) o.request r (ap (slice_get s.requests.entries) (sym at) ∙ o.there) there in
         record {
-          holding = slice_index_or s.owners (place - s.servers) 0;
+          holding = slice_index_or s.owners (position - s.servers) 0;
           held = o.held;
           is = o.is;
           of_server = ap (λ (q : Request). q.server) (sym same) ∙ o.read.of_server;
@@ -81,8 +81,8 @@ asked_of s right place r there = elim (cases_lt place s.servers) [
           asked = ap (λ (q : Request). q.asked) (sym same) ∙ o.read.asked;
         }
 
-read_of : (s : HoldingsState) → IsRight s → (place : ℕ) (r : Request) (share offset len : ℕ) → slice_get s.requests.entries place ≡ Some r → r.asked ≡ Reading share offset len → IsReadOfHolding s place share offset len r.server
-read_of s right place r share offset len there asked = elim (asked_of s right place r there) [
+read_of : (s : HoldingsState) → IsRight s → (position : ℕ) (r : Request) (share offset len : ℕ) → slice_get s.requests.entries position ≡ Some r → r.asked ≡ Reading share offset len → IsReadOfHolding s position share offset len r.server
+read_of s right position r share offset len there asked = elim (asked_of s right position r there) [
   | inl held ↦ (let two : Holdings ≡ Reading share offset len = sym held ∙ asked in absurd cc)
   | inr o ↦ (
       let two : Reading share offset len ≡ Reading o.held.share o.offset o.len = sym asked ∙ o.asked in
@@ -103,14 +103,14 @@ begun_at s holding h counted is = slice_get-get_or s.begun holding unbegun (let 
 -- ---- before an extension block is accepted
 
 pub opened_reads : (total : ℕ) (s : BeginningsState) → AreOpened total nobody s → ReadsNoMore s.holdings.requests.entries None
-opened_reads total s k place r share offset len there asked =
-    let o = read_of s.holdings k.known.right place r share offset len there asked in
+opened_reads total s k position r share offset len there asked =
+    let o = read_of s.holdings k.known.right position r share offset len there asked in
     let b = slice_index_or s.begun o.holding unbegun in
     let at = begun_at s o.holding o.held k.known.counted o.is in
-    let lies = (k.opening.each o.holding o.held b o.is at).reads place offset len o.read in
+    let lies = (k.opening.each o.holding o.held b o.is at).reads position offset len o.read in
     by o b.opening (λ opening e. (k.known.each o.holding o.held b o.is at).led opening e) lies
   where
-    by : (o : IsReadOfHolding s.holdings place share offset len r.server) (opening : Option Opening)
+    by : (o : IsReadOfHolding s.holdings position share offset len r.server) (opening : Option Opening)
         → ((x : Opening) → opening ≡ Some x → IsLedToBy (brought_of s.holdings.requests.entries o.held.server o.held.share) x)
         → IsBeginning opening offset len → IsInBeginning s.holdings.requests.entries r.server share offset len
     by o None led lies = absurd lies
@@ -145,23 +145,23 @@ planned f reader offset len right has =
       before = omega (arith, before, end);
       planned = subst (λ (g : Geometry). IsPlanned g (first_of has.r.supply has.part) f.end offset len) own.geometry
           (subst (λ (n : ℕ). IsPlanned has.r.supply.geometry (first_of has.r.supply has.part) n offset len) own.end
-          (record { part = has.part; is = part; place_is = has.place; len_is = has.long }));
+          (record { part = has.part; is = part; begin_is = has.offset_is; len_is = has.long }));
     }
 
-pub reading_beside : (s : BeginningsState) (place : ℕ) (r : ReadingState) → AreKept s r → ReadsBeside s.holdings.requests.entries s.holdings.blamed (Some (record { place = place; file = r.file }))
-reading_beside s head r k place q share offset len there asked left =
-    let o = read_of s.holdings k.known.right place q share offset len there asked in
+pub reading_beside : (s : BeginningsState) (position : ℕ) (r : ReadingState) → AreKept s r → ReadsBeside s.holdings.requests.entries s.holdings.blamed (Some (record { position = position; file = r.file }))
+reading_beside s head r k position q share offset len there asked left =
+    let o = read_of s.holdings k.known.right position q share offset len there asked in
     let b = slice_index_or s.begun o.holding unbegun in
     let at = begun_at s o.holding o.held k.known.counted o.is in
     by o b at o.held.left refl
   where
-    not_left : (o : IsReadOfHolding s.holdings place share offset len q.server) → IsGone s.holdings.requests.entries o.held.server o.held.share ⊎ IsBlamed s.holdings.blamed o.held.server o.held.share → ⊥
+    not_left : (o : IsReadOfHolding s.holdings position share offset len q.server) → IsGone s.holdings.requests.entries o.held.server o.held.share ⊎ IsBlamed s.holdings.blamed o.held.server o.held.share → ⊥
     not_left o (inl gone) = left.0 (subst (λ (n : ℕ). IsGone s.holdings.requests.entries n share) (sym o.of_server) (subst (λ (n : ℕ). IsGone s.holdings.requests.entries o.held.server n) (sym o.of_share) gone))
     not_left o (inr blamed) = left.1 (subst (λ (n : ℕ). IsBlamed s.holdings.blamed n share) (sym o.of_server) (subst (λ (n : ℕ). IsBlamed s.holdings.blamed o.held.server n) (sym o.of_share) blamed))
 
-    by : (o : IsReadOfHolding s.holdings place share offset len q.server) (b : Begun) → IsBegun s o.holding b → (is_left : Bool) → o.held.left ≡ is_left → IsPlannedOrBeside r.file offset len
+    by : (o : IsReadOfHolding s.holdings position share offset len q.server) (b : Begun) → IsBegun s o.holding b → (is_left : Bool) → o.held.left ≡ is_left → IsPlannedOrBeside r.file offset len
     by o b at false e = absurd (not_left o (k.known.right.others o.holding o.held o.is e))
-    by o b at true e = elim (k.reads o.holding place offset len o.held b o.is at e o.read) [
+    by o b at true e = elim (k.reads o.holding position offset len o.held b o.is at e o.read) [
       | inl beside ↦ inl beside
       | inr own ↦ inr (planned r.file own.0 offset len k.right own.2)
     ]
@@ -171,9 +171,9 @@ reading_beside s head r k place q share offset len there asked left =
 pub beside_stays : (es ns : List Request) (blamed : List Blame) (f : Option Found) → GoesFrom es ns → ReadsBeside es blamed f → ReadsBeside ns blamed f
 beside_stays es ns blamed None goes reads = tt
 beside_stays es ns blamed (Some f) goes reads =
-    λ place r share offset len there asked left.
-    let was = goes.alike place r there in
-    reads place was.request share offset len was.there (was.same ∙ asked)
+    λ position r share offset len there asked left.
+    let was = goes.alike position r there in
+    reads position was.request share offset len was.there (was.same ∙ asked)
     (subst (λ (server : ℕ). IsLeft es blamed server share) (sym was.of_server) (λ gone. left.0 (gone_stays es ns r.server share goes.stays gone), left.1))
 
 -- ---- what is asked
@@ -181,20 +181,20 @@ beside_stays es ns blamed (Some f) goes reads =
 -- A request behind the first asks for a share that its server offered. The first ask which shares
 -- there are.
 pub asks_or_reads : (s : HoldingsState) → IsRight s → AsksOrReads s.requests.entries
-asks_or_reads s k place r there = elim (cases_lt place s.servers) [
-  | inl lt ↦ inl (k.first place r there lt)
+asks_or_reads s k position r there = elim (cases_lt position s.servers) [
+  | inl lt ↦ inl (k.first position r there lt)
   | inr ge ↦ (
-      let i = place - s.servers in
-      let within = slice_get_within s.requests.entries place r there in
+      let i = position - s.servers in
+      let within = slice_get_within s.requests.entries position r there in
       let count = k.counted in
       let lt : i < length s.owners = omega (arith, within, count, ge) in
-      let at : s.servers + i ≡ place = omega (arith, ge) in
+      let at : s.servers + i ≡ position = omega (arith, ge) in
       inr (by (slice_index_or s.owners i 0) (subst (λ (p : ℕ). IsOwned s p (slice_index_or s.owners i 0)) at (k.owned i (slice_index_or s.owners i 0) (slice_get-get_or s.owners i 0 lt)))))
 ]
   where
-    by : (holding : ℕ) → IsOwned s place holding → IsReadOfOffered s.requests.entries r
+    by : (holding : ℕ) → IsOwned s position holding → IsReadOfOffered s.requests.entries r
     by holding o =
-        let same : o.request ≡ r = one_there (slice_get s.requests.entries place) o.request r o.there there in
+        let same : o.request ≡ r = one_there (slice_get s.requests.entries position) o.request r o.there there in
         record {
           share = o.held.share;
           offset = o.read.offset;

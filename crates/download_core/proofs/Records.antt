@@ -84,12 +84,12 @@ from_same es ns e =
 -- ---- the file
 
 pub keeps_answers : (es ns : List Request) → StaysTo es ns → KeepsAnswers es ns
-keeps_answers es ns stays place r body there answer = stays place r there (ap is_outstanding answer)
+keeps_answers es ns stays position r body there answer = stays position r there (ap is_outstanding answer)
 
-pub head_stays : (cap : VerifyCapValue) (es ns : List Request) (place : ℕ) (u : Contents) → StaysTo es ns → IsHead cap es place u → IsHead cap ns place u
-head_stays cap es ns place u stays h = record {
+pub head_stays : (cap : VerifyCapValue) (es ns : List Request) (position : ℕ) (u : Contents) → StaysTo es ns → IsHead cap es position u → IsHead cap ns position u
+head_stays cap es ns position u stays h = record {
   request = h.request;
-  there = stays place h.request h.there (ap is_outstanding h.answer);
+  there = stays position h.request h.there (ap is_outstanding h.answer);
   share = h.share;
   offset = h.offset;
   len = h.len;
@@ -103,7 +103,7 @@ head_stays cap es ns place u stays h = record {
 pub file_stays : (cap : ReadCapValue) (from to : ℕ) (es ns : List Request) (f : Option Found) → StaysTo es ns → IsFileIfFound cap from to es f → IsFileIfFound cap from to ns f
 file_stays cap from to es ns None stays k = tt
 file_stays cap from to es ns (Some f) stays k = record {
-  head = head_stays (verify_cap_of cap) es ns f.place f.file.handout.ueb stays k.head;
+  head = head_stays (verify_cap_of cap) es ns f.position f.file.handout.ueb stays k.head;
   key = k.key;
   first = k.first;
   to_is = k.to_is;

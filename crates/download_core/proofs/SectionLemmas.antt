@@ -11,7 +11,7 @@ use Rattle.request_record.specs.declared.requests.Asked.{Asked}
 use Rattle.request_record.specs.declared.requests.Asked.TheVariants.{Holdings, Allocation, Writing, Closing, Reading, Aborting}
 use Rattle.request_record.specs.declared.requests.Request.{Request}
 use Rattle.request_record.specs.Asking.{IsFrame, Spells}
-use Rattle.download_parts.specs.Plan.{IsPart, length_of, place_of}
+use Rattle.download_parts.specs.Plan.{IsPart, length_of, offset_of}
 use Rattle.download_parts.specs.Range.{IsRange}
 use Rattle.download_parts.specs.declared.part.Part.{Part}
 use Rattle.download_parts.specs.declared.part.Part.TheVariants as parts
@@ -21,7 +21,7 @@ use Rattle.download_file.specs.Right.{IsFile}
 use Rattle.download_file.specs.State.{FileState}
 use Rattle.download_core.specs.Given.{IsFileIfFound, IsFileOfCap, IsRightIfFound}
 use Rattle.download_core.specs.Reads.{PlansMore, ReadsNoMore, MayRead}
-use Rattle.download_core.specs.Sections.{LaterReadsLieInSections, LieByFound, LieInSection, MayBeRead, ReadsInPlace, ReadsStayInPlace, block_tree, blocks, ciphertext_tree, share_hashes}
+use Rattle.download_core.specs.Sections.{LaterReadsLieInSections, LieByFound, LieInSection, MayBeRead, ReadsInSections, ReadsStayInSections, block_tree, blocks, ciphertext_tree, share_hashes}
 use Rattle.download_core.specs.Sending.{Takes}
 use Rattle.download_core.specs.State.{DownloadState, Found}
 
@@ -29,12 +29,12 @@ use Rattle.download_core.specs.State.{DownloadState, Found}
 
 -- a part of the plan for some segments lies in one section
 part_lies : (g : Geometry) (a b from to : ℕ) (p : Part) → IsRange g a b → IsPart g a b p → from / g.segment_size ≤ a → b ≡ (to - 1) / g.segment_size + 1
-    → LieInSection g from to (place_of g a b p) (length_of g a b p)
+    → LieInSection g from to (offset_of g a b p) (length_of g a b p)
 part_lies g a b from to parts.ShareHashes range is begins ends = share_hashes (lie_inside g a b parts.ShareHashes range is)
 part_lies g a b from to (parts.BlockTree p) range is begins ends = block_tree (lie_inside g a b (parts.BlockTree p) range is)
 part_lies g a b from to (parts.CiphertextTree p) range is begins ends = ciphertext_tree (lie_inside g a b (parts.CiphertextTree p) range is)
-part_lies g a b from to (parts.Data i) range is begins ends = blocks (lie_inside g a b (parts.Data i) range is) (λ place low high.
-    let held = (hold_the_blocks g a b place range).0 i (record { part = is; begins = low; ends = high }) in
+part_lies g a b from to (parts.Data i) range is begins ends = blocks (lie_inside g a b (parts.Data i) range is) (λ position low high.
+    let held = (hold_the_blocks g a b position range).0 i (record { part = is; begins = low; ends = high }) in
     let le = held.1 in
     let lt = held.2 in (
       held.0,
@@ -52,7 +52,7 @@ planned_lies f from to offset len right first to_is read =
     let ends : f.end ≡ (to - 1) / g.segment_size + 1 = right.last ∙ ap (λ (n : ℕ). (n - 1) / g.segment_size + 1) to_is in
     let lies =
     part_lies g read.from f.end from to p.part (record { valid = right.range.valid; some = read.before; within = right.range.within }) p.is (subst (λ (n : ℕ). n ≤ read.from) first begins) ends in
-    subst (λ (n : ℕ). LieInSection g from to n len) (sym p.place_is) (subst (LieInSection g from to (place_of g read.from f.end p.part)) (sym p.len_is) lies)
+    subst (λ (n : ℕ). LieInSection g from to n len) (sym p.begin_is) (subst (LieInSection g from to (offset_of g read.from f.end p.part)) (sym p.len_is) lies)
 
 -- ---- what a download reads
 
@@ -68,20 +68,20 @@ module _ (d : DownloadState) (file : IsFileIfFound d.cap d.from d.to d.requests.
   may_read (Some f) there server share offset len (inl begins) = inl begins
   may_read (Some f) there server share offset len (inr read) = inr (found_lies f there offset len read)
 
-  pub read_lies : ReadsNoMore d.requests.entries d.found → (place : ℕ) (r : Request) (share offset len : ℕ) → slice_get d.requests.entries place ≡ Some r → r.asked ≡ Reading share offset len
+  pub read_lies : ReadsNoMore d.requests.entries d.found → (position : ℕ) (r : Request) (share offset len : ℕ) → slice_get d.requests.entries position ≡ Some r → r.asked ≡ Reading share offset len
       → MayBeRead d r.server share offset len
-  read_lies reads place r share offset len there asked = may_read d.found refl r.server share offset len (reads place r share offset len there asked)
+  read_lies reads position r share offset len there asked = may_read d.found refl r.server share offset len (reads position r share offset len there asked)
 
-pub reads_stay : ReadsStayInPlace
-reads_stay d place r share offset len right there asked = read_lies d right.file right.made right.reads place r share offset len there asked
+pub reads_stay : ReadsStayInSections
+reads_stay d position r share offset len right there asked = read_lies d right.file right.made right.reads position r share offset len there asked
 
 pub later_reads : LaterReadsLieInSections
 later_reads r old new right goes some = by new.found refl goes.later
   where
-    by : (o : Option Found) → new.found ≡ o → PlansMore o r.entries new.requests.entries → (place : ℕ) (q : Request) (share offset len : ℕ)
-        → slice_get new.requests.entries place ≡ Some q → length r.entries ≤ place → q.asked ≡ Reading share offset len → LieByFound new.found new.from new.to offset len
-    by None e more place q share offset len there le asked = absurd (some e)
-    by (Some f) e more place q share offset len there le asked = found_lies new right.file right.made f e offset len (more place q share offset len there le asked)
+    by : (o : Option Found) → new.found ≡ o → PlansMore o r.entries new.requests.entries → (position : ℕ) (q : Request) (share offset len : ℕ)
+        → slice_get new.requests.entries position ≡ Some q → length r.entries ≤ position → q.asked ≡ Reading share offset len → LieByFound new.found new.from new.to offset len
+    by None e more position q share offset len there le asked = absurd (some e)
+    by (Some f) e more position q share offset len there le asked = found_lies new right.file right.made f e offset len (more position q share offset len there le asked)
 
 -- ---- what it sends
 
@@ -96,16 +96,16 @@ reading_of index (Reading n o l) id offset len s =
     let share : n ≡ id.share = ap (λ (i : ShareId). i.share) (sym s.0) in
     ap (λ (x : ℕ). Reading x o l) share ∙ ap (λ (x : ℕ). Reading id.share x l) (sym s.1) ∙ ap (λ (x : ℕ). Reading id.share offset x) (sym s.2)
 
-pub frames_lie : (d : DownloadState) (place node : ℕ) (m : Message) → IsFileIfFound d.cap d.from d.to d.requests.entries d.found → IsRightIfFound d.found → ReadsNoMore d.requests.entries d.found
-    → IsFrame (verify_cap_of d.cap).storage_index d.requests place node m → ReadsInPlace d (node, m)
-frames_lie d place node m file made reads frame id offset len is =
+pub frames_lie : (d : DownloadState) (position node : ℕ) (m : Message) → IsFileIfFound d.cap d.from d.to d.requests.entries d.found → IsRightIfFound d.found → ReadsNoMore d.requests.entries d.found
+    → IsFrame (verify_cap_of d.cap).storage_index d.requests position node m → ReadsInSections d (node, m)
+frames_lie d position node m file made reads frame id offset len is =
     let says : frame.body ≡ Read id offset len = sym (ap (λ (x : Message). x.body) frame.message) ∙ is in
     let index : List ℕ = (verify_cap_of d.cap).storage_index in
     let spelled : Spells index frame.request.asked (Read id offset len) = subst (λ (b : Body). Spells index frame.request.asked b) says frame.spelled in
     subst (λ (server : ℕ). MayBeRead d server id.share offset len) (sym frame.server)
-    (read_lies d file made reads place frame.request id.share offset len frame.there (reading_of index frame.request.asked id offset len spelled))
+    (read_lies d file made reads position frame.request id.share offset len frame.there (reading_of index frame.request.asked id offset len spelled))
 
 pub taken_lie : (d e : DownloadState) (o : Option (ℕ × Message)) → IsFileIfFound d.cap d.from d.to d.requests.entries d.found → IsRightIfFound d.found → ReadsNoMore d.requests.entries d.found
-    → Takes d o e → IfSome o (ReadsInPlace d)
+    → Takes d o e → IfSome o (ReadsInSections d)
 taken_lie d e None file made reads takes = tt
 taken_lie d e (Some f) file made reads takes = frames_lie d takes.0 f.0 f.1 file made reads takes.2

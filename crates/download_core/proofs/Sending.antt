@@ -1,5 +1,5 @@
 -- A request is sent: nothing else changes.
-use Rattle.lemmas.proofs.Places.{get_of}
+use Rattle.lemmas.proofs.Positions.{get_of}
 use Rattle.std.proofs.Common.{◌≡◌, ◌≢◌, ℕ, ◌<◌, inl, inr, List, [], ◌∷◌, length, All, Option, Some, None, refl, ap, subst, ◌∙◌}
 use Rattle.std.specs.Prelude.{slice_get}
 use Rattle.std.proofs.lemmas.List.Elements.{All-head}
@@ -34,8 +34,8 @@ first_still Failed outgoing runs = absurd (runs refl)
 -- ---- what is sent
 
 -- what a download asks is no writing
-no_writing : (entries : List Request) → AsksOrReads entries → (place : ℕ) (r : Request) → slice_get entries place ≡ Some r → IsWriting r.asked → ⊥
-no_writing entries asks place r there w = elim (asks place r there) [
+no_writing : (entries : List Request) → AsksOrReads entries → (position : ℕ) (r : Request) → slice_get entries position ≡ Some r → IsWriting r.asked → ⊥
+no_writing entries asks position r there w = elim (asks position r there) [
   | inl held ↦ subst IsWriting held w
   | inr own ↦ subst IsWriting own.asked w
 ]
@@ -44,11 +44,11 @@ no_writing entries asks place r there w = elim (asks place r there) [
 none_first : (index : List ℕ) (old new : RequestsState) → IsRecord old → AsksOrReads old.entries → SendsFirst index old None new → slice_get old.outgoing 0 ≡ None
 none_first index old new right asks nothing = by old.outgoing refl right.there
   where
-    by : (l : List ℕ) → old.outgoing ≡ l → All (λ place. place < length old.entries) l → slice_get l 0 ≡ None
+    by : (l : List ℕ) → old.outgoing ≡ l → All (λ position. position < length old.entries) l → slice_get l 0 ≡ None
     by [] e there = refl
-    by (place ∷ rest) e there =
-        let at = get_of old.entries place (All-head (λ (p : ℕ). p < length old.entries) place rest there) in
-        absurd (no_writing old.entries asks place at.0 at.1 (nothing.1 place at.0 (ap (λ (l : List ℕ). slice_get l 0) e) at.1))
+    by (position ∷ rest) e there =
+        let at = get_of old.entries position (All-head (λ (p : ℕ). p < length old.entries) position rest there) in
+        absurd (no_writing old.entries asks position at.0 at.1 (nothing.1 position at.0 (ap (λ (l : List ℕ). slice_get l 0) e) at.1))
 
 pub sends : (m : Machine) (out : RequestsState) (o : Option (ℕ × Message)) → m.verify ≡ verify_cap_of m.cap → IsRecord m.beginnings.holdings.requests → AsksOrReads (entries_of m)
     → SendsFirst m.verify.storage_index m.beginnings.holdings.requests o out
@@ -70,9 +70,9 @@ pub sent_opened : (s : BeginningsState) (outgoing : List ℕ) (total : ℕ) → 
 sent_opened s outgoing total k = record {
   known = (sent s outgoing k.known).0;
   opening = record {
-    each = λ place h b is there. (let o = k.opening.each place h b is there in record { reads = o.reads; taken = o.taken; unread = o.unread; choosable = o.choosable });
-    works = λ share place n at reads other. (
-        let o = k.opening.works share place n at reads other in
+    each = λ position h b is there. (let o = k.opening.each position h b is there in record { reads = o.reads; taken = o.taken; unread = o.unread; choosable = o.choosable });
+    works = λ share position n at reads other. (
+        let o = k.opening.works share position n at reads other in
         record { begun = o.begun; is = o.is; request = o.request; waiting = o.waiting; out = o.out });
   };
   count = k.count;

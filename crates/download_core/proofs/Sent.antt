@@ -43,7 +43,7 @@ sent_reading s outgoing known r k = record {
   };
   awaits = record {
     asked = λ q h w n among. k.awaits.asked q h w (record { live = n.live; holding = n.holding; of = n.of; is = n.is; left = n.left }) among;
-    first = λ q place h n other e. k.awaits.first q place h (record { live = n.live; holding = n.holding; of = n.of; is = n.is; left = n.left }) other e;
+    first = λ q position h n other e. k.awaits.first q position h (record { live = n.live; holding = n.holding; of = n.of; is = n.is; left = n.left }) other e;
   };
   busy = record {
     suspended = λ x h is left busy other. (

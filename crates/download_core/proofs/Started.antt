@@ -61,7 +61,7 @@ module _ (s : BeginningsState) (key : List ℕ) (u : Contents) (g : Geometry) (f
     linked = started_linked;
     awaits = record {
       asked = λ q h w k among. absurd (Contains-nil q k.live);
-      first = λ q place h k other e. absurd (Contains-nil q k.live);
+      first = λ q position h k other e. absurd (Contains-nil q k.live);
     };
     busy = record {
       suspended = λ x h is left busy other. (let b = begun_there x h is in (compared.each x h b.0 is b.1).out left busy);

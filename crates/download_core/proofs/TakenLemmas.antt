@@ -75,7 +75,7 @@ reads_taken f h (Some p) t =
       made = λ group number has from before. (
           let o = k.made group number has from before in
           record { right = o.right; segment = o.segment; decodes = o.decodes; proved = record { size = o.proved.size; known = o.proved.known } });
-      ready = λ q among. handed_given es h.ready (p.place + length p.bytes) (record { place = 0; file = f }) q
+      ready = λ q among. handed_given es h.ready (p.offset + length p.bytes) (record { position = 0; file = f }) q
           (k.ready q (subst (λ (l : List Piece). Contains l q) (sym t.0) (contains_tail p q h.ready among)));
     })
 
@@ -114,7 +114,7 @@ module _ (m : Machine) (f : FoundFile) (r : ReadingState) (p : Option Piece) (st
   taken_file =
       let o = subst (λ (x : Option FoundFile). IsFileIfFound m.cap m.from m.to (entries_of m) (found_of x)) is k.file in
       record {
-        head = subst (λ (u : Contents). IsHead (verify_cap_of m.cap) (entries_of m) f.place u) (sym same.ueb) o.head;
+        head = subst (λ (u : Contents). IsHead (verify_cap_of m.cap) (entries_of m) f.position u) (sym same.ueb) o.head;
         key = same.key ∙ o.key;
         first = first_is ∙ o.first ∙ ap (λ (g : Geometry). m.from / g.segment_size) (sym same.geometry);
         to_is = same.to ∙ o.to_is;
@@ -131,7 +131,7 @@ module _ (m : Machine) (f : FoundFile) (r : ReadingState) (p : Option Piece) (st
   })
 
   read_still : ReadsBeside (entries_of m) m.beginnings.holdings.blamed (found_of (Some f)) → ReadsBeside (entries_of m) m.beginnings.holdings.blamed (found_of taken_machine.found)
-  read_still old = λ place q share offset len there asked left. planned_still offset len (old place q share offset len there asked left)
+  read_still old = λ position q share offset len there asked left. planned_still offset len (old position q share offset len there asked left)
 
   complete_still : IsComplete m.from m.to (Some f) → IsComplete m.from m.to taken_machine.found
   complete_still e = same.reached ∙ e ∙ sym same.to
@@ -149,7 +149,7 @@ module _ (m : Machine) (f : FoundFile) (r : ReadingState) (p : Option Piece) (st
           file = taken_file;
           phase = reading m.beginnings (subst (λ (x : Option FoundFile). IsInPhase m.cap.total m.beginnings x) is way.phase);
         });
-    fair = fair_on (verify_cap_of m.cap) m.beginnings (record { place = f.place; file = f.reading.file }) (record { place = f.place; file = r.file }) goes
+    fair = fair_on (verify_cap_of m.cap) m.beginnings (record { position = f.position; file = f.reading.file }) (record { position = f.position; file = r.file }) goes
         (subst (λ (x : Option FoundFile). IsFair (verify_cap_of m.cap) m.beginnings (found_of x)) is k.fair);
     beside = λ ok. read_still (subst (λ (x : Option FoundFile). ReadsBeside (entries_of m) m.beginnings.holdings.blamed (found_of x)) is (k.beside ok));
     done = λ d. complete_still (subst (λ (x : Option FoundFile). IsComplete m.from m.to x) is (k.done d));

@@ -40,17 +40,17 @@ sent_tested old new (Some f) takes = λ input t.
     subst (λ (d : DownloadState). IsTested d input) (sym takes.3) (record { found = t.found; there = t.there; tested = t.tested })
 
 -- where a piece is taken
-handed_tested : (entries : List Request) (pieces : List Piece) (place : ℕ) (f : Found) (input : List ℕ)
-    → file.IsTested entries f.file input → file.IsTested entries (with_handed pieces place f).file input
-handed_tested entries pieces place f input (file.right_block reader r number at right is) = file.right_block reader r number at right is
-handed_tested entries pieces place f input (file.share_node k) = file.share_node k
-handed_tested entries pieces place f input (file.ciphertext_node k) = file.ciphertext_node k
-handed_tested entries pieces place f input (file.block_node reader r tree at is k) = file.block_node reader r tree at is k
+handed_tested : (entries : List Request) (pieces : List Piece) (position : ℕ) (f : Found) (input : List ℕ)
+    → file.IsTested entries f.file input → file.IsTested entries (with_handed pieces position f).file input
+handed_tested entries pieces position f input (file.right_block reader r number at right is) = file.right_block reader r number at right is
+handed_tested entries pieces position f input (file.share_node k) = file.share_node k
+handed_tested entries pieces position f input (file.ciphertext_node k) = file.ciphertext_node k
+handed_tested entries pieces position f input (file.block_node reader r tree at is k) = file.block_node reader r tree at is k
 
 pub taken_tested : (old new : DownloadState) (o : Option Piece) → TakesPiece old o new → StaysTested old new
 taken_tested old new None takes = tested_itself old new takes.1
 taken_tested old new (Some q) takes = λ input t.
-    let end : ℕ = q.place + length q.bytes in
+    let end : ℕ = q.offset + length q.bytes in
     subst (λ (d : DownloadState). IsTested d input) (sym takes.1) (record {
       found = with_handed (ready new) end t.found;
       there = ap (found_handed (ready new) end) t.there;

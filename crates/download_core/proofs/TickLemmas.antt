@@ -10,7 +10,7 @@ use Rattle.download_core.proofs.TestedLemmas.{tested_itself}
 
 accepted_itself : (o : Option ℕ) → StaysAccepted o o
 accepted_itself None = tt
-accepted_itself (Some place) = refl
+accepted_itself (Some position) = refl
 
 -- it finds no memory, and is as it was
 stands : (now : ℕ) (d : DownloadState) → d.status ≢ Running → StopsAt now d d

@@ -43,7 +43,7 @@ module _ (s u : BeginningsState) (r : ReadingState) (now : ℕ) (reading : AreRe
   follows = follows_falls s.holdings.table u.holdings.table (ticked_falls s u now was ticks same)
 
   pub ticked_answers : IsRead ns r.file
-  ticked_answers = reads_keep es ns r.file (λ place q body there answer. (grows_ticked s u now was ticks same).stays place q there (ap is_outstanding answer)) reading.linked.kept.answers
+  ticked_answers = reads_keep es ns r.file (λ position q body there answer. (grows_ticked s u now was ticks same).stays position q there (ap is_outstanding answer)) reading.linked.kept.answers
 
   pub ticked_kept : AreKept u r
   ticked_kept = fallen_kept s u r reading.linked known follows (readers_same s.begun u.begun same) (alike_ticked s u now was ticks same) ticked_answers
@@ -67,22 +67,22 @@ module _ (s u : BeginningsState) (r : ReadingState) (now : ℕ) (reading : AreRe
     }
   ]
 
-  moved : (reader : ℕ) (g : Holding) (w : Waiting) → IsReading u r reader g → IsAskedOf es g w → IsOutAt es w.place → IsOutAt ns w.place
+  moved : (reader : ℕ) (g : Holding) (w : Waiting) → IsReading u r reader g → IsAskedOf es g w → IsOutAt es w.position → IsOutAt ns w.position
   moved reader g w k a o =
       let h = read_back s u r reading.linked.kept follows reader g k in
       let one : h.1.holding ≡ k.holding = one_there (slice_get r.holdings reader) h.1.holding k.holding h.1.of k.of in
-      out_at k.holding h.0 g w.place w.wanted.read.place w.wanted.read.length (subst (λ x. IsHolding s.holdings.table x h.0) one h.1.is) k.is k.left
-      (read_as es g h.0 w.place w.wanted.read.place w.wanted.read.length (sym h.2) (sym h.3) a.read) o
+      out_at k.holding h.0 g w.position w.wanted.read.offset w.wanted.read.length (subst (λ x. IsHolding s.holdings.table x h.0) one h.1.is) k.is k.left
+      (read_as es g h.0 w.position w.wanted.read.offset w.wanted.read.length (sym h.2) (sym h.3) a.read) o
 
   still : (reader : ℕ) (g : Holding) (w : Waiting) → IsReading u r reader g → IsAskedOf es g w → IsAskedOf ns g w
   still reader g w k a = record {
-    read = read_grows es ns g g w.place w.wanted.read.place w.wanted.read.length (grows_ticked s u now was ticks same) refl refl a.read;
+    read = read_grows es ns g g w.position w.wanted.read.offset w.wanted.read.length (grows_ticked s u now was ticks same) refl refl a.read;
     state = state_of a.state;
   }
     where
-      state_of : IsOutAt es w.place ⊎ ((b : List ℕ) × IsAnsweredBy es w.place b) → IsOutAt ns w.place ⊎ ((b : List ℕ) × IsAnsweredBy ns w.place b)
+      state_of : IsOutAt es w.position ⊎ ((b : List ℕ) × IsAnsweredBy es w.position b) → IsOutAt ns w.position ⊎ ((b : List ℕ) × IsAnsweredBy ns w.position b)
       state_of (inl o) = inl (moved reader g w k a o)
-      state_of (inr b) = inr (b.0, record { request = b.1.request; there = (grows_ticked s u now was ticks same).stays w.place b.1.request b.1.there (ap is_outstanding b.1.answer); answer = b.1.answer })
+      state_of (inr b) = inr (b.0, record { request = b.1.request; there = (grows_ticked s u now was ticks same).stays w.position b.1.request b.1.there (ap is_outstanding b.1.answer); answer = b.1.answer })
 
   pub ticked_awaits : AreAwaited None u r
   ticked_awaits = fallen_awaits s u r reading.linked.kept follows None None reading.awaits still (λ reader g w k other. (other, moved reader g w k))

@@ -38,7 +38,7 @@ whole_files d pieces right some given follow =
     let whole : IsWholeFile d.requests.entries f.file (joined pieces) =
     file_whole.whole_files d.requests.entries f.file pieces (right_of d f there right) all (subst (λ (n : ℕ). AreConsecutive 0 pieces n) (sym head.block.size) follow) in
     record {
-      place = f.place;
+      position = f.position;
       is_accepted = ap accepted_in there;
       extension_block = head.text;
       answer = record { request = head.request; there = head.there; answer = head.answer };
@@ -54,18 +54,18 @@ whole_files d pieces right some given follow =
 
 -- ---- pieces that are taken
 
--- where a piece is ready there is a file, and the place up to which pieces were taken is set
-handed_is : (d : DownloadState) (p : Piece) (rest : List Piece) (place : ℕ) → ready d ≡ p ∷ rest → handed (record d { found = found_handed rest place d.found }) ≡ place
-handed_is d p rest place has = by d.found refl
+-- where a piece is ready there is a file, and the offset up to which pieces were taken is set
+handed_is : (d : DownloadState) (p : Piece) (rest : List Piece) (position : ℕ) → ready d ≡ p ∷ rest → handed (record d { found = found_handed rest position d.found }) ≡ position
+handed_is d p rest position has = by d.found refl
   where
-    by : (o : Option Found) → d.found ≡ o → handed_in d.from (found_handed rest place d.found) ≡ place
+    by : (o : Option Found) → d.found ≡ o → handed_in d.from (found_handed rest position d.found) ≡ position
     by None e = absurd (let none : [] ≡ p ∷ rest = sym (ap ready_in e) ∙ has in cc)
-    by (Some f) e = ap (λ (o : Option Found). handed_in d.from (found_handed rest place o)) e
+    by (Some f) e = ap (λ (o : Option Found). handed_in d.from (found_handed rest position o)) e
 
 pub taken_follow : TakenFollow
 taken_follow old new from pieces p right takes follow =
     let k : AreConsecutive (handed old) (p ∷ ready new) right.end = subst (λ (l : List Piece). AreConsecutive (handed old) l right.end) takes.0 right.consecutive in
     let pushed = consecutive_push from pieces (handed old) p follow k.0 k.1 in
-    let upto : handed new ≡ p.place + length p.bytes = ap handed takes.1 ∙ handed_is old p (ready new) (p.place + length p.bytes) takes.0 in
+    let upto : handed new ≡ p.offset + length p.bytes = ap handed takes.1 ∙ handed_is old p (ready new) (p.offset + length p.bytes) takes.0 in
     let same : handed old + length p.bytes ≡ handed new = ap (λ (n : ℕ). n + length p.bytes) (sym k.0) ∙ sym upto in
     subst (λ (n : ℕ). AreConsecutive from (pieces ++ p ∷ []) n) same pushed

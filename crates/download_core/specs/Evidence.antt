@@ -31,7 +31,7 @@ IsEvidenceOf cap entries found evidence = ⊥
 -- it is what answered the request for the extension block that was accepted
 abbrev pub IsAcceptedBlock : List Request → Option Found → List ℕ → Type 0
 IsAcceptedBlock entries None block = ⊥
-IsAcceptedBlock entries (Some f) block = IsAnsweredBy entries f.place block
+IsAcceptedBlock entries (Some f) block = IsAnsweredBy entries f.position block
 
 -- there is a part for each segment of the file
 abbrev pub HasAllParts : Option Found → Option Evidence → Type 0

@@ -12,11 +12,11 @@ use Rattle.download_file.specs.Answers.{IsRead}
 use Rattle.download_file.specs.Right.{IsFile}
 use Rattle.download_core.specs.State.{DownloadState, Found, ready}
 
--- the answer to the request at this place is the cap's extension block
-pub record IsHead (cap : VerifyCapValue) (entries : List Request) (place : ℕ) (u : Contents)
+-- the answer to the request at this position is the cap's extension block
+pub record IsHead (cap : VerifyCapValue) (entries : List Request) (position : ℕ) (u : Contents)
     : Type 0 where
   pub request : Request
-  pub there : slice_get entries place ≡ Some request
+  pub there : slice_get entries position ≡ Some request
   pub share : ℕ
   pub offset : ℕ
   pub len : ℕ
@@ -26,11 +26,11 @@ pub record IsHead (cap : VerifyCapValue) (entries : List Request) (place : ℕ) 
   pub whole : length text ≡ len
   pub block : IsUebFor cap text u
 
--- The file is the one of the cap, from a place up to another, by the answer to a request. What was
--- read of it, and each segment that was made, are of answers in the record.
+-- The file is the one of the cap, from an offset up to another, by the answer to a request. What
+-- was read of it, and each segment that was made, are of answers in the record.
 pub record IsFileOfCap (cap : ReadCapValue) (from to : ℕ) (entries : List Request) (f : Found)
     : Type 0 where
-  pub head : IsHead (verify_cap_of cap) entries f.place f.file.handout.ueb
+  pub head : IsHead (verify_cap_of cap) entries f.position f.file.handout.ueb
   pub key : f.file.handout.key ≡ cap.key
   pub first : f.file.first ≡ from / f.file.handout.geometry.segment_size
   pub to_is : f.file.handout.to ≡ to
@@ -49,5 +49,6 @@ IsRightIfFound (Some f) = IsFile f.file
 -- All pieces are proved by one extension block, the one that is accepted. Before, there is none.
 abbrev pub GivenIsProved : DownloadState → Option ℕ → Type 0
 GivenIsProved d None = ready d ≡ []
-GivenIsProved d (Some place) = (u : Contents)
-    × IsHead (verify_cap_of d.cap) d.requests.entries place u × All (IsGiven d.cap.key u) (ready d)
+GivenIsProved d (Some position) = (u : Contents)
+    × IsHead (verify_cap_of d.cap) d.requests.entries position u × All (IsGiven d.cap.key u)
+    (ready d)

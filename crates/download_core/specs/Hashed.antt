@@ -25,7 +25,7 @@ pub record IsHashed (d : DownloadState) (input : List ℕ) : Type 0 where
   pub found : Found
   pub there : d.found ≡ Some found
   pub block : List ℕ
-  pub answer : AnsweredWith d.requests.entries found.place block
+  pub answer : AnsweredWith d.requests.entries found.position block
   pub hashed : file_hashed.IsHashedWith d.requests.entries found.file block input
 
 -- what was given stays given

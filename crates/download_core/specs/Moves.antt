@@ -35,7 +35,7 @@ pub record Begins (cap : ReadCapValue) (from to : ℕ) (servers : List ℕ) (ses
 -- what is accepted stays so
 abbrev pub StaysAccepted : Option ℕ → Option ℕ → Type 0
 StaysAccepted None new = Unit {0}
-StaysAccepted (Some place) new = new ≡ Some place
+StaysAccepted (Some position) new = new ≡ Some position
 
 -- What a download is for stays, and what it has stays in front. What it gave stays given, and what
 -- it hashed stays hashed, also to test what it read.
@@ -79,22 +79,22 @@ pub record StopsAt (now : ℕ) (old new : DownloadState) : Type 0 where
   pub failed : old.status ≡ Running → new.status ≡ Failed
   pub ended : old.status ≢ Running → new ≡ old
 
--- the file whose pieces were taken up to a place, where these are left
+-- the file whose pieces were taken up to an offset, where these are left
 abbrev pub with_handed : List Piece → ℕ → Found → Found
-with_handed pieces place f = record f {
+with_handed pieces offset f = record f {
   file = record f.file {
-    handout = record f.file.handout { ready = pieces; handed = place };
+    handout = record f.file.handout { ready = pieces; handed = offset };
   };
 }
 
 abbrev pub found_handed : List Piece → ℕ → Option Found → Option Found
-found_handed pieces place None = None
-found_handed pieces place (Some f) = Some (with_handed pieces place f)
+found_handed pieces offset None = None
+found_handed pieces offset (Some f) = Some (with_handed pieces offset f)
 
 -- the first piece that is ready is taken
 abbrev pub TakesPiece : DownloadState → Option Piece → DownloadState → Type 0
 TakesPiece old None new = (ready old ≡ []) × (new ≡ old)
 TakesPiece old (Some p) new = (ready old ≡ p ∷ ready new)
     × (new ≡ record old {
-      found = found_handed (ready new) (p.place + length p.bytes) old.found;
+      found = found_handed (ready new) (p.offset + length p.bytes) old.found;
     })

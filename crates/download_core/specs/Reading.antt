@@ -85,20 +85,20 @@ pub record IsReading (s : BeginningsState) (r : ReadingState) (reader : ℕ) (h 
   pub is : IsHolding s.holdings.table holding h
   pub left : h.left ≡ true
 
--- the part was asked of the holding's share by the request at its place, which waits for its answer
--- or was answered with bytes
+-- the part was asked of the holding's share by the request at its position, which waits for its
+-- answer or was answered with bytes
 pub record IsAskedOf (entries : List Request) (h : Holding) (w : Waiting) : Type 0 where
-  pub read : IsReadAt entries h w.place w.wanted.read.place w.wanted.read.length
-  pub state : IsOutAt entries w.place
-      ⊎ ((bytes : List ℕ) × IsAnsweredBy entries w.place bytes)
+  pub read : IsReadAt entries h w.position w.wanted.read.offset w.wanted.read.length
+  pub state : IsOutAt entries w.position
+      ⊎ ((bytes : List ℕ) × IsAnsweredBy entries w.position bytes)
 
 -- What waits of each reader was asked of its share, and the answer to the first of it is not there
 -- yet, but for one reader.
 pub record AreAwaited (but : Option ℕ) (s : BeginningsState) (r : ReadingState) : Type 0 where
   pub asked : (reader : ℕ) (h : Holding) (w : Waiting) → IsReading s r reader h
       → Contains (waiting_at r.file reader) w → IsAskedOf s.holdings.requests.entries h w
-  pub first : (reader place : ℕ) (h : Holding) → IsReading s r reader h → but ≢ Some reader
-      → first_waiting r.file reader ≡ Some place → IsOutAt s.holdings.requests.entries place
+  pub first : (reader position : ℕ) (h : Holding) → IsReading s r reader h → but ≢ Some reader
+      → first_waiting r.file reader ≡ Some position → IsOutAt s.holdings.requests.entries position
 
 -- A share that is left and is not to be chosen yet waits for the answer to the read of its header,
 -- but for one. A share that is taken has a reader.

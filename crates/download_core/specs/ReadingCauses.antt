@@ -34,9 +34,9 @@ pub record IsPartFault (entries : List Request) (f : FileState) (b : Blame) : Ty
   pub refused : IsRefused file reader bytes b.check
   pub reads : copy_of refused.r ≡ copy b.server b.share
   pub request : Request
-  pub there : slice_get entries refused.first.place ≡ Some request
+  pub there : slice_get entries refused.first.position ≡ Some request
   pub of_server : request.server ≡ b.server
-  pub asked : request.asked ≡ Reading b.share refused.first.wanted.read.place
+  pub asked : request.asked ≡ Reading b.share refused.first.wanted.read.offset
       refused.first.wanted.read.length
   pub answer : request.outcome ≡ Answered (Data bytes)
 

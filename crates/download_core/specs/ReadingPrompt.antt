@@ -12,5 +12,5 @@ use Rattle.download_file.specs.State.{FileState, IsLive, first_waiting}
 pub record IsPrompt (patient : Bool) (entries : List Request) (f : FileState) : Type 0 where
   pub waits : MustWait patient f
   pub asked : AreAskedUp f
-  pub out : (reader place : ℕ) → IsLive f reader → first_waiting f reader ≡ Some place
-      → IsOutAt entries place
+  pub out : (reader position : ℕ) → IsLive f reader → first_waiting f reader ≡ Some position
+      → IsOutAt entries position

@@ -2,7 +2,7 @@
 use Rattle.std.specs.Prelude.{ℕ, List}
 use Rattle.download_file.specs.State.{FileState}
 
--- `holdings` has for each reader of the file, in their order, the place of the holding that it
+-- `holdings` has for each reader of the file, in their order, the position of the holding that it
 -- reads
 pub record ReadingState : Type 0 where
   pub file : FileState

@@ -23,7 +23,7 @@ use Rattle.download_shares.specs.declared.beginnings.News.TheVariants as news
 use Rattle.download_segments.specs.State.{HandoutState}
 use Rattle.download_segments.specs.declared.piece.Piece.{Piece}
 use Rattle.download_file.specs.Making.{SomeWaits}
-use Rattle.download_file.specs.State.{FileState, placed}
+use Rattle.download_file.specs.State.{FileState, waiting_from}
 use Rattle.download_file.specs.declared.reader.Waiting.{Waiting}
 use Rattle.download_core.specs.Reading.{AreAwaited, AreBusy, AreLinked, AreReading}
 use Rattle.download_core.specs.ReadingState.{ReadingState}
@@ -54,15 +54,16 @@ pub record Continues (s : BeginningsState) (r : ReadingState) (t : BeginningsSta
 pub record Grows (s t : BeginningsState) : Type 0 where
   pub stays : KeepsAnswers s.holdings.requests.entries t.holdings.requests.entries
 
--- it is the share of the holding at this place, at the same server
+-- it is the share of the holding at this position, at the same server
 abbrev pub IsSamePair : BeginningsState → ℕ → Holding → Type 0
 IsSamePair s holding h = (held : Holding) × IsHolding s.holdings.table holding held
     × (held.server ≡ h.server) × (held.share ≡ h.share)
 
--- the part is asked of the holding's share by the request at its place, which waits for its answer
+-- the part is asked of the holding's share by the request at its position, which waits for its
+-- answer
 pub record IsAskedNow (entries : List Request) (h : Holding) (w : Waiting) : Type 0 where
-  pub read : IsReadAt entries h w.place w.wanted.read.place w.wanted.read.length
-  pub out : IsOutAt entries w.place
+  pub read : IsReadAt entries h w.position w.wanted.read.offset w.wanted.read.length
+  pub out : IsOutAt entries w.position
 
 -- A holding's share is asked for these parts, by one request after another. Nothing else changes.
 pub record AsksParts (holding : ℕ) (wanted : List Wanted) (s t : BeginningsState) : Type 0 where
@@ -75,7 +76,7 @@ pub record AsksParts (holding : ℕ) (wanted : List Wanted) (s t : BeginningsSta
   pub count : length t.holdings.requests.entries
       ≡ length s.holdings.requests.entries + length wanted
   pub asked : (h : Holding) (w : Waiting) → IsHolding s.holdings.table holding h
-      → Contains (placed (length s.holdings.requests.entries) wanted) w
+      → Contains (waiting_from (length s.holdings.requests.entries) wanted) w
       → IsAskedNow t.holdings.requests.entries h w
 
 -- ---- what happens while a file is read
@@ -103,10 +104,10 @@ pub record IsTold (but : Option ℕ) (s : BeginningsState) (r : ReadingState) (h
 
 -- what is left to do, where the readers of shares that are gone are read no more
 abbrev pub IsHeard : BeginningsState → ReadingState → News → Type 0
-IsHeard s r (news.Beginning holding place) = IsTold (Some holding) s r holding
-    × WaitsAt s holding place
-    × ((bytes : List ℕ) × IsAnsweredBy s.holdings.requests.entries place bytes)
-IsHeard s r (news.Bytes holding place) = IsTold None s r holding
+IsHeard s r (news.Beginning holding position) = IsTold (Some holding) s r holding
+    × WaitsAt s holding position
+    × ((bytes : List ℕ) × IsAnsweredBy s.holdings.requests.entries position bytes)
+IsHeard s r (news.Bytes holding position) = IsTold None s r holding
 IsHeard s r told = AreReading s r
 
 -- a second passed

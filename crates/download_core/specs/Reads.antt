@@ -19,7 +19,7 @@ pub record IsReadOfOffered (entries : List Request) (request : Request) : Type 0
 
 -- Each request asks a server which shares it holds, or reads a share that its server offered.
 abbrev pub AsksOrReads : List Request → Type 0
-AsksOrReads entries = (place : ℕ) (request : Request) → slice_get entries place ≡ Some request
+AsksOrReads entries = (position : ℕ) (request : Request) → slice_get entries position ≡ Some request
     → (request.asked ≡ Holdings) ⊎ IsReadOfOffered entries request
 
 -- Bytes of any share, also of one that is blamed or gone, are read only in its beginning, as far as
@@ -32,8 +32,8 @@ MayRead entries (Some f) server share offset len =
 
 -- so it is with each read that was asked for
 abbrev pub ReadsNoMore : List Request → Option Found → Type 0
-ReadsNoMore entries found = (place : ℕ) (request : Request) (share offset len : ℕ)
-    → slice_get entries place ≡ Some request → request.asked ≡ Reading share offset len
+ReadsNoMore entries found = (position : ℕ) (request : Request) (share offset len : ℕ)
+    → slice_get entries position ≡ Some request → request.asked ≡ Reading share offset len
     → MayRead entries found request.server share offset len
 
 -- Once an extension block is accepted, each read that is asked for from then on, of any share, is a
@@ -53,6 +53,6 @@ IsPlannedOrBeside f offset len =
 -- planned, beside the beginning.
 abbrev pub ReadsBeside : List Request → List Blame → Option Found → Type 0
 ReadsBeside entries blamed None = ⊤
-ReadsBeside entries blamed (Some f) = (place : ℕ) (request : Request) (share offset len : ℕ)
-    → slice_get entries place ≡ Some request → request.asked ≡ Reading share offset len
+ReadsBeside entries blamed (Some f) = (position : ℕ) (request : Request) (share offset len : ℕ)
+    → slice_get entries position ≡ Some request → request.asked ≡ Reading share offset len
     → IsLeft entries blamed request.server share → IsPlannedOrBeside f.file offset len

@@ -13,7 +13,7 @@ use Rattle.download_core.specs.Given.{GivenIsProved, IsFileIfFound, IsRightIfFou
 use Rattle.download_core.specs.Reads.{AsksOrReads, ReadsBeside, ReadsNoMore}
 use Rattle.download_core.specs.State.{DownloadState, accepted, handed, ready}
 
--- The pieces follow one another from the place up to which bytes were taken, and none passes the
+-- The pieces follow one another from the offset up to which bytes were taken, and none passes the
 -- range. All of them are proved by the extension block that is accepted. Where the download is
 -- done, they end at the range's end; while it runs, a request waits for its answer. It gives up
 -- only where too few shares are left, and is inconsistent only where the file is no code word. A

@@ -17,13 +17,13 @@ first_of NotEnoughShares outgoing = slice_get outgoing 0
 first_of Inconsistent outgoing = slice_get outgoing 0
 first_of Failed outgoing = None
 
--- the place of the request that is sent next
+-- the position of the request that is sent next
 abbrev pub first_to_send : DownloadState → Option ℕ
 first_to_send d = first_of d.status d.requests.outgoing
 
 -- the first request to send is sent, if there is one
 abbrev pub Takes : DownloadState → Option (ℕ × Message) → DownloadState → Type 0
 Takes old None new = (first_to_send old ≡ None) × (new ≡ old)
-Takes old (Some f) new = (place : ℕ) × (first_to_send old ≡ Some place)
-    × IsFrame (verify_cap_of old.cap).storage_index old.requests place f.0 f.1
+Takes old (Some f) new = (position : ℕ) × (first_to_send old ≡ Some position)
+    × IsFrame (verify_cap_of old.cap).storage_index old.requests position f.0 f.1
     × (new ≡ with_record old (one_sent old.requests))

@@ -7,10 +7,10 @@ use Rattle.download_segments.specs.declared.piece.Piece.{Piece}
 use Rattle.download_file.specs.State.{FileState}
 use Rattle.download_core.specs.declared.status.DownloadStatus.{DownloadStatus}
 
--- The file of a download whose extension block is accepted. `place`: the request whose answer is
+-- The file of a download whose extension block is accepted. `position`: the request whose answer is
 -- the extension block. `file`: what is read, and what was made of it.
 pub record Found : Type 0 where
-  pub place : ℕ
+  pub position : ℕ
   pub file : FileState
 
 -- The bytes `from` to before `to` of the cap's file are wanted.
@@ -24,17 +24,17 @@ pub record DownloadState : Type 0 where
   pub blamed : List Blame
   pub status : DownloadStatus
 
--- the place of the request whose answer is the extension block, where one is accepted
+-- the position of the request whose answer is the extension block, where one is accepted
 abbrev pub accepted_in : Option Found → Option ℕ
 accepted_in None = None
-accepted_in (Some f) = Some f.place
+accepted_in (Some f) = Some f.position
 
 -- the pieces that were made and not taken yet, in order
 abbrev pub ready_in : Option Found → List Piece
 ready_in None = []
 ready_in (Some f) = f.file.handout.ready
 
--- the place up to which bytes were taken, of those from a place on
+-- the offset up to which bytes were taken, of those from an offset on
 abbrev pub handed_in : ℕ → Option Found → ℕ
 handed_in from None = from
 handed_in from (Some f) = f.file.handout.handed

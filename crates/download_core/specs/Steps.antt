@@ -32,7 +32,7 @@ use Rattle.download_core.specs.State.{DownloadState, Found}
 
 abbrev pub found_of : Option FoundFile → Option Found
 found_of None = None
-found_of (Some f) = Some (record { place = f.place; file = f.reading.file })
+found_of (Some f) = Some (record { position = f.position; file = f.reading.file })
 
 abbrev pub state_of : Machine → List ℕ → DownloadStatus → DownloadState
 state_of m servers status = record {
@@ -77,7 +77,7 @@ pub record IsUnderWay (m : Machine) : Type 0 where
 
 -- what a message brought to the shares that are opened
 abbrev pub AwaitsNews : BeginningsState → News → Type 0
-AwaitsNews s (Beginning holding place) = (o : Opening) × Awaits s holding place o
+AwaitsNews s (Beginning holding position) = (o : Opening) × Awaits s holding position o
 AwaitsNews s told = ⊤
 
 pub record OpensWith (total : ℕ) (s : BeginningsState) (told : News) : Type 0 where
@@ -109,11 +109,11 @@ pub record PassesOn (m : Machine) : Type 0 where
 
 -- more is made of the same file
 pub record FileGoesOn (f g : FoundFile) : Type 0 where
-  pub place : g.place ≡ f.place
+  pub position : g.position ≡ f.position
   pub same : IsSameFile f.reading.file g.reading.file
   pub pieces : AddsPieces f.reading.file.handout g.reading.file.handout
 
--- of no file a new one may come, from this place on
+-- of no file a new one may come, from this offset on
 abbrev pub FoundGrows : ℕ → Option FoundFile → Option FoundFile → Type 0
 FoundGrows from None None = ⊤
 FoundGrows from None (Some g) = g.reading.file.handout.handed ≡ from

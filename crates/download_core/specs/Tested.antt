@@ -25,7 +25,7 @@ StaysTested old new = (input : List ℕ) → IsTested old input → IsTested new
 pub record ShowsNoCodeWord (d : DownloadState) : Type 0 where
   pub found : Found
   pub there : d.found ≡ Some found
-  pub head : IsHead (verify_cap_of d.cap) d.requests.entries found.place found.file.handout.ueb
+  pub head : IsHead (verify_cap_of d.cap) d.requests.entries found.position found.file.handout.ueb
   pub no_code_word : IsNoCodeWordIn (IsTested d) found.file.handout.ueb
 
 -- a law: so it is where a download is inconsistent
@@ -36,8 +36,8 @@ InconsistentShowsNoCodeWord =
 -- a law: each right block that a reader holds leads to the roots that the extension block tells, by
 -- what the download tested
 abbrev pub RightBlocksLead : Type 0
-RightBlocksLead = (d : DownloadState) (f : Found) (place number : ℕ) (r : ReaderState)
-    → IsRight d → d.found ≡ Some f → IsReader f.file place r
+RightBlocksLead = (d : DownloadState) (f : Found) (position number : ℕ) (r : ReaderState)
+    → IsRight d → d.found ≡ Some f → IsReader f.file position r
     → HasRightBlock d.requests.entries r number
     → IsBlockIn (IsTested d) f.file.handout.ueb r.share number
     (block_of d.requests.entries r.supply number)

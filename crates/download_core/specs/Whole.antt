@@ -14,10 +14,10 @@ use Rattle.download_core.specs.State.{DownloadState, accepted, handed}
 -- these bytes are the file of the cap, by the extension block that the download accepted and a
 -- ciphertext
 pub record IsWholeFileOf (d : DownloadState) (bytes : List ℕ) : Type 0 where
-  pub place : ℕ
-  pub is_accepted : accepted d ≡ Some place
+  pub position : ℕ
+  pub is_accepted : accepted d ≡ Some position
   pub extension_block : List ℕ
-  pub answer : AnsweredWith d.requests.entries place extension_block
+  pub answer : AnsweredWith d.requests.entries position extension_block
   pub contents : Contents
   pub ciphertext : List ℕ
   pub file : IsFileOf d.cap extension_block contents ciphertext bytes

@@ -25,8 +25,8 @@ pub(crate) fn ask_parts(
     requires there { holding < length beginnings.old.holdings.table.holdings }
     requires few { All (λ w. (0 < w.read.length) × (w.read.length ≤ max_read)) wanted.now }
     requires apart { AllPairs (λ v w.
-        AreApart v.read.place v.read.length w.read.place w.read.length) wanted.now }
-    requires fresh { All (λ w. IsUnasked beginnings.old.holdings holding w.read.place
+        AreApart v.read.offset v.read.length w.read.offset w.read.length) wanted.now }
+    requires fresh { All (λ w. IsUnasked beginnings.old.holdings holding w.read.offset
         w.read.length) wanted.now }
     ensures asks { OnOk result (AsksParts holding wanted.now beginnings.old beginnings.new) }
     ensures goes { GoesOn beginnings.old beginnings.new }
@@ -36,7 +36,7 @@ pub(crate) fn ask_parts(
         beginnings.old.holdings.requests.entries beginnings.new.holdings.requests.entries }
 {
     for part in wanted {
-        beginnings.ask(holding, part.read.place, length_of(part.read.length))?;
+        beginnings.ask(holding, part.read.offset, length_of(part.read.length))?;
     }
     Ok(())
 }

@@ -14,8 +14,8 @@ ghost use Rattle.download_core.specs.Moves.{asked_servers};
 ghost use Rattle.download_core.specs.Prompt.{HoldsNothingBack};
 ghost use Rattle.download_core.specs.Proving.{EvidenceIsOfTheGiven};
 ghost use Rattle.download_core.specs.Right.{IsRight};
-ghost use Rattle.download_core.specs.Sections.{LaterReadsLieInSections, ReadsInPlace};
-ghost use Rattle.download_core.specs.Sections.{ReadsStayInPlace};
+ghost use Rattle.download_core.specs.Sections.{LaterReadsLieInSections, ReadsInSections};
+ghost use Rattle.download_core.specs.Sections.{ReadsStayInSections};
 ghost use Rattle.download_core.specs.Sending.{Takes, first_to_send};
 ghost use Rattle.download_core.specs.Tested.{InconsistentShowsNoCodeWord, RightBlocksLead};
 ghost use Rattle.download_core.specs.Whole.{TakenFollow, WholeFiles};
@@ -34,7 +34,7 @@ use std::alloc::{AllocError, Global};
 use std::marker::Model;
 use wire::message::{Message, NodeId};
 
-/// A download of the bytes of a file from one place to before another.
+/// A download of the bytes of a file from one offset to before another.
 #[derive(Drop)]
 pub struct Download {
     servers: Vec<NodeId>,
@@ -177,7 +177,7 @@ impl Operation for Download {
         ensures follows { Follows Nothing self.old.requests self.new.requests }
         ensures never_fails { IsOk result }
         // A Read asks for bytes of a beginning, or of one section for the range.
-        ensures reads { IfOk result (λ taken. IfSome taken (ReadsInPlace self.old)) }
+        ensures reads { IfOk result (λ taken. IfSome taken (ReadsInSections self.old)) }
     {
         if has_failed(self.status) {
             return Ok(None);
@@ -298,8 +298,8 @@ pub fn right_blocks_lead()
 /// A law of the definitions: before an extension block is accepted a download reads a share only in
 /// its header and where that names the extension block, and then within one section for its range.
 /// The law is the contract; the call does nothing.
-pub fn reads_stay_in_place()
-    ensures { ReadsStayInPlace }
+pub fn reads_stay_in_sections()
+    ensures { ReadsStayInSections }
 {}
 
 /// A law of the definitions: what a download asks for once an extension block is accepted, of any

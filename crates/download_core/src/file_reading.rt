@@ -72,7 +72,7 @@ impl Model for FileReading {
 }
 
 impl FileReading {
-    /// The bytes from the place `from` up to `to` of a file are wanted. Nothing is read yet.
+    /// The bytes from the offset `from` up to `to` of a file are wanted. Nothing is read yet.
     pub fn new(
         alloc: Global,
         key: &[u8; 16],
@@ -134,8 +134,8 @@ impl FileReading {
         self.follow(beginnings, news);
         match news {
             News::Nothing | News::Gone(_) => Ok(()),
-            News::Beginning(holding, place) => {
-                self.compare(beginnings, cap, holding, place)?;
+            News::Beginning(holding, position) => {
+                self.compare(beginnings, cap, holding, position)?;
                 self.take_of(beginnings, holding)
             }
             News::Bytes(holding, _) => self.take_of(beginnings, holding),
@@ -299,9 +299,9 @@ impl FileReading {
         ensures table { OnOk result (beginnings.new.holdings.table
             ≡ beginnings.old.holdings.table) }
     {
-        let place = beginnings.holdings().requests().len();
+        let position = beginnings.holdings().requests().len();
         self.asked_up = false;
-        let wanted = self.file.wanted(reader, place)?;
+        let wanted = self.file.wanted(reader, position)?;
         ask_parts(beginnings, self.holdings[reader], &wanted)
     }
 

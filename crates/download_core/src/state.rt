@@ -21,8 +21,8 @@ use wire::message::NodeId;
 /// A file whose extension block is accepted.
 #[derive(Drop)]
 pub(crate) struct FoundFile {
-    /// The place of the request whose answer is the extension block.
-    pub(crate) place: usize,
+    /// The position of the request whose answer is the extension block.
+    pub(crate) position: usize,
     pub(crate) reading: FileReading,
 }
 
@@ -84,7 +84,7 @@ impl Machine {
             return None;
         };
         let requests = self.beginnings.holdings().requests();
-        let Some(text) = bytes_at(requests, found.place) else {
+        let Some(text) = bytes_at(requests, found.position) else {
             unreachable!();
         };
         Some(text)
@@ -102,7 +102,7 @@ impl Machine {
             return Ok(None);
         };
         let requests = self.beginnings.holdings().requests();
-        let Some(text) = bytes_at(requests, found.place) else {
+        let Some(text) = bytes_at(requests, found.position) else {
             unreachable!();
         };
         let extension_block = Bytes::from_vec(Vec::from_slice(alloc, text)?);

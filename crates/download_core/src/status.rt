@@ -11,7 +11,7 @@ pub enum DownloadStatus {
     Done,
     /// Nothing is outstanding, and fewer share numbers than are needed are left.
     NotEnoughShares,
-    /// Blocks that are each proved decode to a segment that is not the one proved for its place.
+    /// Blocks that are each proved decode to a segment that is not the one proved for its position.
     Inconsistent,
     /// A call found no memory.
     Failed,

@@ -131,23 +131,23 @@ impl Machine {
         ensures way { OnOk result (IsUnderWay self.new) }
         ensures moves { MovesOn self.old self.new }
     {
-        let News::Beginning(holding, place) = news else {
+        let News::Beginning(holding, position) = news else {
             return Ok(());
         };
-        match self.beginnings.go_on(&self.verify, holding, place)? {
-            Some(opened) => self.accept(holding, place, &opened),
+        match self.beginnings.go_on(&self.verify, holding, position)? {
+            Some(opened) => self.accept(holding, position, &opened),
             None => Ok(()),
         }
     }
 
-    // Accepts the extension block that answered the request at a place, of a holding's share.
-    fn accept(&mut self, holding: usize, place: usize, opened: &Opened) -> Result<(), AllocError>
+    // Accepts the extension block that answered the request at a position, of a holding's share.
+    fn accept(&mut self, holding: usize, position: usize, opened: &Opened) -> Result<(), AllocError>
         requires wanted { IsFor self.old }
         requires known { AreBegun self.old.beginnings }
         requires count { length self.old.beginnings.holdings.table.numbers
             ≡ self.old.cap.total }
         requires found { IsFound self.old.beginnings holding }
-        requires block { IsBlockAt self.old.verify (entries_of self.old) place opened.now }
+        requires block { IsBlockAt self.old.verify (entries_of self.old) position opened.now }
         requires none { self.old.found ≡ None }
         ensures way { OnOk result (IsUnderWay self.new) }
         ensures moves { MovesOn self.old self.new }
@@ -160,7 +160,7 @@ impl Machine {
             self.from,
             self.to,
         )?;
-        self.found = Some(FoundFile { place, reading });
+        self.found = Some(FoundFile { position, reading });
         self.beginnings.accept(&opened.geometry, holding)
     }
 

@@ -28,12 +28,12 @@ impl FileReading {
         beginnings: &mut Beginnings,
         cap: &VerifyCap,
         holding: usize,
-        place: usize,
+        position: usize,
     ) -> Result<(), AllocError>
         requires told { IsTold (Some holding) beginnings.old self.old holding }
-        requires waits { WaitsAt beginnings.old holding place }
+        requires waits { WaitsAt beginnings.old holding position }
         requires answered { (bytes : List ℕ)
-            × IsAnsweredBy beginnings.old.holdings.requests.entries place bytes }
+            × IsAnsweredBy beginnings.old.holdings.requests.entries position bytes }
         ensures told { OnOk result (IsTold None beginnings.new self.new holding) }
         ensures continues { Continues beginnings.old self.old beginnings.new self.new }
         ensures requests { beginnings.new.holdings.requests ≡ beginnings.old.holdings.requests }
@@ -43,7 +43,7 @@ impl FileReading {
         ensures low { AddsBlames (λ b. b.share < self.old.file.handout.geometry.total)
             beginnings.old.holdings.blamed beginnings.new.holdings.blamed }
     {
-        beginnings.compare(cap, self.file.geometry(), holding, place)?;
+        beginnings.compare(cap, self.file.geometry(), holding, position)?;
         self.end_gone(beginnings);
         Ok(())
     }
@@ -81,25 +81,25 @@ impl FileReading {
         ensures causes { AddsBlames (IsPartFault beginnings.old.holdings.requests.entries
             self.new.file) beginnings.old.holdings.blamed beginnings.new.holdings.blamed }
     {
-        while let Some(place) = self.file.first_waiting(reader) {
-            if !self.take_one(beginnings, reader, place)? {
+        while let Some(position) = self.file.first_waiting(reader) {
+            if !self.take_one(beginnings, reader, position)? {
                 return Ok(());
             }
         }
         Ok(())
     }
 
-    // Takes the answer to the request at this place, which is the first that waits of a reader.
+    // Takes the answer to the request at this position, which is the first that waits of a reader.
     // `false` where it is not there, or refused.
     fn take_one(
         &mut self,
         beginnings: &mut Beginnings,
         reader: usize,
-        place: usize,
+        position: usize,
     ) -> Result<bool, AllocError>
         requires reading { AreReadingBut (Some reader) beginnings.old self.old }
         requires live { IsLive self.old.file reader }
-        requires waits { first_waiting self.old.file reader ≡ Some place }
+        requires waits { first_waiting self.old.file reader ≡ Some position }
         ensures next { result ≡ Ok true
             → AreReadingBut (Some reader) beginnings.new self.new }
         ensures last { result ≡ Ok false → AreReading beginnings.new self.new }
@@ -111,7 +111,7 @@ impl FileReading {
         ensures taken { result ≡ Ok true → waiting_at self.new.file reader
             ≡ drop 1 (waiting_at self.old.file reader) }
     {
-        let Some(bytes) = bytes_at(beginnings.holdings().requests(), place) else {
+        let Some(bytes) = bytes_at(beginnings.holdings().requests(), position) else {
             return Ok(false);
         };
         match self.file.take(reader, bytes) {

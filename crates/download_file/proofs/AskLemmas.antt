@@ -13,28 +13,28 @@ use Rattle.download_supply.specs.declared.wanted.Wanted.{Wanted}
 use Rattle.download_supply.proofs.CursorLemmas.{lead_different}
 use Rattle.download_supply.proofs.LawLemmas.{lead_append}
 use Rattle.download_supply.proofs.UpperLemmas.{upper_append}
-use Rattle.download_file.specs.State.{placed}
+use Rattle.download_file.specs.State.{waiting_from}
 use Rattle.download_file.specs.Steps.{Asks, AsksNoTree}
 use Rattle.download_file.specs.declared.reader.Waiting.{Waiting}
 
 -- ---- parts that wait
 
-pub placed_more : (place : ℕ) (wanted : List Wanted) (w : Wanted) → placed place (wanted ++ w ∷ []) ≡ placed place wanted ++ record { place = place + length wanted; wanted = w } ∷ []
-placed_more place [] w = let e : place ≡ place + 0 = omega arith in ap (λ (n : ℕ). record { place = n; wanted = w } ∷ []) e
-placed_more place (v ∷ vs) w =
-    ap (λ (l : List Waiting). record { place = place; wanted = v } ∷ l)
-    (placed_more (place + 1) vs w ∙ ap (λ (n : ℕ). placed (place + 1) vs ++ record { place = n; wanted = w } ∷ []) (let e : place + 1 + length vs ≡ place + suc (length vs) = omega arith in e))
+pub waiting_from_more : (position : ℕ) (wanted : List Wanted) (w : Wanted) → waiting_from position (wanted ++ w ∷ []) ≡ waiting_from position wanted ++ record { position = position + length wanted; wanted = w } ∷ []
+waiting_from_more position [] w = let e : position ≡ position + 0 = omega arith in ap (λ (n : ℕ). record { position = n; wanted = w } ∷ []) e
+waiting_from_more position (v ∷ vs) w =
+    ap (λ (l : List Waiting). record { position = position; wanted = v } ∷ l)
+    (waiting_from_more (position + 1) vs w ∙ ap (λ (n : ℕ). waiting_from (position + 1) vs ++ record { position = n; wanted = w } ∷ []) (let e : position + 1 + length vs ≡ position + suc (length vs) = omega arith in e))
 
-pub waits_more : (place : ℕ) (wanted : List Wanted) (i : ℕ) (d : Wanted) (old between new : List Waiting) (at : ℕ) → i < length wanted
-    → between ≡ old ++ placed place (take i wanted) → at ≡ place + i → new ≡ between ++ record { place = at; wanted = get_or wanted i d } ∷ []
-    → new ≡ old ++ placed place (take (i + 1) wanted)
-waits_more place wanted i d old between new at low before there pushed =
+pub waits_more : (position : ℕ) (wanted : List Wanted) (i : ℕ) (d : Wanted) (old between new : List Waiting) (at : ℕ) → i < length wanted
+    → between ≡ old ++ waiting_from position (take i wanted) → at ≡ position + i → new ≡ between ++ record { position = at; wanted = get_or wanted i d } ∷ []
+    → new ≡ old ++ waiting_from position (take (i + 1) wanted)
+waits_more position wanted i d old between new at low before there pushed =
     let w = get_or wanted i d in
-    let one : List Waiting = record { place = place + i; wanted = w } ∷ [] in
-    let same : placed place (take (i + 1) wanted) ≡ placed place (take i wanted) ++ one =
-    ap (placed place) (take_more wanted i d low) ∙ placed_more place (take i wanted) w
-    ∙ ap (λ (n : ℕ). placed place (take i wanted) ++ record { place = place + n; wanted = w } ∷ []) (length-take-le i wanted (omega (arith, low))) in
-    pushed ∙ (λ k. before k ++ record { place = there k; wanted = w } ∷ []) ∙ append_assoc old (placed place (take i wanted)) one
+    let one : List Waiting = record { position = position + i; wanted = w } ∷ [] in
+    let same : waiting_from position (take (i + 1) wanted) ≡ waiting_from position (take i wanted) ++ one =
+    ap (waiting_from position) (take_more wanted i d low) ∙ waiting_from_more position (take i wanted) w
+    ∙ ap (λ (n : ℕ). waiting_from position (take i wanted) ++ record { position = position + n; wanted = w } ∷ []) (length-take-le i wanted (omega (arith, low))) in
+    pushed ∙ (λ k. before k ++ record { position = there k; wanted = w } ∷ []) ∙ append_assoc old (waiting_from position (take i wanted)) one
     ∙ ap (λ (l : List Waiting). old ++ l) (sym same)
 
 -- ---- parts that are asked

@@ -6,7 +6,7 @@ use Rattle.std.proofs.lemmas.List.{length-append, map-append}
 use Rattle.std.proofs.lemmas.List.Elements.{All-contains, All-nil, All-push, All-weaker, Contains-push_cases}
 use Rattle.std.proofs.lemmas.Option.{slice_get_within}
 use Rattle.lemmas.proofs.Options.{one_there}
-use Rattle.lemmas.proofs.Places.{get_pushed}
+use Rattle.lemmas.proofs.Positions.{get_pushed}
 use Rattle.share_layout.specs.Geometry.{Geometry}
 use Rattle.download_parts.specs.declared.part.Part.{Part}
 use Rattle.download_parts.specs.declared.part.Part.TheVariants.{CiphertextTree}
@@ -118,21 +118,21 @@ module _ (f : FileState) (server share next : ℕ) (x : ReaderState) (gives : Bo
   }
 
   grow : ReadersGoOn f.readers (f.readers ++ x ∷ [])
-  grow place r at = record { now = r; there = get_first f.readers (x ∷ []) r place at; server = refl; share = refl; supply = goes_same r.supply }
+  grow position r at = record { now = r; there = get_first f.readers (x ∷ []) r position at; server = refl; share = refl; supply = goes_same r.supply }
 
-  below : (place : ℕ) → IsLive f place → place < length f.readers
-  below place among = All-contains (λ p. p < length f.readers) f.live place is.live.there among
+  below : (position : ℕ) → IsLive f position → position < length f.readers
+  below position among = All-contains (λ p. p < length f.readers) f.live position is.live.there among
 
   -- which of them it is
-  which : (place : ℕ) (r : ReaderState) → slice_get (f.readers ++ x ∷ []) place ≡ Some r → (slice_get f.readers place ≡ Some r) ⊎ ((place ≡ length f.readers) × (x ≡ r))
-  which place r at = get_pushed f.readers x r place at
+  which : (position : ℕ) (r : ReaderState) → slice_get (f.readers ++ x ∷ []) position ≡ Some r → (slice_get f.readers position ≡ Some r) ⊎ ((position ≡ length f.readers) × (x ≡ r))
+  which position r at = get_pushed f.readers x r position at
 
-  which_live : (place : ℕ) → IsLive begun_file place → IsLive f place ⊎ (length f.readers ≡ place)
-  which_live place among = Contains-push_cases f.live (length f.readers) place among
+  which_live : (position : ℕ) → IsLive begun_file position → IsLive f position ⊎ (length f.readers ≡ position)
+  which_live position among = Contains-push_cases f.live (length f.readers) position among
 
   -- one that was there is none that is new
-  old_there : (place : ℕ) (r : ReaderState) → slice_get f.readers place ≡ Some r → place < length f.readers
-  old_there place r at = slice_get_within f.readers place r at
+  old_there : (position : ℕ) (r : ReaderState) → slice_get f.readers position ≡ Some r → position < length f.readers
+  old_there position r at = slice_get_within f.readers position r at
 
   shares_differ : (i j : ℕ) (r s : ReaderState) → IsLive begun_file i → IsLive begun_file j → i < j → IsReader begun_file i r → IsReader begun_file j s → r.share ≢ s.share
   shares_differ i j r s one two order at_one at_two same = elim (which i r at_one) [
@@ -158,31 +158,31 @@ module _ (f : FileState) (server share next : ℕ) (x : ReaderState) (gives : Bo
       let count : length (f.live ++ length f.readers ∷ []) ≡ length f.live + 1 = length-append f.live (length f.readers ∷ []) in
       record {
         rise = rise_push 0 f.live (length f.readers) is.live.rise (omega arith) is.live.there;
-        there = All-push (λ place. place < length (f.readers ++ x ∷ [])) f.live (length f.readers)
-            (All-weaker (λ place. place < length f.readers) (λ place. place < length (f.readers ++ x ∷ [])) (λ place low. omega (arith, low, long)) f.live is.live.there)
+        there = All-push (λ position. position < length (f.readers ++ x ∷ [])) f.live (length f.readers)
+            (All-weaker (λ position. position < length f.readers) (λ position. position < length (f.readers ++ x ∷ [])) (λ position low. omega (arith, low, long)) f.live is.live.there)
             (omega (arith, long));
         few = let low = few in omega (arith, low, count);
         different = shares_differ;
-        waits = λ place r among at. elim (which place r at) [
-          | inl old ↦ elim (which_live place among) [
-            | inl was ↦ is.live.waits place r was old
-            | inr last ↦ absurd (let low = old_there place r old in omega (arith, last, low))
+        waits = λ position r among at. elim (which position r at) [
+          | inl old ↦ elim (which_live position among) [
+            | inl was ↦ is.live.waits position r was old
+            | inr last ↦ absurd (let low = old_there position r old in omega (arith, last, low))
           ]
           | inr new ↦ subst (λ (q : ReaderState). LeadOn q.supply.taken (waiting_parts q.waiting) q.supply.asked) new.1
               (subst (λ (l : List Waiting). LeadOn x.supply.taken (waiting_parts l) x.supply.asked) (sym begun.waiting) begun.asked)
         ];
-        upper = λ place r among at. elim (which place r at) [
-          | inl old ↦ elim (which_live place among) [
-            | inl was ↦ is.live.upper place r was old
-            | inr last ↦ absurd (let low = old_there place r old in omega (arith, last, low))
+        upper = λ position r among at. elim (which position r at) [
+          | inl old ↦ elim (which_live position among) [
+            | inl was ↦ is.live.upper position r was old
+            | inr last ↦ absurd (let low = old_there position r old in omega (arith, last, low))
           ]
           | inr new ↦ subst WaitsByLevels new.1
               (subst (λ (l : List Waiting). UpperComeFirst x.supply.geometry (first_of x.supply) x.supply.taken (waiting_parts l)) (sym begun.waiting) tt)
         ];
-        reads = λ place r among at. elim (which place r at) [
-          | inl old ↦ elim (which_live place among) [
-            | inl was ↦ is.live.reads place r was old
-            | inr last ↦ absurd (let low = old_there place r old in omega (arith, last, low))
+        reads = λ position r among at. elim (which position r at) [
+          | inl old ↦ elim (which_live position among) [
+            | inl was ↦ is.live.reads position r was old
+            | inr last ↦ absurd (let low = old_there position r old in omega (arith, last, low))
           ]
           | inr new ↦ subst (λ (q : ReaderState). All (λ v. IsReadOf q.supply v.wanted) q.waiting) new.1
               (subst (λ (l : List Waiting). All (λ v. IsReadOf x.supply v.wanted) l) (sym begun.waiting) (All-nil (λ v. IsReadOf x.supply v.wanted)))
@@ -194,20 +194,20 @@ module _ (f : FileState) (server share next : ℕ) (x : ReaderState) (gives : Bo
     levels = is.ciphertext.levels;
     pieces = is.ciphertext.pieces;
     known = is.ciphertext.known;
-    at_giver = λ place r gives_now at. elim (first_push f.live (length f.readers) place gives_now) [
-      | inl was ↦ elim (which place r at) [
-        | inl old ↦ is.ciphertext.at_giver place r was old
-        | inr new ↦ absurd (let low = below place (first_live f.live place was) in let is_new = new.0 in omega (arith, low, is_new))
+    at_giver = λ position r gives_now at. elim (first_push f.live (length f.readers) position gives_now) [
+      | inl was ↦ elim (which position r at) [
+        | inl old ↦ is.ciphertext.at_giver position r was old
+        | inr new ↦ absurd (let low = below position (first_live f.live position was) in let is_new = new.0 in omega (arith, low, is_new))
       ]
-      | inr alone ↦ elim (which place r at) [
-        | inl old ↦ absurd (let low = old_there place r old in let last = alone.1 in omega (arith, low, last))
+      | inr alone ↦ elim (which position r at) [
+        | inl old ↦ absurd (let low = old_there position r old in let last = alone.1 in omega (arith, low, last))
         | inr new ↦ subst (λ (q : ReaderState). q.supply.taken.ciphertext_tree ≡ f.taken) new.1 (begun.from (given alone.0))
       ]
     ];
-    behind = λ place other r p gives_now order at asked. elim (which other r at) [
+    behind = λ position other r p gives_now order at asked. elim (which other r at) [
       | inr new ↦ begun.none (CiphertextTree p) (subst (λ (q : ReaderState). IsAsked q.supply (CiphertextTree p)) (sym new.1) asked)
-      | inl old ↦ elim (first_push f.live (length f.readers) place gives_now) [
-        | inl was ↦ is.ciphertext.behind place other r p was order old asked
+      | inl old ↦ elim (first_push f.live (length f.readers) position gives_now) [
+        | inl was ↦ is.ciphertext.behind position other r p was order old asked
         | inr alone ↦ let low = old_there other r old in let last = alone.1 in omega (arith, low, last, order)
       ]
     ];
@@ -219,8 +219,8 @@ module _ (f : FileState) (server share next : ℕ) (x : ReaderState) (gives : Bo
     range = is.range;
     last = is.last;
     next = is.next;
-    readers = λ place r at. elim (which place r at) [
-      | inl old ↦ same_reader f begun_file r follows (is.readers place r old)
+    readers = λ position r at. elim (which position r at) [
+      | inl old ↦ same_reader f begun_file r follows (is.readers position r old)
       | inr new ↦ subst (IsReaderOf begun_file) new.1 is_begun
     ];
     live = live_begun;
@@ -231,10 +231,10 @@ module _ (f : FileState) (server share next : ℕ) (x : ReaderState) (gives : Bo
   }
 
   pub asks_begun : AsksNoMore f begun_file
-  asks_begun = asks_no_more f begun_file keeps (λ place r at. (r, get_first f.readers (x ∷ []) r place at, asks_itself r.supply))
+  asks_begun = asks_no_more f begun_file keeps (λ position r at. (r, get_first f.readers (x ∷ []) r position at, asks_itself r.supply))
     where
       keeps : KeepsAsks f.readers (f.readers ++ x ∷ [])
-      keeps place r at = elim (which place r at) [
+      keeps position r at = elim (which position r at) [
         | inl old ↦ inl (r, old, asks_itself r.supply)
         | inr new ↦ inr (λ part asked. begun.none part (subst (λ (q : ReaderState). IsAsked q.supply part) (sym new.1) asked))
       ]
@@ -252,8 +252,8 @@ module _ (f : FileState) (server share next : ℕ) (x : ReaderState) (gives : Bo
 
   pub read_begun : StaysRead f begun_file
   read_begun entries read = read_stays entries f begun_file refl refl refl (grow_none f.handout.trees) grow is.groups refl (λ p among. among)
-      (λ place r at. elim (which place r at) [
-        | inl old ↦ read.held place r old
+      (λ position r at. elim (which position r at) [
+        | inl old ↦ read.held position r old
         | inr new ↦ subst (λ (q : ReaderState). HoldsAnswers entries q) new.1 none_held
       ])
       read

@@ -14,28 +14,28 @@ use Rattle.download_file.specs.State.{ReaderState, numbers_of, share_in}
 use Rattle.download_file.specs.Answers.{answer_at, block_in, block_of, blocks_of}
 use Rattle.download_file.specs.Steps.{AreReady}
 
-pub ready_none : (readers : List ReaderState) (places : List ℕ) (number : ℕ) → AreReady readers (take 0 places) number
-ready_none readers places number place r among there = absurd (let k = among.1 in omega (arith, k))
+pub ready_none : (readers : List ReaderState) (positions : List ℕ) (number : ℕ) → AreReady readers (take 0 positions) number
+ready_none readers positions number position r among there = absurd (let k = among.1 in omega (arith, k))
 
-pub ready_more : (readers : List ReaderState) (places : List ℕ) (number i place : ℕ) (r : ReaderState) → i < length places → place ≡ get_or places i 0
-    → slice_get readers place ≡ Some r → IsReady r.supply number → AreReady readers (take i places) number → AreReady readers (take (i + 1) places) number
-ready_more readers places number i place r low is there ready before q s among at =
-    elim (Contains-push_cases (take i places) (get_or places i 0) q (subst (λ (l : List ℕ). Contains l q) (take_more places i 0 low) among)) [
+pub ready_more : (readers : List ReaderState) (positions : List ℕ) (number i position : ℕ) (r : ReaderState) → i < length positions → position ≡ get_or positions i 0
+    → slice_get readers position ≡ Some r → IsReady r.supply number → AreReady readers (take i positions) number → AreReady readers (take (i + 1) positions) number
+ready_more readers positions number i position r low is there ready before q s among at =
+    elim (Contains-push_cases (take i positions) (get_or positions i 0) q (subst (λ (l : List ℕ). Contains l q) (take_more positions i 0 low) among)) [
       | inl k ↦ before q s k at
-      | inr e ↦ subst (λ (t : ReaderState). IsReady t.supply number) (one_there (slice_get readers place) r s there (ap (slice_get readers) (is ∙ e) ∙ at)) ready
+      | inr e ↦ subst (λ (t : ReaderState). IsReady t.supply number) (one_there (slice_get readers position) r s there (ap (slice_get readers) (is ∙ e) ∙ at)) ready
     ]
 
 -- ---- blocks that are joined
 
 -- one block more
-pub blocks_more : (entries : List Request) (readers : List ReaderState) (number : ℕ) (places : List ℕ) (i : ℕ) (r : ReaderState) → i < length places
-    → slice_get readers (get_or places i 0) ≡ Some r
-    → blocks_of entries readers number (take (i + 1) places) ≡ blocks_of entries readers number (take i places) ++ block_of entries r.supply number
-blocks_more entries readers number places i r low at =
-    let f : ℕ → List ℕ = λ place. block_in entries number (slice_get readers place) in
-    let p = get_or places i 0 in
-    ap (flat_map f) (take_more places i 0 low) ∙ flat_map-append f (take i places) (p ∷ [])
-    ∙ ap (λ (b : List ℕ). flat_map f (take i places) ++ b) (append-nil (f p) ∙ ap (block_in entries number) at)
+pub blocks_more : (entries : List Request) (readers : List ReaderState) (number : ℕ) (positions : List ℕ) (i : ℕ) (r : ReaderState) → i < length positions
+    → slice_get readers (get_or positions i 0) ≡ Some r
+    → blocks_of entries readers number (take (i + 1) positions) ≡ blocks_of entries readers number (take i positions) ++ block_of entries r.supply number
+blocks_more entries readers number positions i r low at =
+    let f : ℕ → List ℕ = λ position. block_in entries number (slice_get readers position) in
+    let p = get_or positions i 0 in
+    ap (flat_map f) (take_more positions i 0 low) ∙ flat_map-append f (take i positions) (p ∷ [])
+    ∙ ap (λ (b : List ℕ). flat_map f (take i positions) ++ b) (append-nil (f p) ∙ ap (block_in entries number) at)
 
 -- the bytes that are taken of a piece, where so many were skipped and taken before
 pub piece_taken : (size offset : ℕ) (read bytes : List ℕ) (skipped left from upto : ℕ)
@@ -101,21 +101,21 @@ counts_more size offset read bytes skipped left from upto skips leaves begins en
     (omega (arith, skips, leaves, begins, ends, all, one, two), omega (arith, skips, begins, all))
 
 -- one piece more is read
-pub read_more : (entries : List Request) (places : List ℕ) (i : ℕ) (bytes : List ℕ) → i < length places → bytes ≡ answer_at entries (get_or places i 0)
-    → concat (map (answer_at entries) (take (i + 1) places)) ≡ concat (map (answer_at entries) (take i places)) ++ bytes
-read_more entries places i bytes low is =
+pub read_more : (entries : List Request) (positions : List ℕ) (i : ℕ) (bytes : List ℕ) → i < length positions → bytes ≡ answer_at entries (get_or positions i 0)
+    → concat (map (answer_at entries) (take (i + 1) positions)) ≡ concat (map (answer_at entries) (take i positions)) ++ bytes
+read_more entries positions i bytes low is =
     let f : ℕ → List ℕ = answer_at entries in
-    let p = get_or places i 0 in
-    ap (λ (l : List ℕ). concat (map f l)) (take_more places i 0 low)
-    ∙ ap concat (map-append f (take i places) (p ∷ []))
-    ∙ concat-append (map f (take i places)) (f p ∷ [])
-    ∙ ap (λ (b : List ℕ). concat (map f (take i places)) ++ b) (append-nil (f p) ∙ sym is)
+    let p = get_or positions i 0 in
+    ap (λ (l : List ℕ). concat (map f l)) (take_more positions i 0 low)
+    ∙ ap concat (map-append f (take i positions) (p ∷ []))
+    ∙ concat-append (map f (take i positions)) (f p ∷ [])
+    ∙ ap (λ (b : List ℕ). concat (map f (take i positions)) ++ b) (append-nil (f p) ∙ sym is)
 
 -- one number more
-pub numbers_more : (readers : List ReaderState) (places : List ℕ) (i : ℕ) (r : ReaderState) → i < length places → slice_get readers (get_or places i 0) ≡ Some r
-    → numbers_of readers (take (i + 1) places) ≡ numbers_of readers (take i places) ++ r.share ∷ []
-numbers_more readers places i r low at =
-    let f : ℕ → ℕ = λ place. share_in (slice_get readers place) in
-    let p = get_or places i 0 in
-    ap (map f) (take_more places i 0 low) ∙ map-append f (take i places) (p ∷ [])
-    ∙ ap (λ (n : ℕ). map f (take i places) ++ n ∷ []) (ap share_in at)
+pub numbers_more : (readers : List ReaderState) (positions : List ℕ) (i : ℕ) (r : ReaderState) → i < length positions → slice_get readers (get_or positions i 0) ≡ Some r
+    → numbers_of readers (take (i + 1) positions) ≡ numbers_of readers (take i positions) ++ r.share ∷ []
+numbers_more readers positions i r low at =
+    let f : ℕ → ℕ = λ position. share_in (slice_get readers position) in
+    let p = get_or positions i 0 in
+    ap (map f) (take_more positions i 0 low) ∙ map-append f (take i positions) (p ∷ [])
+    ∙ ap (λ (n : ℕ). map f (take i positions) ++ n ∷ []) (ap share_in at)

@@ -6,7 +6,7 @@ use Rattle.std.proofs.lemmas.List.{append-nil, length-set}
 use Rattle.std.proofs.lemmas.List.Elements.{All-contains, All-weaker}
 use Rattle.lemmas.proofs.Options.{one_there}
 use Rattle.download_file.proofs.PatienceLemmas.{asks_two}
-use Rattle.lemmas.proofs.Places.{get_set, get_other, set_cases}
+use Rattle.lemmas.proofs.Positions.{get_set, get_other, set_cases}
 use Rattle.share_layout.specs.Geometry.{Geometry}
 use Rattle.download_parts.specs.Plan.{IsNodePiece}
 use Rattle.download_parts.specs.Range.{IsRange}
@@ -50,18 +50,18 @@ pub record Nearly (f : FileState) : Type 0 where
   pub range : IsRange f.handout.geometry f.first f.end
   pub last : f.end ≡ (f.handout.to - 1) / f.handout.geometry.segment_size + 1
   pub next : (number : ℕ) → next_segment f.handout ≡ Some number → (f.first ≤ number) × (number < f.end)
-  pub readers : (place : ℕ) (r : ReaderState) → IsReader f place r → IsReaderOf f r
+  pub readers : (reader : ℕ) (r : ReaderState) → IsReader f reader r → IsReaderOf f r
   pub live : AreLive f
   pub levels : length f.taken ≡ 3
   pub pieces : (p : NodePiece) → p.index < cursor_at f.taken p.level → IsNodePiece f.handout.geometry f.first f.end p
   pub known : (p : NodePiece) → p.index < cursor_at f.taken p.level → KnowsPiece f.handout.geometry f.first f.end f.handout.trees.ciphertext p
-  pub behind : (place behind : ℕ) (r : ReaderState) (p : NodePiece) → giver f ≡ Some place
-      → place < behind → IsReader f behind r → ¬ IsAsked r.supply (CiphertextTree p)
+  pub behind : (reader behind : ℕ) (r : ReaderState) (p : NodePiece) → giver f ≡ Some reader
+      → reader < behind → IsReader f behind r → ¬ IsAsked r.supply (CiphertextTree p)
   pub groups : All (IsGroup f.handout f.readers) f.groups
   pub in_order : AreConsecutive f.first f.groups (made_end f)
 
 abbrev pub AtGiver : FileState → Type 0
-AtGiver f = (place : ℕ) (r : ReaderState) → giver f ≡ Some place → IsReader f place r → r.supply.taken.ciphertext_tree ≡ f.taken
+AtGiver f = (reader : ℕ) (r : ReaderState) → giver f ≡ Some reader → IsReader f reader r → r.supply.taken.ciphertext_tree ≡ f.taken
 
 pub whole : (f : FileState) → Nearly f → AtGiver f → IsFile f
 whole f k gives = record {
@@ -76,7 +76,7 @@ whole f k gives = record {
   in_order = k.in_order;
 }
 
--- ---- the reader at a place ends, perhaps after more was asked of it in vain
+-- ---- the reader at a position ends, perhaps after more was asked of it in vain
 
 module _ (f : FileState) (reader : ℕ) (r r1 : ReaderState) (is : IsFile f) (live : IsLive f reader) (at : slice_get f.readers reader ≡ Some r)
     (server : r1.server ≡ r.server) (share : r1.share ≡ r.share) (only : OnlyAsks r.supply r1.supply) (right : IsSupply r1.supply) (tree : giver f ≢ Some reader → AsksNoTree r.supply r1.supply) where
@@ -105,7 +105,7 @@ module _ (f : FileState) (reader : ℕ) (r r1 : ReaderState) (is : IsFile f) (li
       (subst (λ (s : SupplyState). TellsRoot f.handout.trees.shares r.share s.tree) (sym only) (is.readers reader r at).root)
 
   pub grow_stopped : ReadersGoOn f.readers (slice_set f.readers reader (stopped r1))
-  grow_stopped place q there = elim (get_cases f.readers reader place (stopped r1) r q at there) [
+  grow_stopped position q there = elim (get_cases f.readers reader position (stopped r1) r q at there) [
     | inl k ↦ record {
       now = stopped r1;
       there = k.2;
@@ -117,40 +117,40 @@ module _ (f : FileState) (reader : ℕ) (r r1 : ReaderState) (is : IsFile f) (li
   ]
 
   -- the readers that are left are as they were
-  left : (place : ℕ) (q : ReaderState) → IsLive stopped_file place → IsReader stopped_file place q → IsLive f place × IsReader f place q
-  left place q among there =
-      let k = from_without reader place f.live among in
-      (k.0, sym (get_other f.readers reader place (stopped r1) k.1) ∙ there)
+  left : (position : ℕ) (q : ReaderState) → IsLive stopped_file position → IsReader stopped_file position q → IsLive f position × IsReader f position q
+  left position q among there =
+      let k = from_without reader position f.live among in
+      (k.0, sym (get_other f.readers reader position (stopped r1) k.1) ∙ there)
 
   live_stopped : AreLive stopped_file
   live_stopped =
       let long : length (slice_set f.readers reader (stopped r1)) ≡ length f.readers = length-set f.readers reader (stopped r1) in
       record {
         rise = rise_without reader 0 f.live is.live.rise;
-        there = All-from_contains (λ place. place < length (slice_set f.readers reader (stopped r1))) (without reader f.live) (λ place among.
-            let low : place < length f.readers = All-contains (λ p. p < length f.readers) f.live place is.live.there (from_without reader place f.live among).0 in
+        there = All-from_contains (λ position. position < length (slice_set f.readers reader (stopped r1))) (without reader f.live) (λ position among.
+            let low : position < length f.readers = All-contains (λ p. p < length f.readers) f.live position is.live.there (from_without reader position f.live among).0 in
             omega (arith, low, long));
         few = let few = is.live.few in let less = length-without reader f.live in omega (arith, few, less);
         different = λ i j x y one two order at_one at_two.
             let a = left i x one at_one in
             let b = left j y two at_two in
             is.live.different i j x y a.0 b.0 order a.1 b.1;
-        waits = λ place q among there. let k = left place q among there in is.live.waits place q k.0 k.1;
-        upper = λ place q among there. let k = left place q among there in is.live.upper place q k.0 k.1;
-        reads = λ place q among there. let k = left place q among there in is.live.reads place q k.0 k.1;
+        waits = λ position q among there. let k = left position q among there in is.live.waits position q k.0 k.1;
+        upper = λ position q among there. let k = left position q among there in is.live.upper position q k.0 k.1;
+        reads = λ position q among there. let k = left position q among there in is.live.reads position q k.0 k.1;
       }
 
   -- the giver is a reader that is not before the one that was
-  giver_later : (place was : ℕ) → giver stopped_file ≡ Some place → giver f ≡ Some was → was ≤ place
-  giver_later place was now first =
-      first_least 0 f.live was place is.live.rise first (from_without reader place f.live (first_live (without reader f.live) place now)).0
+  giver_later : (position was : ℕ) → giver stopped_file ≡ Some position → giver f ≡ Some was → was ≤ position
+  giver_later position was now first =
+      first_least 0 f.live was position is.live.rise first (from_without reader position f.live (first_live (without reader f.live) position now)).0
 
-  pub still_giver : (place : ℕ) → giver f ≢ Some reader → giver stopped_file ≡ Some place → giver f ≡ Some place
-  still_giver place other now =
+  pub still_giver : (position : ℕ) → giver f ≢ Some reader → giver stopped_file ≡ Some position → giver f ≡ Some position
+  still_giver position other now =
       let was = something_first f.live reader live in
       let not : was.0 ≡ reader → ⊥ = λ e. other (was.1 ∙ ap Some e) in
       let stays : giver stopped_file ≡ Some was.0 = first_stays reader was.0 f.live was.1 not in
-      was.1 ∙ ap Some (one_there (giver stopped_file) was.0 place stays now)
+      was.1 ∙ ap Some (one_there (giver stopped_file) was.0 position stays now)
 
   pub nearly : Nearly stopped_file
   nearly = record {
@@ -158,17 +158,17 @@ module _ (f : FileState) (reader : ℕ) (r r1 : ReaderState) (is : IsFile f) (li
     range = is.range;
     last = is.last;
     next = is.next;
-    readers = λ place q there. elim (set_cases f.readers reader place (stopped r1) q there) [
+    readers = λ position q there. elim (set_cases f.readers reader position (stopped r1) q there) [
       | inl k ↦ subst (IsReaderOf stopped_file) k.1 is_stopped
-      | inr k ↦ same_reader f stopped_file q follows (is.readers place q k.1)
+      | inr k ↦ same_reader f stopped_file q follows (is.readers position q k.1)
     ];
     live = live_stopped;
     levels = is.ciphertext.levels;
     pieces = is.ciphertext.pieces;
     known = is.ciphertext.known;
-    behind = λ place other q p now order there asked.
+    behind = λ position other q p now order there asked.
         let was = something_first f.live reader live in
-        let later = giver_later place was.0 now was.1 in
+        let later = giver_later position was.0 now was.1 in
         elim (set_cases f.readers reader other (stopped r1) q there) [
           | inr k ↦ is.ciphertext.behind was.0 other q p was.1 (omega (arith, later, order)) k.1 asked
           | inl k ↦
@@ -185,15 +185,15 @@ module _ (f : FileState) (reader : ℕ) (r r1 : ReaderState) (is : IsFile f) (li
   }
 
   pub gives_still : giver f ≢ Some reader → AtGiver stopped_file
-  gives_still other place q now there =
-      let k = left place q (first_live (without reader f.live) place now) there in
-      is.ciphertext.at_giver place q (still_giver place other now) k.1
+  gives_still other position q now there =
+      let k = left position q (first_live (without reader f.live) position now) there in
+      is.ciphertext.at_giver position q (still_giver position other now) k.1
 
   pub read_stopped : StaysRead f stopped_file
   read_stopped entries read = read_stays entries f stopped_file refl refl refl (grow_none f.handout.trees) grow_stopped is.groups refl (λ p among. among)
-      (λ place q there. elim (set_cases f.readers reader place (stopped r1) q there) [
+      (λ position q there. elim (set_cases f.readers reader position (stopped r1) q there) [
         | inl k ↦ subst (λ (x : ReaderState). HoldsAnswers entries x) k.1 (subst (HoldsFor entries r1.server r1.share) (sym only) (holds_as entries r.server r.share r1.server r1.share r.supply server share (read.held reader r at)))
-        | inr k ↦ read.held place q k.1
+        | inr k ↦ read.held position q k.1
       ])
       read
 
@@ -216,11 +216,11 @@ module _ (f : FileState) (reader : ℕ) (r r1 : ReaderState) (is : IsFile f) (li
   -- nothing was asked in vain
   pub asks_stopped : SameAsks r.supply r1.supply → AsksNoMore f stopped_file
   asks_stopped same = asks_no_more f stopped_file
-      (λ place q there. elim (set_cases f.readers reader place (stopped r1) q there) [
+      (λ position q there. elim (set_cases f.readers reader position (stopped r1) q there) [
         | inl k ↦ inl (r, ap (slice_get f.readers) k.0 ∙ at, subst (λ (x : ReaderState). SameAsks r.supply x.supply) k.1 same)
         | inr k ↦ inl (q, k.1, asks_itself q.supply)
       ])
-      (λ place q there. elim (get_cases f.readers reader place (stopped r1) r q at there) [
+      (λ position q there. elim (get_cases f.readers reader position (stopped r1) r q at there) [
         | inl k ↦ (stopped r1, k.2, subst (λ (x : ReaderState). SameAsks x.supply r1.supply) k.1 same)
         | inr k ↦ (q, k.1, asks_itself q.supply)
       ])
@@ -262,7 +262,7 @@ module _ (f : FileState) (next : ℕ) (s : ReaderState) (k : Nearly f) (first : 
   same_giving = record { geometry = refl; start = refl; first = refl; end = refl; asked = giving_asks s.supply f.taken none }
 
   grow_giving : ReadersGoOn f.readers (slice_set f.readers next (giving s f.taken))
-  grow_giving place q there = elim (get_cases f.readers next place (giving s f.taken) s q at there) [
+  grow_giving position q there = elim (get_cases f.readers next position (giving s f.taken) s q at there) [
     | inl e ↦ record {
       now = giving s f.taken;
       there = e.2;
@@ -273,8 +273,8 @@ module _ (f : FileState) (next : ℕ) (s : ReaderState) (k : Nearly f) (first : 
     | inr e ↦ record { now = q; there = e.1; server = refl; share = refl; supply = goes_same q.supply }
   ]
 
-  share_was_giving : (place : ℕ) (q : ReaderState) → IsReader giving_file place q → (o : ReaderState) × (IsReader f place o) × (q.share ≡ o.share)
-  share_was_giving place q there = elim (set_cases f.readers next place (giving s f.taken) q there) [
+  share_was_giving : (position : ℕ) (q : ReaderState) → IsReader giving_file position q → (o : ReaderState) × (IsReader f position o) × (q.share ≡ o.share)
+  share_was_giving position q there = elim (set_cases f.readers next position (giving s f.taken) q there) [
     | inl e ↦ (s, ap (slice_get f.readers) e.0 ∙ at, sym (ap (λ (x : ReaderState). x.share) e.1))
     | inr e ↦ (q, e.1, refl)
   ]
@@ -284,28 +284,28 @@ module _ (f : FileState) (next : ℕ) (s : ReaderState) (k : Nearly f) (first : 
       let long : length (slice_set f.readers next (giving s f.taken)) ≡ length f.readers = length-set f.readers next (giving s f.taken) in
       record {
         rise = k.live.rise;
-        there = All-weaker (λ place. place < length f.readers) (λ place. place < length (slice_set f.readers next (giving s f.taken))) (λ place low. omega (arith, low, long)) f.live k.live.there;
+        there = All-weaker (λ position. position < length f.readers) (λ position. position < length (slice_set f.readers next (giving s f.taken))) (λ position low. omega (arith, low, long)) f.live k.live.there;
         few = k.live.few;
         different = λ i j x y one two order at_one at_two alike.
             let a = share_was_giving i x at_one in
             let b = share_was_giving j y at_two in
             k.live.different i j a.0 b.0 one two order a.1 b.1 (sym a.2 ∙ alike ∙ b.2);
-        waits = λ place q among there. elim (set_cases f.readers next place (giving s f.taken) q there) [
+        waits = λ position q among there. elim (set_cases f.readers next position (giving s f.taken) q there) [
           | inl e ↦ subst (λ (x : ReaderState). LeadOn x.supply.taken (waiting_parts x.waiting) x.supply.asked) e.1
               (lead_giving s.supply f.taken (waiting_parts s.waiting) (k.readers next s at).supply none
               (k.live.waits next s (first_live f.live next first) at))
-          | inr e ↦ k.live.waits place q among e.1
+          | inr e ↦ k.live.waits position q among e.1
         ];
-        upper = λ place q among there. elim (set_cases f.readers next place (giving s f.taken) q there) [
+        upper = λ position q among there. elim (set_cases f.readers next position (giving s f.taken) q there) [
           | inl e ↦
               let one = first_live f.live next first in
               subst WaitsByLevels e.1
               (upper_giving s.supply f.taken (waiting_parts s.waiting) (k.readers next s at).supply none (k.live.waits next s one at) (k.live.upper next s one at))
-          | inr e ↦ k.live.upper place q among e.1
+          | inr e ↦ k.live.upper position q among e.1
         ];
-        reads = λ place q among there. elim (set_cases f.readers next place (giving s f.taken) q there) [
+        reads = λ position q among there. elim (set_cases f.readers next position (giving s f.taken) q there) [
           | inl e ↦ subst (λ (x : ReaderState). All (λ v. IsReadOf x.supply v.wanted) x.waiting) e.1 (k.live.reads next s (first_live f.live next first) at)
-          | inr e ↦ k.live.reads place q among e.1
+          | inr e ↦ k.live.reads position q among e.1
         ];
       }
 
@@ -315,17 +315,17 @@ module _ (f : FileState) (next : ℕ) (s : ReaderState) (k : Nearly f) (first : 
     range = k.range;
     last = k.last;
     next = k.next;
-    readers = λ place q there. elim (set_cases f.readers next place (giving s f.taken) q there) [
+    readers = λ position q there. elim (set_cases f.readers next position (giving s f.taken) q there) [
       | inl e ↦ subst (IsReaderOf giving_file) e.1 is_giving
-      | inr e ↦ same_reader f giving_file q follows_giving (k.readers place q e.1)
+      | inr e ↦ same_reader f giving_file q follows_giving (k.readers position q e.1)
     ];
     live = live_giving;
     levels = k.levels;
     pieces = k.pieces;
     known = k.known;
-    behind = λ place other q p now order there asked. elim (set_cases f.readers next other (giving s f.taken) q there) [
-      | inl e ↦ let one : place ≡ next = one_there (giver f) place next now first in let is_next = e.0 in omega (arith, order, one, is_next)
-      | inr e ↦ k.behind place other q p now order e.1 asked
+    behind = λ position other q p now order there asked. elim (set_cases f.readers next other (giving s f.taken) q there) [
+      | inl e ↦ let one : position ≡ next = one_there (giver f) position next now first in let is_next = e.0 in omega (arith, order, one, is_next)
+      | inr e ↦ k.behind position other q p now order e.1 asked
     ];
     groups = All-weaker (IsGroup f.handout f.readers) (IsGroup f.handout (slice_set f.readers next (giving s f.taken)))
         (λ group own. group_stays f.handout f.handout f.readers (slice_set f.readers next (giving s f.taken)) group refl grow_giving own) f.groups k.groups;
@@ -333,17 +333,17 @@ module _ (f : FileState) (next : ℕ) (s : ReaderState) (k : Nearly f) (first : 
   }
 
   pub file_giving : IsFile giving_file
-  file_giving = whole giving_file nearly_giving (λ place q now there.
-      let one : place ≡ next = one_there (giver f) place next now first in
+  file_giving = whole giving_file nearly_giving (λ position q now there.
+      let one : position ≡ next = one_there (giver f) position next now first in
       let is_q : giving s f.taken ≡ q = one_there (slice_get (slice_set f.readers next (giving s f.taken)) next) (giving s f.taken) q
       (get_set f.readers next (giving s f.taken) s at) (ap (slice_get (slice_set f.readers next (giving s f.taken))) (sym one) ∙ there) in
       subst (λ (x : ReaderState). x.supply.taken.ciphertext_tree ≡ f.taken) is_q refl)
 
   pub read_giving : StaysRead f giving_file
   read_giving entries read = read_stays entries f giving_file refl refl refl (grow_none f.handout.trees) grow_giving k.groups refl (λ p among. among)
-      (λ place q there. elim (set_cases f.readers next place (giving s f.taken) q there) [
+      (λ position q there. elim (set_cases f.readers next position (giving s f.taken) q there) [
         | inl e ↦ subst (λ (x : ReaderState). HoldsAnswers entries x) e.1 (read.held next s at)
-        | inr e ↦ read.held place q e.1
+        | inr e ↦ read.held position q e.1
       ])
       read
 
@@ -358,11 +358,11 @@ module _ (f : FileState) (next : ℕ) (s : ReaderState) (k : Nearly f) (first : 
 
   pub asks_giving : AsksNoMore f giving_file
   asks_giving = asks_no_more f giving_file
-      (λ place q there. elim (set_cases f.readers next place (giving s f.taken) q there) [
+      (λ position q there. elim (set_cases f.readers next position (giving s f.taken) q there) [
         | inl e ↦ inl (s, ap (slice_get f.readers) e.0 ∙ at, subst (λ (x : ReaderState). SameAsks s.supply x.supply) e.1 same_giving)
         | inr e ↦ inl (q, e.1, asks_itself q.supply)
       ])
-      (λ place q there. elim (get_cases f.readers next place (giving s f.taken) s q at there) [
+      (λ position q there. elim (get_cases f.readers next position (giving s f.taken) s q at there) [
         | inl e ↦ (giving s f.taken, e.2, subst (λ (x : ReaderState). SameAsks x.supply (gives_from s.supply f.taken)) e.1 same_giving)
         | inr e ↦ (q, e.1, asks_itself q.supply)
       ])
@@ -402,7 +402,7 @@ module _ (f : FileState) (reader : ℕ) (r r1 : ReaderState) (rs : List ReaderSt
   }) where
     gives : (giver f ≢ Some reader) ⊎ (giver plain ≡ None) → AtGiver plain
     gives (inl other) = gives_still f reader r r1 is live at server share only right tree other
-    gives (inr none) = λ place q now there. absurd (let e : None ≡ Some place = sym none ∙ now in cc)
+    gives (inr none) = λ position q now there. absurd (let e : None ≡ Some position = sym none ∙ now in cc)
 
   -- where another does
   pub ended_gives : (next : ℕ) (s : ReaderState) → giver f ≡ Some reader → giver plain ≡ Some next → slice_get f.readers next ≡ Some s
@@ -444,7 +444,7 @@ module _ (f : FileState) (reader : ℕ) (r r1 : ReaderState) (rs : List ReaderSt
             (k.new_is ∙ ap (λ (l : List ReaderState). slice_set l k.next (giving k.s f.taken)) list)
       ]
 
--- ---- the reader at a place ends as it is
+-- ---- the reader at a position ends as it is
 
 pub can_give : (f : FileState) (reader : ℕ) → IsFile f → IsLive f reader → giver f ≡ Some reader → (next : ℕ) (s : ReaderState)
     → slice_get (without reader f.live) 0 ≡ Some next → slice_get f.readers next ≡ Some s → CanGive s f.taken
@@ -464,7 +464,7 @@ can_give f reader is live gave next s first at =
 pub ended_itself : (f : FileState) (reader : ℕ) (rs : List ReaderState) → IsFile f → IsLive f reader → EndsReader f.readers f.live f.taken reader rs
     → (r : ReaderState) × HasEnded f reader r.supply r.supply (record f { readers = rs; live = without reader f.live })
 ended_itself f reader rs is live ends =
-    let r = reader_there f.readers reader (All-contains (λ place. place < length f.readers) f.live reader is.live.there live) in
+    let r = reader_there f.readers reader (All-contains (λ position. position < length f.readers) f.live reader is.live.there live) in
     let same : slice_set f.readers reader r.0 ≡ f.readers = set_same f.readers reader r.0 r.1 in (
       r.0,
       has_ended f reader r.0 r.0 rs is live r.1 refl refl refl (is.readers reader r.0 r.1).supply (λ other p asked. asked)

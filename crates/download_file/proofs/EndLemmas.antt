@@ -4,7 +4,7 @@ use Rattle.std.specs.Prelude.{slice_get, slice_set}
 use Rattle.std.specs.Option.{option_eq}
 use Rattle.std.proofs.lemmas.Bool.{eq-eqb, eqb-true, false≢true, true≢false}
 use Rattle.std.proofs.lemmas.List.Elements.{All-contains}
-use Rattle.lemmas.proofs.Places.{get_other}
+use Rattle.lemmas.proofs.Positions.{get_other}
 use Rattle.download_file.specs.State.{ReaderState, without}
 use Rattle.download_file.specs.Steps.{CanGive, EndsReader, giving, stopped}
 use Rattle.download_file.proofs.GrowLemmas.{reader_there}
@@ -35,23 +35,23 @@ pub next_left : (live : List ℕ) (reader next : ℕ) → slice_get (without rea
 next_left live reader next first = from_without reader next live (first_live (without reader live) next first)
 
 pub next_there : (readers readers' : List ReaderState) (live : List ℕ) (reader : ℕ) (o : Option ℕ) → o ≡ slice_get (without reader live) 0
-    → All (λ place. place < length readers) live → length readers' ≡ length readers → IfSome o (λ place. place < length readers')
+    → All (λ position. position < length readers) live → length readers' ≡ length readers → IfSome o (λ position. position < length readers')
 next_there readers readers' live reader None e there same = tt
 next_there readers readers' live reader (Some next) e there same =
     let k = next_left live reader next (sym e) in
-    let low : next < length readers = All-contains (λ place. place < length readers) live next there k.0 in
+    let low : next < length readers = All-contains (λ position. position < length readers) live next there k.0 in
     omega (arith, low, same)
 
 pub next_gives : (readers : List ReaderState) (live taken : List ℕ) (reader : ℕ) (x : ReaderState) (o : Option ℕ) (next : ℕ) (r : ReaderState) → o ≡ slice_get (without reader live) 0
-    → ((place : ℕ) (s : ReaderState) → slice_get (without reader live) 0 ≡ Some place → slice_get readers place ≡ Some s → CanGive s taken)
+    → ((position : ℕ) (s : ReaderState) → slice_get (without reader live) 0 ≡ Some position → slice_get readers position ≡ Some s → CanGive s taken)
     → o ≡ Some next → slice_get (slice_set readers reader x) next ≡ Some r → CanGive r taken
 next_gives readers live taken reader x o next r e gives first there =
     let k = next_left live reader next (sym e ∙ first) in
     gives next r (sym e ∙ first) (sym (get_other readers reader next x k.1) ∙ there)
 
 pub ends_gave : (old : List ReaderState) (live taken : List ℕ) (reader : ℕ) (r x : ReaderState) (new : List ReaderState) (o : Option ℕ)
-    → All (λ place. place < length old) live → slice_get old reader ≡ Some r → x ≡ stopped r → slice_get live 0 ≡ Some reader → o ≡ slice_get (without reader live) 0
-    → ((place : ℕ) (s : ReaderState) → o ≡ Some place → slice_get (slice_set old reader x) place ≡ Some s → new ≡ slice_set (slice_set old reader x) place (giving s taken))
+    → All (λ position. position < length old) live → slice_get old reader ≡ Some r → x ≡ stopped r → slice_get live 0 ≡ Some reader → o ≡ slice_get (without reader live) 0
+    → ((position : ℕ) (s : ReaderState) → o ≡ Some position → slice_get (slice_set old reader x) position ≡ Some s → new ≡ slice_set (slice_set old reader x) position (giving s taken))
     → (o ≡ None → new ≡ slice_set old reader x) → EndsReader old live taken reader new
 ends_gave old live taken reader r x new None there at is gave e gives none = record {
   r = r;
@@ -60,7 +60,7 @@ ends_gave old live taken reader r x new None there at is gave e gives none = rec
 }
 ends_gave old live taken reader r x new (Some next) there at is gave e gives none =
     let k = next_left live reader next (sym e) in
-    let s = reader_there old next (All-contains (λ place. place < length old) live next there k.0) in
+    let s = reader_there old next (All-contains (λ position. position < length old) live next there k.0) in
     record {
       r = r;
       there = at;

@@ -100,16 +100,16 @@ block_long entries s number is held holds =
     let within = held.pieces in
     let order : a ≤ b = block_order s.geometry s.first number in
     let f : ℕ → List ℕ = answer_at entries in
-    let places = slice_range s.held a b in
-    let count : length (map f places) ≡ b - a = length-map places f ∙ length-take-le (b - a) (drop a s.held) (let long = length-drop a s.held in omega (arith, long, within)) in
-    joined_long s.geometry s.first s.end number (map f places) is.range held.within.from held.within.before count (λ k low.
+    let positions = slice_range s.held a b in
+    let count : length (map f positions) ≡ b - a = length-map positions f ∙ length-take-le (b - a) (drop a s.held) (let long = length-drop a s.held in omega (arith, long, within)) in
+    joined_long s.geometry s.first s.end number (map f positions) is.range held.within.from held.within.before count (λ k low.
     let there : a + k < length s.held = omega (arith, low, count, within, order) in
     let one = holds (a + k) there in
     piece_long entries s.held a (b - a) k (omega (arith, low, count)) (omega (arith, within, order)) one.0 one.1 ∙ one.2)
 
-pub blocks_long : (entries : List Request) (g : Geometry) (readers : List ReaderState) (places : List ℕ) (number : ℕ) → AreOfFile entries g readers
-    → ((place : ℕ) → Contains places place → (r : ReaderState) × (slice_get readers place ≡ Some r) × IsHeld r.supply number)
-    → length (blocks_of entries readers number places) ≡ length places * block_length g number
+pub blocks_long : (entries : List Request) (g : Geometry) (readers : List ReaderState) (positions : List ℕ) (number : ℕ) → AreOfFile entries g readers
+    → ((position : ℕ) → Contains positions position → (r : ReaderState) × (slice_get readers position ≡ Some r) × IsHeld r.supply number)
+    → length (blocks_of entries readers number positions) ≡ length positions * block_length g number
 blocks_long entries g readers [] number file each = omega arith
 blocks_long entries g readers (p ∷ ps) number file each =
     let r = each p (contains_head p ps) in
@@ -125,18 +125,18 @@ blocks_long entries g readers (p ∷ ps) number file each =
 
 module _ (entries : List Request) (h : HandoutState) (readers : List ReaderState) (group : GroupState) (number : ℕ)
     (right : IsGroup h readers group) (made : IsMade entries h readers group number) (file : AreOfFile entries h.geometry readers) where
-  reader_of : (place : ℕ) → Contains group.readers place → (r : ReaderState) × (slice_get readers place ≡ Some r) × IsHeld r.supply number
-  reader_of place among =
-      let r = reader_there readers place (All-contains (λ p. p < length readers) group.readers place right.there among) in
-      (r.0, r.1, (made.right place r.0 among r.1).ready.held)
+  reader_of : (position : ℕ) → Contains group.readers position → (r : ReaderState) × (slice_get readers position ≡ Some r) × IsHeld r.supply number
+  reader_of position among =
+      let r = reader_there readers position (All-contains (λ p. p < length readers) group.readers position right.there among) in
+      (r.0, r.1, (made.right position r.0 among r.1).ready.held)
 
   pub has_blocks : (size : ℕ) → size ≡ block_length h.geometry number → All (HasBlock readers number size) group.readers
-  has_blocks size long = All-from_contains (HasBlock readers number size) group.readers (λ place among.
-      let r = reader_of place among in
-      record { r = r.0; there = r.1; held = r.2; long = long ∙ ap (λ (g : Geometry). block_length g number) (sym (file.geometry place r.0 r.1)) })
+  has_blocks size long = All-from_contains (HasBlock readers number size) group.readers (λ position among.
+      let r = reader_of position among in
+      record { r = r.0; there = r.1; held = r.2; long = long ∙ ap (λ (g : Geometry). block_length g number) (sym (file.geometry position r.0 r.1)) })
 
   pub as_many : length group.readers ≡ h.geometry.needed
-  as_many = sym (length-map group.readers (λ place. share_in (slice_get readers place))) ∙ sym (ap length right.numbers) ∙ right.decoding.enough ∙ ap (λ (g : Geometry). g.needed) right.geometry
+  as_many = sym (length-map group.readers (λ position. share_in (slice_get readers position))) ∙ sym (ap length right.numbers) ∙ right.decoding.enough ∙ ap (λ (g : Geometry). g.needed) right.geometry
 
   pub long_enough : length (blocks_of entries readers number group.readers) ≡ h.geometry.needed * block_length h.geometry number
   long_enough = blocks_long entries h.geometry readers group.readers number file reader_of ∙ ap (λ (n : ℕ). n * block_length h.geometry number) as_many
@@ -180,8 +180,8 @@ all_made entries f is read = All-from_contains (IsMadeGroup entries f.handout f.
 
 pub readers_of : (entries : List Request) (f : FileState) → IsFile f → IsRead entries f → AreOfFile entries f.handout.geometry f.readers
 readers_of entries f is read = record {
-  supply = λ place r at. (is.readers place r at).supply;
-  geometry = λ place r at. (is.readers place r at).geometry;
+  supply = λ position r at. (is.readers position r at).supply;
+  geometry = λ position r at. (is.readers position r at).geometry;
   held = read.held;
 }
 

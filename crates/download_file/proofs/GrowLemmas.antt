@@ -97,7 +97,7 @@ pub block_stays : (entries : List Request) (s t : SupplyState) (number : ℕ) �
 block_stays entries s t number goes held =
     (λ i. joined_block (goes.geometry i) (goes.first i) number
     (map (answer_at entries) (slice_range (goes.held i) (block_first (goes.geometry i) (goes.first i) number) (block_end (goes.geometry i) (goes.first i) number))))
-    ∙ ap (λ (places : List ℕ). joined_block s.geometry s.first number (map (answer_at entries) places))
+    ∙ ap (λ (positions : List ℕ). joined_block s.geometry s.first number (map (answer_at entries) positions))
     (range_first s.held goes.more (block_first s.geometry s.first number) (block_end s.geometry s.first number)
     (block_order s.geometry s.first number) held.pieces)
 
@@ -115,44 +115,44 @@ right_stays entries r q number goes right =
 -- ---- readers
 
 pub grow_same : (rs : List ReaderState) → ReadersGoOn rs rs
-grow_same rs place r e = record { now = r; there = e; server = refl; share = refl; supply = goes_same r.supply }
+grow_same rs position r e = record { now = r; there = e; server = refl; share = refl; supply = goes_same r.supply }
 
 pub grow_two : (rs ss ts : List ReaderState) → ReadersGoOn rs ss → ReadersGoOn ss ts → ReadersGoOn rs ts
-grow_two rs ss ts first second place r e =
-    let a = first place r e in
-    let b = second place a.now a.there in
+grow_two rs ss ts first second position r e =
+    let a = first position r e in
+    let b = second position a.now a.there in
     record { now = b.now; there = b.there; server = b.server ∙ a.server; share = b.share ∙ a.share; supply = goes_two r.supply a.now.supply b.now.supply a.supply b.supply }
 
-pub numbers_same : (rs rs' : List ReaderState) (places : List ℕ) → ((place : ℕ) → Contains places place → share_in (slice_get rs' place) ≡ share_in (slice_get rs place))
-    → numbers_of rs' places ≡ numbers_of rs places
+pub numbers_same : (rs rs' : List ReaderState) (positions : List ℕ) → ((position : ℕ) → Contains positions position → share_in (slice_get rs' position) ≡ share_in (slice_get rs position))
+    → numbers_of rs' positions ≡ numbers_of rs positions
 numbers_same rs rs' [] same = refl
 numbers_same rs rs' (p ∷ ps) same = λ i. same p (contains_head p ps) i ∷ numbers_same rs rs' ps (λ q among. same q (contains_tail p q ps among)) i
 
-pub blocks_same : (entries new : List Request) (rs rs' : List ReaderState) (number : ℕ) (places : List ℕ)
-    → ((place : ℕ) → Contains places place → block_in new number (slice_get rs' place) ≡ block_in entries number (slice_get rs place))
-    → blocks_of new rs' number places ≡ blocks_of entries rs number places
+pub blocks_same : (entries new : List Request) (rs rs' : List ReaderState) (number : ℕ) (positions : List ℕ)
+    → ((position : ℕ) → Contains positions position → block_in new number (slice_get rs' position) ≡ block_in entries number (slice_get rs position))
+    → blocks_of new rs' number positions ≡ blocks_of entries rs number positions
 blocks_same entries new rs rs' number [] same = refl
 blocks_same entries new rs rs' number (p ∷ ps) same =
     λ i. same p (contains_head p ps) i ++ blocks_same entries new rs rs' number ps (λ q among. same q (contains_tail p q ps among)) i
 
--- the reader at a place that is there
-pub reader_there : (rs : List ReaderState) (place : ℕ) → place < length rs → (r : ReaderState) × (slice_get rs place ≡ Some r)
-reader_there [] place low = absurd (omega (arith, low))
+-- the reader at a position that is there
+pub reader_there : (rs : List ReaderState) (position : ℕ) → position < length rs → (r : ReaderState) × (slice_get rs position ≡ Some r)
+reader_there [] position low = absurd (omega (arith, low))
 reader_there (r ∷ rs) zero low = (r, refl)
-reader_there (r ∷ rs) (suc place) low = reader_there rs place (omega (arith, low))
+reader_there (r ∷ rs) (suc position) low = reader_there rs position (omega (arith, low))
 
 pub group_stays : (h h' : HandoutState) (rs rs' : List ReaderState) (group : GroupState) → h'.geometry ≡ h.geometry → ReadersGoOn rs rs'
     → IsGroup h rs group → IsGroup h' rs' group
 group_stays h h' rs rs' group geometry grow is = record {
   geometry = is.geometry ∙ sym geometry;
   decoding = is.decoding;
-  there = All-weaker (λ place. place < length rs) (λ place. place < length rs') (λ place low.
-      let r = reader_there rs place low in
-      let r' = grow place r.0 r.1 in
-      slice_get_within rs' place r'.now r'.there) group.readers is.there;
-  numbers = is.numbers ∙ sym (numbers_same rs rs' group.readers (λ place among.
-      let r = reader_there rs place (All-contains (λ p. p < length rs) group.readers place is.there among) in
-      let r' = grow place r.0 r.1 in
+  there = All-weaker (λ position. position < length rs) (λ position. position < length rs') (λ position low.
+      let r = reader_there rs position low in
+      let r' = grow position r.0 r.1 in
+      slice_get_within rs' position r'.now r'.there) group.readers is.there;
+  numbers = is.numbers ∙ sym (numbers_same rs rs' group.readers (λ position among.
+      let r = reader_there rs position (All-contains (λ p. p < length rs) group.readers position is.there among) in
+      let r' = grow position r.0 r.1 in
       ap share_in r'.there ∙ r'.share ∙ sym (ap share_in r.1)));
 }
 
@@ -161,16 +161,16 @@ pub made_stays : (entries : List Request) (h h' : HandoutState) (rs rs' : List R
     → IsMade entries h rs group number → IsMade entries h' rs' group number
 made_stays entries h h' rs rs' group number geometry trees grow is made =
     let same : blocks_of entries rs' number group.readers ≡ blocks_of entries rs number group.readers =
-    blocks_same entries entries rs rs' number group.readers (λ place among.
-    let r = reader_there rs place (All-contains (λ p. p < length rs) group.readers place is.there among) in
-    let r' = grow place r.0 r.1 in
-    ap (block_in entries number) r'.there ∙ block_stays entries r.0.supply r'.now.supply number r'.supply (made.right place r.0 among r.1).ready.held ∙ sym (ap (block_in entries number) r.1)) in
+    blocks_same entries entries rs rs' number group.readers (λ position among.
+    let r = reader_there rs position (All-contains (λ p. p < length rs) group.readers position is.there among) in
+    let r' = grow position r.0 r.1 in
+    ap (block_in entries number) r'.there ∙ block_stays entries r.0.supply r'.now.supply number r'.supply (made.right position r.0 among r.1).ready.held ∙ sym (ap (block_in entries number) r.1)) in
     record {
-      right = λ place t among at.
-          let r = reader_there rs place (All-contains (λ p. p < length rs) group.readers place is.there among) in
-          let r' = grow place r.0 r.1 in
-          subst (λ (q : ReaderState). HasRightBlock entries q number) (one_there (slice_get rs' place) r'.now t r'.there at)
-          (right_stays entries r.0 r'.now number r'.supply (made.right place r.0 among r.1));
+      right = λ position t among at.
+          let r = reader_there rs position (All-contains (λ p. p < length rs) group.readers position is.there among) in
+          let r' = grow position r.0 r.1 in
+          subst (λ (q : ReaderState). HasRightBlock entries q number) (one_there (slice_get rs' position) r'.now t r'.there at)
+          (right_stays entries r.0 r'.now number r'.supply (made.right position r.0 among r.1));
       segment = made.segment;
       decodes = subst (λ (g : Geometry). DecodesBlocks g group.decoding.numbers (blocks_in g number (blocks_of entries rs' number group.readers)) number made.segment) (sym geometry)
           (subst (λ (joined : List ℕ). DecodesBlocks h.geometry group.decoding.numbers (blocks_in h.geometry number joined) number made.segment) (sym same) made.decodes);
@@ -234,7 +234,7 @@ same_file f f' key ueb geometry to first end trees grow groups same = record {
 -- what the record says of the file stays true where its readers go on and hold answers
 pub read_stays : (entries : List Request) (f f' : FileState) → f'.handout.key ≡ f.handout.key → f'.handout.ueb ≡ f.handout.ueb → f'.handout.geometry ≡ f.handout.geometry → TreesGrow f.handout.trees f'.handout.trees
     → ReadersGoOn f.readers f'.readers → All (IsGroup f.handout f.readers) f.groups → f'.groups ≡ f.groups
-    → ((p : Piece) → Contains f'.handout.ready p → Contains f.handout.ready p) → ((place : ℕ) (r : ReaderState) → slice_get f'.readers place ≡ Some r → HoldsAnswers entries r)
+    → ((p : Piece) → Contains f'.handout.ready p → Contains f.handout.ready p) → ((position : ℕ) (r : ReaderState) → slice_get f'.readers position ≡ Some r → HoldsAnswers entries r)
     → IsRead entries f → IsRead entries f'
 read_stays entries f f' key ueb geometry trees grow groups same ready held read = record {
   held = held;
@@ -247,8 +247,8 @@ read_stays entries f f' key ueb geometry trees grow groups same ready held read 
 
 -- ---- answers that stay
 
-pub answer_is : (entries : List Request) (place : ℕ) (bytes : List ℕ) → AnsweredWith entries place bytes → answer_at entries place ≡ bytes
-answer_is entries place bytes a = ap bytes_of a.there ∙ ap bytes_in a.answer
+pub answer_is : (entries : List Request) (position : ℕ) (bytes : List ℕ) → AnsweredWith entries position bytes → answer_at entries position ≡ bytes
+answer_is entries position bytes a = ap bytes_of a.there ∙ ap bytes_in a.answer
 
 map_same : (f g : ℕ → List ℕ) (xs : List ℕ) → ((x : ℕ) → Contains xs x → f x ≡ g x) → map f xs ≡ map g xs
 map_same f g [] same = refl
@@ -258,13 +258,13 @@ map_range : (f g : ℕ → List ℕ) (xs : List ℕ) (a b : ℕ) → map f xs �
 map_range f g xs a b same =
     sym (take-map f (b - a) (drop a xs)) ∙ ap (take (b - a)) (sym (drop-map f a xs) ∙ ap (drop a) same ∙ drop-map g a xs) ∙ take-map g (b - a) (drop a xs)
 
-with_stays : (old new : List Request) (place : ℕ) (bytes : List ℕ) → KeepsAnswers old new → AnsweredWith old place bytes → AnsweredWith new place bytes
-with_stays old new place bytes keeps a = record { request = a.request; there = keeps place a.request _ a.there a.answer; answer = a.answer }
+with_stays : (old new : List Request) (position : ℕ) (bytes : List ℕ) → KeepsAnswers old new → AnsweredWith old position bytes → AnsweredWith new position bytes
+with_stays old new position bytes keeps a = record { request = a.request; there = keeps position a.request _ a.there a.answer; answer = a.answer }
 
-answered_stays : (old new : List Request) (server share offset len place : ℕ) → KeepsAnswers old new → IsAnswerOf old server share offset len place → IsAnswerOf new server share offset len place
-answered_stays old new server share offset len place keeps a = record {
+answered_stays : (old new : List Request) (server share offset len position : ℕ) → KeepsAnswers old new → IsAnswerOf old server share offset len position → IsAnswerOf new server share offset len position
+answered_stays old new server share offset len position keeps a = record {
   request = a.request;
-  there = keeps place a.request _ a.there a.answer;
+  there = keeps position a.request _ a.there a.answer;
   of_server = a.of_server;
   asked = a.asked;
   bytes = a.bytes;
@@ -288,34 +288,34 @@ pub same_block : (old new : List Request) (s : SupplyState) (number : ℕ) → K
 same_block old new s number keeps held =
     ap (joined_block s.geometry s.first number)
     (map_range (answer_at new) (answer_at old) s.held (block_first s.geometry s.first number) (block_end s.geometry s.first number)
-    (map_same (answer_at new) (answer_at old) s.held (λ place among.
+    (map_same (answer_at new) (answer_at old) s.held (λ position among.
     let k = among.0 in
     let a = held k among.1 in
     let same : answer_at new (get_or s.held k 0) ≡ answer_at old (get_or s.held k 0) =
     answer_is new (get_or s.held k 0) a.0 (with_stays old new (get_or s.held k 0) a.0 keeps a.1) ∙ sym (answer_is old (get_or s.held k 0) a.0 a.1) in
-    let at : get_or s.held k 0 ≡ place = at_any s.held k place among.1 ∙ among.2 in
+    let at : get_or s.held k 0 ≡ position = at_any s.held k position among.1 ∙ among.2 in
     subst (λ (p : ℕ). answer_at new p ≡ answer_at old p) at same)))
   where
     at_any : (xs : List ℕ) (k d : ℕ) → k < length xs → get_or xs k 0 ≡ get_or xs k d
     at_any xs k d low = let e : Some (get_or xs k 0) ≡ Some (get_or xs k d) = sym (slice_get-get_or xs k 0 low) ∙ slice_get-get_or xs k d low in cc
 
 module _ (old new : List Request) (f : FileState) (keeps : KeepsAnswers old new) (read : IsRead old f) where
-  one : (number place : ℕ) (o : Option ReaderState) → slice_get f.readers place ≡ o → block_in new number o ≡ block_in old number o
-  one number place None at = refl
-  one number place (Some r) at = same_block old new r.supply number keeps (has_answers old r (read.held place r at))
+  one : (number reader : ℕ) (o : Option ReaderState) → slice_get f.readers reader ≡ o → block_in new number o ≡ block_in old number o
+  one number reader None at = refl
+  one number reader (Some r) at = same_block old new r.supply number keeps (has_answers old r (read.held reader r at))
 
-  pub right_keeps : (place : ℕ) (r : ReaderState) (number : ℕ) → slice_get f.readers place ≡ Some r → HasRightBlock old r number → HasRightBlock new r number
-  right_keeps place r number at right = record {
+  pub right_keeps : (reader : ℕ) (r : ReaderState) (number : ℕ) → slice_get f.readers reader ≡ Some r → HasRightBlock old r number → HasRightBlock new r number
+  right_keeps reader r number at right = record {
     ready = right.ready;
-    proved = right.proved ∙ ap (λ (l : List ℕ). Some (tagged_hash Block l)) (sym (same_block old new r.supply number keeps (has_answers old r (read.held place r at))));
+    proved = right.proved ∙ ap (λ (l : List ℕ). Some (tagged_hash Block l)) (sym (same_block old new r.supply number keeps (has_answers old r (read.held reader r at))));
   }
 
   made_keeps : (group : GroupState) (number : ℕ) → IsMade old f.handout f.readers group number → IsMade new f.handout f.readers group number
   made_keeps group number made =
       let same : blocks_of new f.readers number group.readers ≡ blocks_of old f.readers number group.readers =
-      blocks_same old new f.readers f.readers number group.readers (λ place in_group. one number place (slice_get f.readers place) refl) in
+      blocks_same old new f.readers f.readers number group.readers (λ reader in_group. one number reader (slice_get f.readers reader) refl) in
       record {
-        right = λ place r among at. right_keeps place r number at (made.right place r among at);
+        right = λ reader r among at. right_keeps reader r number at (made.right reader r among at);
         segment = made.segment;
         decodes = subst (λ (joined : List ℕ). DecodesBlocks f.handout.geometry group.decoding.numbers (blocks_in f.handout.geometry number joined) number made.segment) (sym same) made.decodes;
         proved = made.proved;
@@ -329,12 +329,12 @@ module _ (old new : List Request) (f : FileState) (keeps : KeepsAnswers old new)
   pub inconsistent_keeps : IsInconsistent old f → IsInconsistent new f
   inconsistent_keeps k =
       let same : blocks_of new f.readers k.number f.live ≡ blocks_of old f.readers k.number f.live =
-      blocks_same old new f.readers f.readers k.number f.live (λ place among. one k.number place (slice_get f.readers place) refl) in
+      blocks_same old new f.readers f.readers k.number f.live (λ reader among. one k.number reader (slice_get f.readers reader) refl) in
       record {
         number = k.number;
         next = k.next;
         enough = k.enough;
-        right = λ place r among at. right_keeps place r k.number at (k.right place r among at);
+        right = λ reader r among at. right_keeps reader r k.number at (k.right reader r among at);
         segment = k.segment;
         decodes = subst (λ (joined : List ℕ). DecodesBlocks f.handout.geometry (numbers_of f.readers f.live) (blocks_in f.handout.geometry k.number joined) k.number k.segment) (sym same) k.decodes;
         refuted = k.refuted;
@@ -355,7 +355,7 @@ module _ (old new : List Request) (f : FileState) (keeps : KeepsAnswers old new)
 
   pub read_keeps : IsRead new f
   read_keeps = record {
-    held = λ place r at k low. answered_stays old new _ _ _ _ _ keeps (read.held place r at k low);
+    held = λ reader r at k low. answered_stays old new _ _ _ _ _ keeps (read.held reader r at k low);
     made = λ group number among from before. made_keeps group number (read.made group number among from before);
     ready = λ p among. given_keeps p (read.ready p among);
   }

@@ -1,9 +1,9 @@
--- What stands at a place of a list, and what a list contains.
+-- What stands at a position of a list, and what a list contains.
 use Rattle.std.proofs.Common.{◌≡◌, ℕ, zero, suc, ◌⊎◌, inl, inr, List, [], ◌∷◌, ◌++◌, Contains, All, map, Some, refl, sym, ap, ◌∙◌, arith}
 use Rattle.std.specs.Prelude.{slice_get, slice_index_or, slice_set}
 use Rattle.std.proofs.lemmas.List.Elements.{Contains-get_or}
 use Rattle.lemmas.proofs.Options.{one_there}
-use Rattle.lemmas.proofs.Places.{got}
+use Rattle.lemmas.proofs.Positions.{got}
 pub use Rattle.lemmas.proofs.Members.{contains_head as first_in, contains_tail as more_in, contains_map}
 use Rattle.download_file.specs.State.{ReaderState, waiting_in}
 use Rattle.lemmas.proofs.Members.{contains_at}
@@ -18,7 +18,7 @@ get_first [] ys y i e = absurd cc
 get_first (q ∷ qs) ys y zero e = e
 get_first (q ∷ qs) ys y (suc i) e = get_first qs ys y i e
 
--- ---- one place is changed
+-- ---- one position is changed
 
 pub get_cases : {X : Type 0} (xs : List X) (i j : ℕ) (x y z : X) → slice_get xs i ≡ Some y → slice_get xs j ≡ Some z
     → ((j ≡ i) × (y ≡ z) × (slice_get (slice_set xs i x) j ≡ Some x)) ⊎ ((j ≡ i → ⊥) × (slice_get (slice_set xs i x) j ≡ Some z))
@@ -51,7 +51,7 @@ set_same {X} (q ∷ qs) (suc i) x e = ap (λ (l : List X). q ∷ l) (set_same qs
 pub All-from_contains : {X : Type 0} (P : X → Type 0) (xs : List X) → ((x : X) → Contains xs x → P x) → All P xs
 All-from_contains P xs each = λ k d low. each (slice_index_or xs k d) (Contains-get_or xs k d low)
 
--- what waits at a place stays where a reader with the same is put
+-- what waits at a position stays where a reader with the same is put
 pub waiting_set : (rs : List ReaderState) (i j : ℕ) (x y : ReaderState) → slice_get rs i ≡ Some y → x.waiting ≡ y.waiting → waiting_in (slice_get (slice_set rs i x) j) ≡ waiting_in (slice_get rs j)
 waiting_set [] i j x y e same = refl
 waiting_set (q ∷ qs) zero zero x y e same = let is : q ≡ y = cc in same ∙ ap (λ (r : ReaderState). r.waiting) (sym is)

@@ -8,7 +8,7 @@ use Rattle.lemmas.proofs.Members.{contains_at, contains_head, contains_tail, con
 use Rattle.download_file.specs.Right.{RiseFrom}
 use Rattle.download_file.specs.State.{without}
 
--- ---- places that rise
+-- ---- positions that rise
 
 pub rise_above : (low : ℕ) (xs : List ℕ) (x : ℕ) → RiseFrom low xs → Contains xs x → low ≤ x
 rise_above low [] x rise among = absurd (contains_none x among)
@@ -46,70 +46,70 @@ first_least low xs g x rise first among = elim (live_giver low xs x rise among) 
   | inr later ↦ let k : Some g ≡ Some later.0 = sym first ∙ later.1 in let same : g ≡ later.0 = cc in let low' = later.2 in omega (arith, same, low')
 ]
 
--- ---- a place is not listed any more
+-- ---- a position is not listed any more
 
-without_by : (place x : ℕ) (xs : List ℕ) (b : Bool) → (x == place) ≡ b → without place (x ∷ xs) ≡ cond b (without place xs) (x ∷ without place xs)
-without_by place x xs true e = ap (λ (t : Bool). cond (not t) (x ∷ without place xs) (without place xs)) e
-without_by place x xs false e = ap (λ (t : Bool). cond (not t) (x ∷ without place xs) (without place xs)) e
+without_by : (position x : ℕ) (xs : List ℕ) (b : Bool) → (x == position) ≡ b → without position (x ∷ xs) ≡ cond b (without position xs) (x ∷ without position xs)
+without_by position x xs true e = ap (λ (t : Bool). cond (not t) (x ∷ without position xs) (without position xs)) e
+without_by position x xs false e = ap (λ (t : Bool). cond (not t) (x ∷ without position xs) (without position xs)) e
 
--- the first is kept, or is the place
-without_cases : (place x : ℕ) (xs : List ℕ) → ((x ≡ place) × (without place (x ∷ xs) ≡ without place xs)) ⊎ ((x ≡ place → ⊥) × (without place (x ∷ xs) ≡ x ∷ without place xs))
-without_cases place x xs = by (x == place) refl
+-- the first is kept, or is the position
+without_cases : (position x : ℕ) (xs : List ℕ) → ((x ≡ position) × (without position (x ∷ xs) ≡ without position xs)) ⊎ ((x ≡ position → ⊥) × (without position (x ∷ xs) ≡ x ∷ without position xs))
+without_cases position x xs = by (x == position) refl
   where
-    by : (b : Bool) → (x == place) ≡ b → ((x ≡ place) × (without place (x ∷ xs) ≡ without place xs)) ⊎ ((x ≡ place → ⊥) × (without place (x ∷ xs) ≡ x ∷ without place xs))
-    by true e = inl (eqb-true x place e, without_by place x xs true e)
-    by false e = inr ((λ f. true≢false (sym (eq-eqb x place f) ∙ e)), without_by place x xs false e)
+    by : (b : Bool) → (x == position) ≡ b → ((x ≡ position) × (without position (x ∷ xs) ≡ without position xs)) ⊎ ((x ≡ position → ⊥) × (without position (x ∷ xs) ≡ x ∷ without position xs))
+    by true e = inl (eqb-true x position e, without_by position x xs true e)
+    by false e = inr ((λ f. true≢false (sym (eq-eqb x position f) ∙ e)), without_by position x xs false e)
 
-pub without_keeps : (place q : ℕ) (xs : List ℕ) → Contains xs q → (q ≡ place → ⊥) → Contains (without place xs) q
-without_keeps place q [] h other = absurd (contains_none q h)
-without_keeps place q (x ∷ xs) h other = elim (without_cases place x xs) [
+pub without_keeps : (position q : ℕ) (xs : List ℕ) → Contains xs q → (q ≡ position → ⊥) → Contains (without position xs) q
+without_keeps position q [] h other = absurd (contains_none q h)
+without_keeps position q (x ∷ xs) h other = elim (without_cases position x xs) [
   | inl gone ↦ subst (λ (l : List ℕ). Contains l q) (sym gone.1) (elim (contains_cases x q xs h) [
     | inl e ↦ absurd (other (sym e ∙ gone.0))
-    | inr more ↦ without_keeps place q xs more other
+    | inr more ↦ without_keeps position q xs more other
   ])
   | inr kept ↦ subst (λ (l : List ℕ). Contains l q) (sym kept.1) (elim (contains_cases x q xs h) [
-    | inl e ↦ subst (λ (n : ℕ). Contains (x ∷ without place xs) n) e (contains_head x (without place xs))
-    | inr more ↦ contains_tail x q (without place xs) (without_keeps place q xs more other)
+    | inl e ↦ subst (λ (n : ℕ). Contains (x ∷ without position xs) n) e (contains_head x (without position xs))
+    | inr more ↦ contains_tail x q (without position xs) (without_keeps position q xs more other)
   ])
 ]
 
-pub from_without : (place q : ℕ) (xs : List ℕ) → Contains (without place xs) q → Contains xs q × (q ≡ place → ⊥)
-from_without place q [] h = absurd (contains_none q h)
-from_without place q (x ∷ xs) h = elim (without_cases place x xs) [
+pub from_without : (position q : ℕ) (xs : List ℕ) → Contains (without position xs) q → Contains xs q × (q ≡ position → ⊥)
+from_without position q [] h = absurd (contains_none q h)
+from_without position q (x ∷ xs) h = elim (without_cases position x xs) [
   | inl gone ↦
-      let k = from_without place q xs (subst (λ (l : List ℕ). Contains l q) gone.1 h) in
+      let k = from_without position q xs (subst (λ (l : List ℕ). Contains l q) gone.1 h) in
       (contains_tail x q xs k.0, k.1)
-  | inr kept ↦ elim (contains_cases x q (without place xs) (subst (λ (l : List ℕ). Contains l q) kept.1 h)) [
+  | inr kept ↦ elim (contains_cases x q (without position xs) (subst (λ (l : List ℕ). Contains l q) kept.1 h)) [
     | inl e ↦ (subst (λ (n : ℕ). Contains (x ∷ xs) n) e (contains_head x xs), (λ f. kept.0 (e ∙ f)))
-    | inr more ↦ let k = from_without place q xs more in (contains_tail x q xs k.0, k.1)
+    | inr more ↦ let k = from_without position q xs more in (contains_tail x q xs k.0, k.1)
   ]
 ]
 
-pub rise_without : (place low : ℕ) (xs : List ℕ) → RiseFrom low xs → RiseFrom low (without place xs)
-rise_without place low [] rise = tt
-rise_without place low (x ∷ xs) rise =
+pub rise_without : (position low : ℕ) (xs : List ℕ) → RiseFrom low xs → RiseFrom low (without position xs)
+rise_without position low [] rise = tt
+rise_without position low (x ∷ xs) rise =
     let from = rise.0 in
-    let rest = rise_without place (x + 1) xs rise.1 in
-    elim (without_cases place x xs) [
-      | inl gone ↦ subst (RiseFrom low) (sym gone.1) (rise_lower low (x + 1) (without place xs) (omega (arith, from)) rest)
+    let rest = rise_without position (x + 1) xs rise.1 in
+    elim (without_cases position x xs) [
+      | inl gone ↦ subst (RiseFrom low) (sym gone.1) (rise_lower low (x + 1) (without position xs) (omega (arith, from)) rest)
       | inr kept ↦ subst (RiseFrom low) (sym kept.1) (from, rest)
     ]
 
-pub length-without : (place : ℕ) (xs : List ℕ) → length (without place xs) ≤ length xs
-length-without place [] = omega arith
-length-without place (x ∷ xs) =
-    let rest = length-without place xs in
-    elim (without_cases place x xs) [
+pub length-without : (position : ℕ) (xs : List ℕ) → length (without position xs) ≤ length xs
+length-without position [] = omega arith
+length-without position (x ∷ xs) =
+    let rest = length-without position xs in
+    elim (without_cases position x xs) [
       | inl gone ↦ let e = ap length gone.1 in omega (arith, rest, e)
       | inr kept ↦ let e = ap length kept.1 in omega (arith, rest, e)
     ]
 
 -- where another than the first goes, the first stays
-pub first_stays : (place g : ℕ) (xs : List ℕ) → slice_get xs 0 ≡ Some g → (g ≡ place → ⊥) → slice_get (without place xs) 0 ≡ Some g
-first_stays place g [] e other = absurd cc
-first_stays place g (x ∷ xs) e other =
+pub first_stays : (position g : ℕ) (xs : List ℕ) → slice_get xs 0 ≡ Some g → (g ≡ position → ⊥) → slice_get (without position xs) 0 ≡ Some g
+first_stays position g [] e other = absurd cc
+first_stays position g (x ∷ xs) e other =
     let is : x ≡ g = cc in
-    elim (without_cases place x xs) [
+    elim (without_cases position x xs) [
       | inl gone ↦ absurd (other (sym is ∙ gone.0))
       | inr kept ↦ ap (λ (l : List ℕ). slice_get l 0) kept.1 ∙ e
     ]
@@ -118,7 +118,7 @@ pub something_first : (xs : List ℕ) (x : ℕ) → Contains xs x → (g : ℕ) 
 something_first [] x h = absurd (contains_none x h)
 something_first (y ∷ ys) x h = (y, refl)
 
--- of places that rise a later one is a greater one
+-- of positions that rise a later one is a greater one
 pub rise_order : (low : ℕ) (xs : List ℕ) (i j x y : ℕ) → RiseFrom low xs → i < j → slice_get xs i ≡ Some x → slice_get xs j ≡ Some y → x < y
 rise_order low [] i j x y rise order one two = absurd cc
 rise_order low (q ∷ qs) zero zero x y rise order one two = absurd (omega (arith, order))

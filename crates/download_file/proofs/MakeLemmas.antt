@@ -18,7 +18,7 @@ use Rattle.share_layout.specs.Pieces.{block_length}
 use Rattle.share_layout.proofs.CutLemmas as cut
 use Rattle.share_verify.specs.CapBlock.{geometry_by}
 use Rattle.proved_parts.specs.Decoding.{DecodesBlocks}
-use Rattle.download_parts.specs.Trees.{IsBlockTree, LeadTo, known_leaf, share_places}
+use Rattle.download_parts.specs.Trees.{IsBlockTree, LeadTo, known_leaf, share_leaves}
 use Rattle.download_supply.specs.Blocks.{IsHeld, IsReady}
 use Rattle.download_supply.specs.Taking.{IsProved}
 use Rattle.download_segments.specs.Decoding.{AreShareNumbers, blocks_in}
@@ -40,25 +40,25 @@ use Rattle.download_file.proofs.EvidenceLemmas.{block_long, blocks_long}
 
 -- ---- blocks of one length that stand one after another
 
-pub nth_is : (entries : List Request) (readers : List ReaderState) (number size : ℕ) (places : List ℕ) (k place : ℕ)
-    → ((p : ℕ) → Contains places p → length (block_in entries number (slice_get readers p)) ≡ size) → slice_get places k ≡ Some place
-    → nth_block (blocks_of entries readers number places) size k ≡ block_in entries number (slice_get readers place)
-nth_is entries readers number size [] k place long at = absurd cc
-nth_is entries readers number size (p ∷ ps) zero place long at =
-    let same : p ≡ place = cc in
+pub nth_is : (entries : List Request) (readers : List ReaderState) (number size : ℕ) (positions : List ℕ) (k position : ℕ)
+    → ((p : ℕ) → Contains positions p → length (block_in entries number (slice_get readers p)) ≡ size) → slice_get positions k ≡ Some position
+    → nth_block (blocks_of entries readers number positions) size k ≡ block_in entries number (slice_get readers position)
+nth_is entries readers number size [] k position long at = absurd cc
+nth_is entries readers number size (p ∷ ps) zero position long at =
+    let same : p ≡ position = cc in
     let b : List ℕ = block_in entries number (slice_get readers p) in
     let rest : List ℕ = blocks_of entries readers number ps in
     let none : 0 * size ≡ 0 = omega arith in
     ap (λ (n : ℕ). take size (drop n (b ++ rest))) none
     ∙ ap (λ (n : ℕ). take n (b ++ rest)) (sym (long p (contains_head p ps))) ∙ take-append_seam b rest
     ∙ ap (λ (q : ℕ). block_in entries number (slice_get readers q)) same
-nth_is entries readers number size (p ∷ ps) (suc k) place long at =
+nth_is entries readers number size (p ∷ ps) (suc k) position long at =
     let b : List ℕ = block_in entries number (slice_get readers p) in
     let rest : List ℕ = blocks_of entries readers number ps in
     let is : length b ≡ size = long p (contains_head p ps) in
     let more : suc k * size ≡ length b + k * size = suc-mul k size ∙ omega (arith, is) in
     ap (λ (n : ℕ). take size (drop n (b ++ rest))) more ∙ ap (take size) (drop-append-add b rest (k * size))
-    ∙ nth_is entries readers number size ps k place (λ q among. long q (contains_tail p q ps among)) at
+    ∙ nth_is entries readers number size ps k position (λ q among. long q (contains_tail p q ps among)) at
 
 -- ---- the blocks of the readers that are read
 
@@ -66,35 +66,35 @@ module _ (entries : List Request) (f : FileState) (number size : ℕ) (is : IsFi
     (long : size ≡ block_length f.handout.geometry number) (ready : AreReady f.readers f.live number) where
   pub of_file : AreOfFile entries f.handout.geometry f.readers
   of_file = record {
-    supply = λ place r at. (is.readers place r at).supply;
-    geometry = λ place r at. (is.readers place r at).geometry;
+    supply = λ position r at. (is.readers position r at).supply;
+    geometry = λ position r at. (is.readers position r at).geometry;
     held = read.held;
   }
 
-  reader_at : (place : ℕ) → IsLive f place → (r : ReaderState) × (slice_get f.readers place ≡ Some r) × IsHeld r.supply number
-  reader_at place live =
-      let r = reader_there f.readers place (All-contains (λ p. p < length f.readers) f.live place is.live.there live) in
-      (r.0, r.1, (ready place r.0 live r.1).held)
+  reader_at : (position : ℕ) → IsLive f position → (r : ReaderState) × (slice_get f.readers position ≡ Some r) × IsHeld r.supply number
+  reader_at position live =
+      let r = reader_there f.readers position (All-contains (λ p. p < length f.readers) f.live position is.live.there live) in
+      (r.0, r.1, (ready position r.0 live r.1).held)
 
   pub live_blocks : All (HasBlock f.readers number size) f.live
-  live_blocks = All-from_contains (HasBlock f.readers number size) f.live (λ place live.
-      let r = reader_at place live in
-      record { r = r.0; there = r.1; held = r.2; long = long ∙ ap (λ (g : Geometry). block_length g number) (sym (is.readers place r.0 r.1).geometry) })
+  live_blocks = All-from_contains (HasBlock f.readers number size) f.live (λ position live.
+      let r = reader_at position live in
+      record { r = r.0; there = r.1; held = r.2; long = long ∙ ap (λ (g : Geometry). block_length g number) (sym (is.readers position r.0 r.1).geometry) })
 
-  its_length : (place : ℕ) → IsLive f place → length (block_in entries number (slice_get f.readers place)) ≡ size
-  its_length place live =
-      let r = reader_at place live in
+  its_length : (position : ℕ) → IsLive f position → length (block_in entries number (slice_get f.readers position)) ≡ size
+  its_length position live =
+      let r = reader_at position live in
       ap (λ (o : Option ReaderState). length (block_in entries number o)) r.1
-      ∙ block_long entries r.0.supply number (is.readers place r.0 r.1).supply r.2 (has_answers entries r.0 (read.held place r.0 r.1))
-      ∙ ap (λ (g : Geometry). block_length g number) (is.readers place r.0 r.1).geometry ∙ sym long
+      ∙ block_long entries r.0.supply number (is.readers position r.0 r.1).supply r.2 (has_answers entries r.0 (read.held position r.0 r.1))
+      ∙ ap (λ (g : Geometry). block_length g number) (is.readers position r.0 r.1).geometry ∙ sym long
 
   pub all_long : length (blocks_of entries f.readers number f.live) ≡ length f.live * size
   all_long = blocks_long entries f.handout.geometry f.readers f.live number of_file reader_at ∙ ap (λ (n : ℕ). length f.live * n) (sym long)
 
   -- the block of a reader among those that stand one after another
-  pub nth_own : (k place : ℕ) (r : ReaderState) → slice_get f.live k ≡ Some place → slice_get f.readers place ≡ Some r
+  pub nth_own : (k position : ℕ) (r : ReaderState) → slice_get f.live k ≡ Some position → slice_get f.readers position ≡ Some r
       → nth_block (blocks_of entries f.readers number f.live) size k ≡ block_of entries r.supply number
-  nth_own k place r at at_reader = nth_is entries f.readers number size f.live k place its_length at ∙ ap (block_in entries number) at_reader
+  nth_own k position r at at_reader = nth_is entries f.readers number size f.live k position its_length at ∙ ap (block_in entries number) at_reader
 
   -- what is known of the hash of a block that is ready
   known_tree : (r : ReaderState) → IsReady r.supply number → (tree : PartialState) × (r.supply.tree ≡ Some tree) × (leaf : List ℕ) × (known_leaf tree number ≡ Some leaf)
@@ -110,12 +110,12 @@ module _ (entries : List Request) (f : FileState) (number size : ℕ) (is : IsFi
           let k = leaf_of tree (known_leaf tree number) refl (sym (ap (λ (o : Option PartialState). is_some (option_and_then (λ t. known_leaf t number) o)) e) ∙ own.known) in
           (tree, e, k.0, k.1)
 
-  pub refutes_reader : next_segment f.handout ≡ Some number → (joined : List ℕ) (place : ℕ) → joined ≡ blocks_of entries f.readers number f.live → IsWrong f.readers f.live number joined size place → RefutesReader entries f place
-  refutes_reader next joined place joins wrong =
-      let live = contains_at f.live wrong.k place wrong.at in
-      let own = ready place wrong.r live wrong.there in
+  pub refutes_reader : next_segment f.handout ≡ Some number → (joined : List ℕ) (position : ℕ) → joined ≡ blocks_of entries f.readers number f.live → IsWrong f.readers f.live number joined size position → RefutesReader entries f position
+  refutes_reader next joined position joins wrong =
+      let live = contains_at f.live wrong.k position wrong.at in
+      let own = ready position wrong.r live wrong.there in
       let tree = known_tree wrong.r own in
-      let block : nth_block joined size wrong.k ≡ block_of entries wrong.r.supply number = ap (λ (l : List ℕ). nth_block l size wrong.k) joins ∙ nth_own wrong.k place wrong.r wrong.at wrong.there in
+      let block : nth_block joined size wrong.k ≡ block_of entries wrong.r.supply number = ap (λ (l : List ℕ). nth_block l size wrong.k) joins ∙ nth_own wrong.k position wrong.r wrong.at wrong.there in
       record {
         live = live;
         r = wrong.r;
@@ -125,8 +125,8 @@ module _ (entries : List Request) (f : FileState) (number size : ℕ) (is : IsFi
         held = own.held;
         tree = tree.0;
         is = tree.1;
-        long = block_long entries wrong.r.supply number (is.readers place wrong.r wrong.there).supply own.held (has_answers entries wrong.r (read.held place wrong.r wrong.there))
-            ∙ ap (λ (g : Geometry). block_length g number) (is.readers place wrong.r wrong.there).geometry;
+        long = block_long entries wrong.r.supply number (is.readers position wrong.r wrong.there).supply own.held (has_answers entries wrong.r (read.held position wrong.r wrong.there))
+            ∙ ap (λ (g : Geometry). block_length g number) (is.readers position wrong.r wrong.there).geometry;
         refuted = record {
           leaf = tree.2;
           known = tree.3;
@@ -138,43 +138,43 @@ module _ (entries : List Request) (f : FileState) (number size : ℕ) (is : IsFi
   -- those that are proved are right
   pub right_blocks : (joined : List ℕ) → joined ≡ blocks_of entries f.readers number f.live → AreProved f.readers f.live number joined size (length f.live)
       → HaveRightBlocks entries f.readers f.live number
-  right_blocks joined joins proved place r live there =
-      let at = at_contained f.live place live in
+  right_blocks joined joins proved position r live there =
+      let at = at_contained f.live position live in
       record {
-        ready = ready place r live there;
-        proved = subst (IsProved r.supply number) (ap (λ (l : List ℕ). nth_block l size at.0) joins ∙ nth_own at.0 place r at.1 there)
-            (proved at.0 place r (slice_get_within f.live at.0 place at.1) at.1 there);
+        ready = ready position r live there;
+        proved = subst (IsProved r.supply number) (ap (λ (l : List ℕ). nth_block l size at.0) joins ∙ nth_own at.0 position r at.1 there)
+            (proved at.0 position r (slice_get_within f.live at.0 position at.1) at.1 there);
       }
 
   -- ---- no code word
 
   module _ (joined : List ℕ) (joins : joined ≡ blocks_of entries f.readers number f.live) (proved : AreProved f.readers f.live number joined size (length f.live)) where
     module _ (IsOne : List ℕ → Type 0) (in_shares : (input : List ℕ) → IsKnownInput f.handout.trees.shares input → IsOne input)
-        (in_block_tree : (place : ℕ) (r : ReaderState) (tree : PartialState) → IsLive f place → slice_get f.readers place ≡ Some r → r.supply.tree ≡ Some tree → (input : List ℕ) → IsKnownInput tree input → IsOne input)
-        (of_block : (place : ℕ) (r : ReaderState) → IsLive f place → slice_get f.readers place ≡ Some r → IsOne (tagged_input Block (block_of entries r.supply number))) where
+        (in_block_tree : (position : ℕ) (r : ReaderState) (tree : PartialState) → IsLive f position → slice_get f.readers position ≡ Some r → r.supply.tree ≡ Some tree → (input : List ℕ) → IsKnownInput tree input → IsOne input)
+        (of_block : (position : ℕ) (r : ReaderState) → IsLive f position → slice_get f.readers position ≡ Some r → IsOne (tagged_input Block (block_of entries r.supply number))) where
       by_live : (i share : ℕ) (block : List ℕ) → slice_get (numbers_of f.readers f.live) i ≡ Some share → slice_get (blocks_in f.handout.geometry number joined) i ≡ Some block
           → IsBlockIn IsOne f.handout.ueb share number block
       by_live i share block at_number at_block =
-          let place = get_unmapped (λ (p : ℕ). share_in (slice_get f.readers p)) f.live i share at_number in
-          let live = contains_at f.live i place.0 place.1 in
-          let r = reader_at place.0 live in
-          let own = is.readers place.0 r.0 r.1 in
+          let position = get_unmapped (λ (p : ℕ). share_in (slice_get f.readers p)) f.live i share at_number in
+          let live = contains_at f.live i position.0 position.1 in
+          let r = reader_at position.0 live in
+          let own = is.readers position.0 r.0 r.1 in
           let g = f.handout.geometry in
           let u = f.handout.ueb in
           let low : i < g.needed = let l = slice_get_within (blocks_in g number joined) i block at_block in let count = length-pieces g.needed (block_length g number) joined in omega (arith, l, count) in
           let block_is : nth_block joined size i ≡ block =
           ap (λ (n : ℕ). nth_block joined n i) long ∙ sym (cut.piece_at g.needed (block_length g number) i joined low) ∙ get_or_from_slice_get (blocks_in g number joined) i block [] at_block in
-          let proves : IsProved r.0.supply number block = subst (IsProved r.0.supply number) block_is (proved i place.0 r.0 (slice_get_within f.live i place.0 place.1) place.1 r.1) in
-          let tree = known_tree r.0 (ready place.0 r.0 live r.1) in
-          let same : share ≡ r.0.share = sym place.2 ∙ ap share_in r.1 in
+          let proves : IsProved r.0.supply number block = subst (IsProved r.0.supply number) block_is (proved i position.0 r.0 (slice_get_within f.live i position.0 position.1) position.1 r.1) in
+          let tree = known_tree r.0 (ready position.0 r.0 live r.1) in
+          let same : share ≡ r.0.share = sym position.2 ∙ ap share_in r.1 in
           let by_u : g ≡ geometry_by u = is.handout.geometry in
           let low_share = own.share in
           let total = ap (λ (h : Geometry). h.total) by_u in
           let h = is.handout in
-          let shares : LeadTo f.handout.trees.shares u.share_root_hash (share_places u.total_shares) = record {
+          let shares : LeadTo f.handout.trees.shares u.share_root_hash (share_leaves u.total_shares) = record {
             sound = h.trees.shares.sound;
             of_root = h.roots.shares;
-            leaves = h.trees.shares.leaves ∙ ap (λ (x : Geometry). share_places x.total) (h.roots.geometry ∙ by_u);
+            leaves = h.trees.shares.leaves ∙ ap (λ (x : Geometry). share_leaves x.total) (h.roots.geometry ∙ by_u);
           } in
           let known : known_leaf f.handout.trees.shares share ≡ Some tree.0.root =
           subst (λ (n : ℕ). known_leaf f.handout.trees.shares n ≡ Some tree.0.root) (sym same) (subst (TellsRoot f.handout.trees.shares r.0.share) tree.1 own.root) in
@@ -182,12 +182,12 @@ module _ (entries : List Request) (f : FileState) (number size : ℕ) (is : IsFi
           subst (λ (h : Geometry). IsBlockTree tree.0 (segment_count h)) (own.geometry ∙ by_u)
           (subst (λ (o : Option PartialState). IfSome o (λ t. IsBlockTree t (segment_count r.0.supply.geometry))) tree.1 own.supply.leads) in
           let size_is : length block ≡ block_length (geometry_by u) number =
-          sym (ap length block_is) ∙ ap length (ap (λ (l : List ℕ). nth_block l size i) joins ∙ nth_own i place.0 r.0 place.1 r.1)
-          ∙ sym (ap (λ (o : Option ReaderState). length (block_in entries number o)) r.1) ∙ its_length place.0 live ∙ long ∙ ap (λ (h : Geometry). block_length h number) by_u in
-          let own_block : block_of entries r.0.supply number ≡ block = sym (ap (λ (l : List ℕ). nth_block l size i) joins ∙ nth_own i place.0 r.0 place.1 r.1) ∙ block_is in
+          sym (ap length block_is) ∙ ap length (ap (λ (l : List ℕ). nth_block l size i) joins ∙ nth_own i position.0 r.0 position.1 r.1)
+          ∙ sym (ap (λ (o : Option ReaderState). length (block_in entries number o)) r.1) ∙ its_length position.0 live ∙ long ∙ ap (λ (h : Geometry). block_length h number) by_u in
+          let own_block : block_of entries r.0.supply number ≡ block = sym (ap (λ (l : List ℕ). nth_block l size i) joins ∙ nth_own i position.0 r.0 position.1 r.1) ∙ block_is in
           blocks_lead_in IsOne u f.handout.trees.shares tree.0 share number block (omega (arith, same, low_share, total)) (subst (λ (h : Geometry). number < segment_count h) by_u there) shares h.trees.share_hashes known leads
           (sym (ap (option_and_then (λ t. known_leaf t number)) tree.1) ∙ proves) size_is
-          in_shares (in_block_tree place.0 r.0 tree.0 live r.1 tree.1) (subst (λ (b : List ℕ). IsOne (tagged_input Block b)) own_block (of_block place.0 r.0 live r.1))
+          in_shares (in_block_tree position.0 r.0 tree.0 live r.1 tree.1) (subst (λ (b : List ℕ). IsOne (tagged_input Block b)) own_block (of_block position.0 r.0 live r.1))
 
       pub no_code_word_in : (numbers segment : List ℕ) → numbers ≡ numbers_of f.readers f.live → AreShareNumbers f.handout.geometry numbers
           → DecodesBlocks f.handout.geometry numbers (blocks_in f.handout.geometry number joined) number segment → RefutesSegment f.handout number segment
@@ -199,18 +199,18 @@ module _ (entries : List Request) (f : FileState) (number size : ℕ) (is : IsFi
     pub is_no_code_word : (numbers segment : List ℕ) → numbers ≡ numbers_of f.readers f.live → AreShareNumbers f.handout.geometry numbers
         → DecodesBlocks f.handout.geometry numbers (blocks_in f.handout.geometry number joined) number segment → RefutesSegment f.handout number segment → IsNoCodeWord f.handout.ueb
     is_no_code_word numbers segment same shares decodes refutes =
-        no_code_word_in IsAnyInput (λ input known. tt) (λ place r tree live at is_tree input known. tt) (λ place r live at. tt) numbers segment same shares decodes refutes (λ input known. tt)
+        no_code_word_in IsAnyInput (λ input known. tt) (λ position r tree live at is_tree input known. tt) (λ position r live at. tt) numbers segment same shares decodes refutes (λ input known. tt)
 
 -- ---- the numbers of the shares that are read
 
 pub live_numbers : (f : FileState) → IsFile f → length f.live ≡ f.handout.geometry.needed → AreShareNumbers f.handout.geometry (numbers_of f.readers f.live)
 live_numbers f is enough = record {
-  enough = length-map f.live (λ place. share_in (slice_get f.readers place)) ∙ enough;
+  enough = length-map f.live (λ reader. share_in (slice_get f.readers reader)) ∙ enough;
   below = All-from_contains (λ n. n < f.handout.geometry.total) (numbers_of f.readers f.live) (λ n among.
-      let place = from_map (λ (p : ℕ). share_in (slice_get f.readers p)) f.live n among in
-      let r = reader_there f.readers place.0 (All-contains (λ p. p < length f.readers) f.live place.0 is.live.there place.1) in
-      let same : r.0.share ≡ n = sym (ap share_in r.1) ∙ place.2 in
-      let low = (is.readers place.0 r.0 r.1).share in
+      let reader = from_map (λ (p : ℕ). share_in (slice_get f.readers p)) f.live n among in
+      let r = reader_there f.readers reader.0 (All-contains (λ p. p < length f.readers) f.live reader.0 is.live.there reader.1) in
+      let same : r.0.share ≡ n = sym (ap share_in r.1) ∙ reader.2 in
+      let low = (is.readers reader.0 r.0 r.1).share in
       omega (arith, low, same));
   distinct = λ i j low_i low_j same. elim (cases_order i j) [
     | inl e ↦ e

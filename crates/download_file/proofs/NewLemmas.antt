@@ -27,8 +27,8 @@ use Rattle.download_file.proofs.StateLemmas.{Follows, asked_up_stays, asks_itsel
 
 -- ---- nothing was read yet
 
-none_there : {X : Type 0} (place : ℕ) (x : X) → slice_get [] place ≡ Some x → ⊥
-none_there place x at = let k : None ≡ Some x = at in cc
+none_there : {X : Type 0} (position : ℕ) (x : X) → slice_get [] position ≡ Some x → ⊥
+none_there position x at = let k : None ≡ Some x = at in cc
 
 module _ (key : List ℕ) (u : Contents) (g : Geometry) (from to : ℕ) (some : from < to) (inside : to ≤ g.size) (right : IsHandout (starting_handout key u g from to)) where
   h : HandoutState
@@ -54,22 +54,22 @@ module _ (key : List ℕ) (u : Contents) (g : Geometry) (from to : ℕ) (some : 
         next = λ n e.
             let k = (next_is (starting_handout key u g from to) n e).1 in
             (omega (arith, k), omega (arith, k, order));
-        readers = λ place r at. absurd (none_there place r at);
+        readers = λ position r at. absurd (none_there position r at);
         live = record {
           rise = tt;
-          there = All-nil (λ place. place < 0);
+          there = All-nil (λ position. position < 0);
           few = omega arith;
           different = λ i j r s one two order_is at_one at_two same. contains_none i one;
-          waits = λ place r among at. absurd (contains_none place among);
-          upper = λ place r among at. absurd (contains_none place among);
-          reads = λ place r among at. absurd (contains_none place among);
+          waits = λ position r among at. absurd (contains_none position among);
+          upper = λ position r among at. absurd (contains_none position among);
+          reads = λ position r among at. absurd (contains_none position among);
         };
         ciphertext = record {
           levels = refl;
           pieces = λ p low. absurd (no_piece p low);
           known = λ p low. absurd (no_piece p low);
-          at_giver = λ place r gives at. absurd (none_there place r at);
-          behind = λ place behind r p gives order_is at asked. none_there behind r at;
+          at_giver = λ position r gives at. absurd (none_there position r at);
+          behind = λ position behind r p gives order_is at asked. none_there behind r at;
         };
         groups = All-nil (IsGroup (starting_handout key u g from to) []);
         in_order = sym first_end;
@@ -77,7 +77,7 @@ module _ (key : List ℕ) (u : Contents) (g : Geometry) (from to : ℕ) (some : 
 
   pub read_new : (entries : List Request) → IsRead entries (new_file key u g from to)
   read_new entries = record {
-    held = λ place r at. absurd (none_there place r at);
+    held = λ position r at. absurd (none_there position r at);
     made = λ group number among. absurd (contains_none group among);
     ready = λ p among. absurd (contains_none p among);
   }
@@ -107,7 +107,7 @@ module _ (f : FileState) (ready : List Piece) (handed : ℕ) (is : IsFile f) (ri
     range = is.range;
     last = is.last;
     next = is.next;
-    readers = λ place r at. same_reader f pieces_file r follows (is.readers place r at);
+    readers = λ position r at. same_reader f pieces_file r follows (is.readers position r at);
     live = record {
       rise = is.live.rise;
       there = is.live.there;
@@ -139,7 +139,7 @@ module _ (f : FileState) (ready : List Piece) (handed : ℕ) (is : IsFile f) (ri
   up_pieces reader = asked_up_stays f pieces_file reader refl (λ now. now) (λ r at. (r, at, grows_itself r.supply))
 
   pub asks_pieces : AsksNoMore f pieces_file
-  asks_pieces = asks_no_more f pieces_file (λ place r at. inl (r, at, asks_itself r.supply)) (λ place r at. (r, at, asks_itself r.supply))
+  asks_pieces = asks_no_more f pieces_file (λ position r at. inl (r, at, asks_itself r.supply)) (λ position r at. (r, at, asks_itself r.supply))
 
 -- what holds of a file then
 pub record HasPieces (f g : FileState) : Type 0 where

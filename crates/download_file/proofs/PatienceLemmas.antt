@@ -6,7 +6,7 @@ use Rattle.share_layout.specs.Pieces.{block_length}
 use Rattle.download_parts.specs.Trees.{known_leaf}
 use Rattle.download_segments.specs.Handout.{IsRowWanted, handed_out, next_segment}
 use Rattle.download_segments.specs.State.{HandoutState, ProvesSegment}
-use Rattle.download_file.specs.State.{FileState, IsComplete, ReaderState, first_place, waiting_in}
+use Rattle.download_file.specs.State.{FileState, IsComplete, ReaderState, first_position, waiting_in}
 use Rattle.download_file.specs.Answers.{HaveRightBlocks}
 use Rattle.download_file.specs.Asked.{AsksNoMore}
 use Rattle.download_file.specs.Changes.{StaysAskedUp}
@@ -23,8 +23,8 @@ pub row_waits : (f : FileState) → AwaitsRow f → SomeWaits f
 row_waits f k = record {
   reader = k.awaits.reader;
   live = k.awaits.among;
-  place = k.awaits.place;
-  first = ap (λ o. first_place (waiting_in o)) k.awaits.there ∙ k.awaits.first;
+  position = k.awaits.position;
+  first = ap (λ o. first_position (waiting_in o)) k.awaits.there ∙ k.awaits.first;
 }
 
 -- nothing is handed out, and the readers are the same
@@ -33,8 +33,8 @@ module _ (f g : FileState) (handout : g.handout ≡ f.handout) (lives : g.live �
   waits_back k = record {
     reader = k.reader;
     live = subst (λ (l : List ℕ). Contains l k.reader) lives k.live;
-    place = k.place;
-    first = ap (λ (rs : List ReaderState). first_place (waiting_in (slice_get rs k.reader))) (sym readers) ∙ k.first;
+    position = k.position;
+    first = ap (λ (rs : List ReaderState). first_position (waiting_in (slice_get rs k.reader))) (sym readers) ∙ k.first;
   }
 
   complete_back : IsComplete g → IsComplete f

@@ -5,7 +5,7 @@ use Rattle.std.specs.Int.{div_ceil}
 use Rattle.std.specs.declared.alloc.AllocError.{AllocError}
 use Rattle.std.proofs.lemmas.List.Elements.{All-contains, All-set, All-weaker}
 use Rattle.lemmas.proofs.Options.{one_there}
-use Rattle.lemmas.proofs.Places.{get_set}
+use Rattle.lemmas.proofs.Positions.{get_set}
 use Rattle.lemmas.proofs.Members.{contains_at}
 use Rattle.request_record.specs.declared.requests.Request.{Request}
 use Rattle.share_layout.specs.Pieces.{block_length}
@@ -84,15 +84,15 @@ module _ (entries : List Request) (f : FileState) (number : ℕ) (groups groups'
     (next : next_segment f.handout ≡ Some number) (begun : HasLast f number groups) (wanted : IsRowWanted f.handout number)
     (blocks : (i : ℕ) → i < 8 → HaveRightBlocks entries f.readers f.live (number + i)) (joins : IsRow entries f.readers number f.live rows)
     (made : MakesRow f.handout groups number rows h' groups') where
-  abbrev last_place : ℕ
-  last_place = length groups - 1
+  abbrev last_position : ℕ
+  last_position = length groups - 1
 
   -- the last group, the groups, the handout and the file once so many segments are made
   abbrev group_at : ℕ → GroupState
   group_at n = with_end made.group (number + n)
 
   abbrev groups_at : ℕ → List GroupState
-  groups_at n = slice_set groups last_place (group_at n)
+  groups_at n = slice_set groups last_position (group_at n)
 
   abbrev handout_at : ℕ → HandoutState
   handout_at n = first_handed_out f.handout made.segments n
@@ -104,22 +104,22 @@ module _ (entries : List Request) (f : FileState) (number : ℕ) (groups groups'
   state_at n low = row_state f.handout number made.segments is.handout next wanted made.proved n low
 
   own : IsGroup f.handout f.readers made.group
-  own = All-contains (IsGroup f.handout f.readers) groups made.group begun.groups_are (contains_at groups last_place made.group made.last)
+  own = All-contains (IsGroup f.handout f.readers) groups made.group begun.groups_are (contains_at groups last_position made.group made.last)
 
-  count : last_place + 1 ≡ length groups
+  count : last_position + 1 ≡ length groups
   count = let some = begun.some in omega (arith, some)
 
   as_many : (n : ℕ) → length (groups_at n) ≡ length groups
-  as_many n = length-set groups last_place (group_at n)
+  as_many n = length-set groups last_position (group_at n)
 
   last_at : (n : ℕ) → IsLast (groups_at n) (group_at n)
-  last_at n = ap (λ (k : ℕ). slice_get (groups_at n) (k - 1)) (as_many n) ∙ get_set groups last_place (group_at n) made.group made.last
+  last_at n = ap (λ (k : ℕ). slice_get (groups_at n) (k - 1)) (as_many n) ∙ get_set groups last_position (group_at n) made.group made.last
 
   begun_at : (n : ℕ) → n ≤ 8 → HasLast (file_at n) (number + n) (groups_at n)
   begun_at n low = record {
     some = let some = begun.some in let many = as_many n in omega (arith, some, many);
-    in_order = raise_last groups last_place f.first number (number + n) made.group count begun.in_order made.last (omega arith);
-    groups_are = All-set (IsGroup (handout_at n) f.readers) groups last_place (group_at n)
+    in_order = raise_last groups last_position f.first number (number + n) made.group count begun.in_order made.last (omega arith);
+    groups_are = All-set (IsGroup (handout_at n) f.readers) groups last_position (group_at n)
         (raised (stays made.group own)) (All-weaker (IsGroup f.handout f.readers) (IsGroup (handout_at n) f.readers) stays groups begun.groups_are);
     last = λ group at. ap (λ (g : GroupState). g.readers) (one_there (slice_get (groups_at n) (length (groups_at n) - 1)) group (group_at n) at (last_at n))
         ∙ begun.last made.group made.last;
@@ -141,16 +141,16 @@ module _ (entries : List Request) (f : FileState) (number : ℕ) (groups groups'
     decodes = made.decodes n low;
     proved = still_proved f.handout (handout_at n) number n (number + n) (nth made.segments n) (state_at n (omega (arith, low))) (made.proved n low);
     handed = refl;
-    groups_are = ap (λ (x : ℕ). slice_set groups last_place (with_end made.group x)) (let e : number + suc n ≡ number + n + 1 = omega arith in e)
-        ∙ sym (set_again groups last_place (group_at n) (with_end made.group (number + n + 1)))
+    groups_are = ap (λ (x : ℕ). slice_set groups last_position (with_end made.group x)) (let e : number + suc n ≡ number + n + 1 = omega arith in e)
+        ∙ sym (set_again groups last_position (group_at n) (with_end made.group (number + n + 1)))
         ∙ ap (λ (k : ℕ). slice_set (groups_at n) (k - 1) (with_end made.group (number + n + 1))) (sym (as_many n));
   }
 
   first_groups : groups_at 0 ≡ groups
   first_groups =
-      let end : made.group.end ≡ number = last_end groups last_place f.first number made.group count begun.in_order made.last in
+      let end : made.group.end ≡ number = last_end groups last_position f.first number made.group count begun.in_order made.last in
       let e : number + 0 ≡ made.group.end = omega (arith, end) in
-      ap (slice_set groups last_place) (ap (with_end made.group) e) ∙ set_same groups last_place made.group made.last
+      ap (slice_set groups last_position) (ap (with_end made.group) e) ∙ set_same groups last_position made.group made.last
 
   made_many : (n : ℕ) → n ≤ 8 → HasMadeMany entries n f (file_at n)
   unfolding first_handed_out MakesSegments

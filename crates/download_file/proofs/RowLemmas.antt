@@ -23,19 +23,19 @@ room_for k count size long low is =
 pub lacks_not : (h : HandoutState) (readers : List ReaderState) (live : List ℕ) (number : ℕ) → LacksSome h readers live number → HasAll h readers live number → ⊥
 lacks_not h readers live number (lacks_readers few) all = few all.enough
 lacks_not h readers live number (lacks_hash none) all = let known = subst IsSome none all.known in cc
-lacks_not h readers live number (lacks_block b) all = b.not (all.ready b.place b.r b.among b.there)
+lacks_not h readers live number (lacks_block b) all = b.not (all.ready b.position b.r b.among b.there)
 
 -- one reader more has its block
-pub proved_more : (readers : List ReaderState) (places : List ℕ) (number : ℕ) (joined : List ℕ) (len k place : ℕ) (r : ReaderState) → slice_get places k ≡ Some place
-    → slice_get readers place ≡ Some r → IsProved r.supply number (nth_block joined len k) → AreProved readers places number joined len k
-    → AreProved readers places number joined len (k + 1)
-proved_more readers places number joined len k place r at there proved all j other s low is is_there =
+pub proved_more : (readers : List ReaderState) (positions : List ℕ) (number : ℕ) (joined : List ℕ) (len k position : ℕ) (r : ReaderState) → slice_get positions k ≡ Some position
+    → slice_get readers position ≡ Some r → IsProved r.supply number (nth_block joined len k) → AreProved readers positions number joined len k
+    → AreProved readers positions number joined len (k + 1)
+proved_more readers positions number joined len k position r at there proved all j other s low is is_there =
     elim (cases_lt j k) [
       | inl before ↦ all j other s before is is_there
       | inr not ↦
           let same : j ≡ k = omega (arith, low, not) in
-          let one : place ≡ other = one_there (slice_get places k) place other at (sym (ap (slice_get places) same) ∙ is) in
-          let reader : r ≡ s = one_there (slice_get readers place) r s there (ap (slice_get readers) one ∙ is_there) in
+          let one : position ≡ other = one_there (slice_get positions k) position other at (sym (ap (slice_get positions) same) ∙ is) in
+          let reader : r ≡ s = one_there (slice_get readers position) r s there (ap (slice_get readers) one ∙ is_there) in
           subst (λ (t : ReaderState). IsProved t.supply number (nth_block joined len j)) reader
           (subst (λ (n : ℕ). IsProved r.supply number (nth_block joined len n)) (sym same) proved)
     ]

@@ -7,7 +7,7 @@ use Rattle.std.proofs.lemmas.List.{length-append}
 use Rattle.std.proofs.lemmas.List.Elements.{All-contains, All-push, All-set, All-weaker, Contains-append_left, Contains-push_cases}
 use Rattle.std.proofs.lemmas.Nat.{le-div}
 use Rattle.lemmas.proofs.Options.{chosen, one_there}
-use Rattle.lemmas.proofs.Places.{get_last, get_set, set_cases}
+use Rattle.lemmas.proofs.Positions.{get_last, get_set, set_cases}
 use Rattle.lemmas.proofs.Members.{contains_at}
 use Rattle.request_record.specs.declared.requests.Request.{Request}
 use Rattle.merkle.proofs.PaddingLemmas.{lt_from_true}
@@ -96,8 +96,8 @@ has_last f number groups is next enough (inr pushed) =
       groups_are = All-push (IsGroup f.handout f.readers) f.groups g is.groups
           (record { geometry = refl; decoding = live_numbers f is enough; there = is.live.there; numbers = refl });
       last = λ group at.
-          let place : length (f.groups ++ g ∷ []) - 1 ≡ length f.groups = omega (arith, long) in
-          let at_last : slice_get (f.groups ++ g ∷ []) (length (f.groups ++ g ∷ []) - 1) ≡ Some g = ap (slice_get (f.groups ++ g ∷ [])) place ∙ get_last f.groups g in
+          let position : length (f.groups ++ g ∷ []) - 1 ≡ length f.groups = omega (arith, long) in
+          let at_last : slice_get (f.groups ++ g ∷ []) (length (f.groups ++ g ∷ []) - 1) ≡ Some g = ap (slice_get (f.groups ++ g ∷ [])) position ∙ get_last f.groups g in
           ap (λ (x : GroupState). x.readers) (one_there (slice_get (f.groups ++ g ∷ []) (length (f.groups ++ g ∷ []) - 1)) group g at at_last);
       old = λ group n among from before. elim (Contains-push_cases f.groups g group among) [
         | inl k ↦ k
@@ -117,8 +117,8 @@ module _ (entries : List Request) (f : FileState) (number : ℕ) (groups groups'
   is_right : IsHandout (handed_out f.handout made.segment)
   is_right = subst IsHandout made.handed right
 
-  abbrev last_place : ℕ
-  last_place = length groups - 1
+  abbrev last_position : ℕ
+  last_position = length groups - 1
 
   follows_next : next_segment (handed_out f.handout made.segment) ≡ (if nat_lt (next_end f.handout) f.handout.to then Some (number + 1) else None)
   follows_next = next_follows f.handout number made.segment is.handout next
@@ -162,17 +162,17 @@ module _ (entries : List Request) (f : FileState) (number : ℕ) (groups groups'
               omega (arith, less, least)
 
   made_geometry : made.group.decoding.geometry ≡ f.handout.geometry
-  made_geometry = (All-contains (IsGroup f.handout f.readers) groups made.group begun.groups_are (contains_at groups last_place made.group made.last)).geometry
+  made_geometry = (All-contains (IsGroup f.handout f.readers) groups made.group begun.groups_are (contains_at groups last_position made.group made.last)).geometry
 
   made_readers : made.group.readers ≡ f.live
   made_readers = begun.last made.group made.last
 
-  count : last_place + 1 ≡ length groups
+  count : last_position + 1 ≡ length groups
   count = let some = begun.some in omega (arith, some)
 
   is_made : IsMade entries (handed_out f.handout made.segment) f.readers (with_end made.group (number + 1)) number
   is_made = record {
-    right = λ place r among at. blocks place r (subst (λ (l : List ℕ). Contains l place) made_readers among) at;
+    right = λ position r among at. blocks position r (subst (λ (l : List ℕ). Contains l position) made_readers among) at;
     segment = made.segment;
     decodes = subst (λ (g : Geometry). DecodesBlocks g made.group.decoding.numbers (blocks_in g number (blocks_of entries f.readers number made.group.readers)) number made.segment) made_geometry
         (subst (λ (l : List ℕ). DecodesBlocks made.group.decoding.geometry made.group.decoding.numbers (blocks_in made.group.decoding.geometry number l) number made.segment)
@@ -189,15 +189,15 @@ module _ (entries : List Request) (f : FileState) (number : ℕ) (groups groups'
   in_groups : (group : GroupState) (n : ℕ) → Contains groups' group → group.first ≤ n → n < group.end → IsMade entries (handed_out f.handout made.segment) f.readers group n
   in_groups group n among from before =
       let at = at_contained groups' group among in
-      elim (set_cases groups last_place at.0 (with_end made.group (number + 1)) group (sym (ap (λ (gs : List GroupState). slice_get gs at.0) made.groups_are) ∙ at.1)) [
+      elim (set_cases groups last_position at.0 (with_end made.group (number + 1)) group (sym (ap (λ (gs : List GroupState). slice_get gs at.0) made.groups_are) ∙ at.1)) [
         | inr k ↦ made_before group n (begun.old group n (contains_at groups at.0 group k.1) from before) from before
         | inl k ↦
-            let end : made.group.end ≡ number = last_end groups last_place f.first number made.group count begun.in_order made.last in
+            let end : made.group.end ≡ number = last_end groups last_position f.first number made.group count begun.in_order made.last in
             let one = ap (λ (x : GroupState). x.end) k.1 in
             let first = ap (λ (x : GroupState). x.first) k.1 in
             elim (cases_lt n number) [
               | inl low ↦ subst (λ (x : GroupState). IsMade entries (handed_out f.handout made.segment) f.readers x n) k.1
-                  (raised made.group n (made_before made.group n (begun.old made.group n (contains_at groups last_place made.group made.last) (omega (arith, first, from)) (omega (arith, end, low)))
+                  (raised made.group n (made_before made.group n (begun.old made.group n (contains_at groups last_position made.group made.last) (omega (arith, first, from)) (omega (arith, end, low)))
                   (omega (arith, first, from)) (omega (arith, end, low))))
               | inr high ↦
                   let same : number ≡ n = omega (arith, one, before, high) in
@@ -221,7 +221,7 @@ module _ (entries : List Request) (f : FileState) (number : ℕ) (groups groups'
 
   in_raised : Contains groups' raised_group
   in_raised = subst (λ (gs : List GroupState). Contains gs raised_group) (sym made.groups_are)
-      (contains_at (slice_set groups last_place raised_group) last_place raised_group (get_set groups last_place raised_group made.group made.last))
+      (contains_at (slice_set groups last_position raised_group) last_position raised_group (get_set groups last_position raised_group made.group made.last))
 
   module _ (others : List Request) (n : ℕ) (segment : List ℕ) (m : IsMadeSegment others f n segment) where
     again : IsMade others (handed_out f.handout made.segment) f.readers m.group n
@@ -234,10 +234,10 @@ module _ (entries : List Request) (f : FileState) (number : ℕ) (groups groups'
     still_made : IsMadeSegment others made_file n segment
     still_made =
         let at = at_contained groups m.group (begun.kept m.group m.among) in
-        elim (get_cases groups last_place at.0 raised_group made.group m.group made.last at.1) [
+        elim (get_cases groups last_position at.0 raised_group made.group m.group made.last at.1) [
           | inr k ↦ record {
             group = m.group;
-            among = subst (λ (gs : List GroupState). Contains gs m.group) (sym made.groups_are) (contains_at (slice_set groups last_place raised_group) at.0 m.group k.1);
+            among = subst (λ (gs : List GroupState). Contains gs m.group) (sym made.groups_are) (contains_at (slice_set groups last_position raised_group) at.0 m.group k.1);
             from = m.from;
             before = m.before;
             made = again;
@@ -248,7 +248,7 @@ module _ (entries : List Request) (f : FileState) (number : ℕ) (groups groups'
       where
         last_made : made.group ≡ m.group → IsMadeSegment others made_file n segment
         last_made same =
-            let end : made.group.end ≡ number = last_end groups last_place f.first number made.group count begun.in_order made.last in
+            let end : made.group.end ≡ number = last_end groups last_position f.first number made.group count begun.in_order made.last in
             let end_same = ap (λ (x : GroupState). x.end) same in
             let first_same = ap (λ (x : GroupState). x.first) same in
             let before = m.before in
@@ -273,8 +273,8 @@ module _ (entries : List Request) (f : FileState) (number : ℕ) (groups groups'
   -- the piece that is made of the segment
   next_given : IsGivenBy entries made_file (next_piece f.handout made.segment)
   next_given =
-      let order = last_order groups last_place f.first number made.group begun.in_order made.last in
-      let end : made.group.end ≡ number = last_end groups last_place f.first number made.group count begun.in_order made.last in
+      let order = last_order groups last_position f.first number made.group begun.in_order made.last in
+      let end : made.group.end ≡ number = last_end groups last_position f.first number made.group count begun.in_order made.last in
       record {
         number = number;
         segment = made.segment;
@@ -317,7 +317,7 @@ module _ (entries : List Request) (f : FileState) (number : ℕ) (groups groups'
         let low = k.1 in
         let from = (is.next number next).0 in
         (omega (arith, same, from), omega (arith, same, low));
-    readers = λ place r at. same_reader f made_file r follows (is.readers place r at);
+    readers = λ position r at. same_reader f made_file r follows (is.readers position r at);
     live = record {
       rise = is.live.rise;
       there = is.live.there;
@@ -335,12 +335,12 @@ module _ (entries : List Request) (f : FileState) (number : ℕ) (groups groups'
       behind = is.ciphertext.behind;
     };
     groups = subst (All (IsGroup (handed_out f.handout made.segment) f.readers)) (sym made.groups_are)
-        (All-set (IsGroup (handed_out f.handout made.segment) f.readers) groups last_place (with_end made.group (number + 1))
-        (raised (stays made.group (All-contains (IsGroup f.handout f.readers) groups made.group begun.groups_are (contains_at groups last_place made.group made.last))))
+        (All-set (IsGroup (handed_out f.handout made.segment) f.readers) groups last_position (with_end made.group (number + 1))
+        (raised (stays made.group (All-contains (IsGroup f.handout f.readers) groups made.group begun.groups_are (contains_at groups last_position made.group made.last))))
         (All-weaker (IsGroup f.handout f.readers) (IsGroup (handed_out f.handout made.segment) f.readers) stays groups begun.groups_are));
     in_order = subst (AreConsecutive f.first groups') (sym end_made)
         (subst (λ (gs : List GroupState). AreConsecutive f.first gs (number + 1)) (sym made.groups_are)
-        (raise_last groups last_place f.first number (number + 1) made.group count begun.in_order made.last (omega arith)));
+        (raise_last groups last_position f.first number (number + 1) made.group count begun.in_order made.last (omega arith)));
   } where
     stays : (group : GroupState) → IsGroup f.handout f.readers group → IsGroup (handed_out f.handout made.segment) f.readers group
     stays group own = group_stays f.handout (handed_out f.handout made.segment) f.readers f.readers group refl (grow_same f.readers) own
@@ -386,7 +386,7 @@ has_groups entries f number groups groups' h' is read next begun same_handout sa
         range = is.range;
         last = is.last;
         next = is.next;
-        readers = λ place r at. same_reader f (record f { groups = groups }) r follows_same (is.readers place r at);
+        readers = λ position r at. same_reader f (record f { groups = groups }) r follows_same (is.readers position r at);
         live = record {
           rise = is.live.rise;
           there = is.live.there;

@@ -3,7 +3,7 @@ use Rattle.std.proofs.Common.{◌≡◌, ◌↔◌, ℕ, zero, suc, ◌+◌, ◌
 use Rattle.std.specs.Prelude.{slice_get}
 use Rattle.std.proofs.lemmas.Bool.{false≢true}
 use Rattle.share_layout.specs.Geometry.{Geometry}
-use Rattle.download_parts.specs.Plan.{IsNodePiece, data_pieces, length_of, place_of}
+use Rattle.download_parts.specs.Plan.{IsNodePiece, data_pieces, length_of, offset_of}
 use Rattle.download_parts.specs.declared.part.NodePiece.{NodePiece}
 use Rattle.download_parts.specs.declared.part.Part.{Part}
 use Rattle.download_parts.specs.declared.part.Part.TheVariants.{ShareHashes, BlockTree, CiphertextTree, Data}
@@ -67,14 +67,14 @@ new_asks_none g start first end (BlockTree p) h = let e = cursor_none p.level in
 new_asks_none g start first end (CiphertextTree p) h = let low = h.1 in let e = cursor_none p.level in omega (arith, low, e)
 new_asks_none g start first end (Data i) h = omega (arith, h)
 
--- each reader has been asked the same at its place, and a new one nothing
+-- each reader has been asked the same at its position, and a new one nothing
 abbrev pub KeepsAsks : List ReaderState → List ReaderState → Type 0
-KeepsAsks rs rs' = (place : ℕ) (r' : ReaderState) → slice_get rs' place ≡ Some r'
-    → ((r : ReaderState) × (slice_get rs place ≡ Some r) × SameAsks r.supply r'.supply) ⊎ ((part : Part) → ¬ IsAsked r'.supply part)
+KeepsAsks rs rs' = (position : ℕ) (r' : ReaderState) → slice_get rs' position ≡ Some r'
+    → ((r : ReaderState) × (slice_get rs position ≡ Some r) × SameAsks r.supply r'.supply) ⊎ ((part : Part) → ¬ IsAsked r'.supply part)
 
 abbrev pub StillAsks : List ReaderState → List ReaderState → Type 0
-StillAsks rs rs' = (place : ℕ) (r : ReaderState) → slice_get rs place ≡ Some r
-    → (r' : ReaderState) × (slice_get rs' place ≡ Some r') × SameAsks r.supply r'.supply
+StillAsks rs rs' = (position : ℕ) (r : ReaderState) → slice_get rs position ≡ Some r
+    → (r' : ReaderState) × (slice_get rs' position ≡ Some r') × SameAsks r.supply r'.supply
 
 pub asks_no_more : (f f' : FileState) → KeepsAsks f.readers f'.readers → StillAsks f.readers f'.readers → AsksNoMore f f'
 asks_no_more f f' keeps still reader offset len = (
@@ -84,7 +84,7 @@ asks_no_more f f' keeps still reader offset len = (
       there = k.1;
       part = has.part;
       asked = (k.2.asked has.part).0 has.asked;
-      place = has.place ∙ (λ i. place_of (k.2.geometry i) (first_same k.0.supply has.r.supply k.2.start k.2.first has.part i) (k.2.end i) has.part);
+      offset_is = has.offset_is ∙ (λ i. offset_of (k.2.geometry i) (first_same k.0.supply has.r.supply k.2.start k.2.first has.part i) (k.2.end i) has.part);
       long = has.long ∙ (λ i. length_of (k.2.geometry i) (first_same k.0.supply has.r.supply k.2.start k.2.first has.part i) (k.2.end i) has.part);
     }
     | inr none ↦ absurd (none has.part has.asked)
@@ -96,7 +96,7 @@ asks_no_more f f' keeps still reader offset len = (
         there = k.1;
         part = has.part;
         asked = (k.2.asked has.part).1 has.asked;
-        place = has.place ∙ sym (λ i. place_of (k.2.geometry i) (first_same has.r.supply k.0.supply k.2.start k.2.first has.part i) (k.2.end i) has.part);
+        offset_is = has.offset_is ∙ sym (λ i. offset_of (k.2.geometry i) (first_same has.r.supply k.0.supply k.2.start k.2.first has.part i) (k.2.end i) has.part);
         long = has.long ∙ sym (λ i. length_of (k.2.geometry i) (first_same has.r.supply k.0.supply k.2.start k.2.first has.part i) (k.2.end i) has.part);
       }),
 )

@@ -5,10 +5,10 @@ use Rattle.std.proofs.lemmas.Bool.{cases_lt}
 use Rattle.std.proofs.lemmas.List.{append-nil, length-append, length-set}
 use Rattle.std.proofs.lemmas.List.Elements.{All-tail, All-weaker}
 use Rattle.lemmas.proofs.Options.{one_there}
-use Rattle.lemmas.proofs.Places.{get_set, get_other, set_cases}
+use Rattle.lemmas.proofs.Positions.{get_set, get_other, set_cases}
 use Rattle.request_record.specs.declared.requests.Request.{Request}
 use Rattle.share_layout.specs.Geometry.{Geometry}
-use Rattle.download_parts.specs.Plan.{IsNodePiece, length_of, place_of}
+use Rattle.download_parts.specs.Plan.{IsNodePiece, length_of, offset_of}
 use Rattle.download_parts.specs.declared.part.NodePiece.{NodePiece}
 use Rattle.download_parts.specs.declared.part.Part.{Part}
 use Rattle.download_parts.specs.declared.part.Part.TheVariants.{ShareHashes, BlockTree, CiphertextTree, Data}
@@ -62,11 +62,11 @@ taken_cases taken (BlockTree q) p next low = inl low
 taken_cases taken (CiphertextTree q) p next low = elim ((piece_next taken q p (next q refl)).0 low) [ inl old ↦ inl old | inr same ↦ inr (ap CiphertextTree same) ]
 taken_cases taken (Data i) p next low = inl low
 
-held_more : (held : List ℕ) (part : Part) (place : ℕ) → (more : List ℕ) × (held_with held part place ≡ held ++ more)
-held_more held ShareHashes place = ([], sym (append-nil held))
-held_more held (BlockTree p) place = ([], sym (append-nil held))
-held_more held (CiphertextTree p) place = ([], sym (append-nil held))
-held_more held (Data i) place = (place ∷ [], refl)
+held_more : (held : List ℕ) (part : Part) (position : ℕ) → (more : List ℕ) × (held_with held part position ≡ held ++ more)
+held_more held ShareHashes position = ([], sym (append-nil held))
+held_more held (BlockTree p) position = ([], sym (append-nil held))
+held_more held (CiphertextTree p) position = ([], sym (append-nil held))
+held_more held (Data i) position = (position ∷ [], refl)
 
 get_front : (xs ys : List ℕ) (k : ℕ) → k < length xs → get_or (xs ++ ys) k 0 ≡ get_or xs k 0
 get_front [] ys k low = absurd (omega (arith, low))
@@ -80,24 +80,24 @@ get_behind (x ∷ xs) y zero e = absurd (omega (arith, e))
 get_behind (x ∷ xs) y (suc k) e = get_behind xs y k (omega (arith, e))
 
 -- the answers that are held, with this part
-holds_with : (entries : List Request) (server share : ℕ) (s : SupplyState) (part : Part) (place : ℕ) → HoldsFor entries server share s
-    → ((i : ℕ) → part ≡ Data i → (i ≡ length s.held) × IsAnswerOf entries server share (place_of s.geometry s.first s.end (Data i)) (length_of s.geometry s.first s.end (Data i)) place)
-    → (k : ℕ) → k < length (held_with s.held part place)
-    → IsAnswerOf entries server share (place_of s.geometry s.first s.end (Data k)) (length_of s.geometry s.first s.end (Data k)) (get_or (held_with s.held part place) k 0)
-holds_with entries server share s ShareHashes place holds datum k low = holds k low
-holds_with entries server share s (BlockTree p) place holds datum k low = holds k low
-holds_with entries server share s (CiphertextTree p) place holds datum k low = holds k low
-holds_with entries server share s (Data i) place holds datum k low =
-    let at_place : ℕ → Type 0 = λ n. IsAnswerOf entries server share (place_of s.geometry s.first s.end (Data k)) (length_of s.geometry s.first s.end (Data k)) n in
+holds_with : (entries : List Request) (server share : ℕ) (s : SupplyState) (part : Part) (position : ℕ) → HoldsFor entries server share s
+    → ((i : ℕ) → part ≡ Data i → (i ≡ length s.held) × IsAnswerOf entries server share (offset_of s.geometry s.first s.end (Data i)) (length_of s.geometry s.first s.end (Data i)) position)
+    → (k : ℕ) → k < length (held_with s.held part position)
+    → IsAnswerOf entries server share (offset_of s.geometry s.first s.end (Data k)) (length_of s.geometry s.first s.end (Data k)) (get_or (held_with s.held part position) k 0)
+holds_with entries server share s ShareHashes position holds datum k low = holds k low
+holds_with entries server share s (BlockTree p) position holds datum k low = holds k low
+holds_with entries server share s (CiphertextTree p) position holds datum k low = holds k low
+holds_with entries server share s (Data i) position holds datum k low =
+    let at_position : ℕ → Type 0 = λ n. IsAnswerOf entries server share (offset_of s.geometry s.first s.end (Data k)) (length_of s.geometry s.first s.end (Data k)) n in
     elim (cases_lt k (length s.held)) [
-      | inl before ↦ subst at_place (sym (get_front s.held (place ∷ []) k before)) (holds k before)
+      | inl before ↦ subst at_position (sym (get_front s.held (position ∷ []) k before)) (holds k before)
       | inr behind ↦
-          let long = length-append s.held (place ∷ []) in
+          let long = length-append s.held (position ∷ []) in
           let at : k ≡ length s.held = omega (arith, low, long, behind) in
           let one = datum i refl in
           let same : i ≡ k = one.0 ∙ sym at in
-          subst at_place (sym (get_behind s.held place k at))
-          (subst (λ (n : ℕ). IsAnswerOf entries server share (place_of s.geometry s.first s.end (Data n)) (length_of s.geometry s.first s.end (Data n)) place) same one.1)
+          subst at_position (sym (get_behind s.held position k at))
+          (subst (λ (n : ℕ). IsAnswerOf entries server share (offset_of s.geometry s.first s.end (Data n)) (length_of s.geometry s.first s.end (Data n)) position) same one.1)
     ]
 
 -- ---- the file
@@ -148,7 +148,7 @@ module _ (f : FileState) (t : FileTreesState) (reader : ℕ) (r r' : ReaderState
         absurd (is.ciphertext.behind before.0 reader r q before.1 before.2 at (omega (arith, index, given), due.asked))
   ]
 
-  module _ (T : TakesPart f.handout r f.taken f.first f.end w.wanted.part w.place (with_trees f.handout t) r' taken') where
+  module _ (T : TakesPart f.handout r f.taken f.first f.end w.wanted.part w.position (with_trees f.handout t) r' taken') where
     abbrev pub taken_file : FileState
     taken_file = record f { handout = with_trees f.handout t; taken = taken'; readers = slice_set f.readers reader r' }
 
@@ -161,7 +161,7 @@ module _ (f : FileState) (t : FileTreesState) (reader : ℕ) (r r' : ReaderState
 
     goes : GoesOn r.supply r'.supply
     goes =
-        let more = held_more r.supply.held w.wanted.part w.place in
+        let more = held_more r.supply.held w.wanted.part w.position in
         record {
           geometry = ap (λ (s : SupplyState). s.geometry) T.supply_is;
           start = ap (λ (s : SupplyState). s.start) T.supply_is;
@@ -186,7 +186,7 @@ module _ (f : FileState) (t : FileTreesState) (reader : ℕ) (r r' : ReaderState
     }
 
     pub grow_taken : ReadersGoOn f.readers (slice_set f.readers reader r')
-    grow_taken place q there = elim (get_cases f.readers reader place r' r q at there) [
+    grow_taken position q there = elim (get_cases f.readers reader position r' r q at there) [
       | inl k ↦ record {
         now = r';
         there = k.2;
@@ -198,25 +198,25 @@ module _ (f : FileState) (t : FileTreesState) (reader : ℕ) (r r' : ReaderState
     ]
 
     pub still_taken : StillAsks f.readers (slice_set f.readers reader r')
-    still_taken place q there = elim (get_cases f.readers reader place r' r q at there) [
+    still_taken position q there = elim (get_cases f.readers reader position r' r q at there) [
       | inl k ↦ (r', k.2, subst (λ (x : ReaderState). SameAsks x.supply r'.supply) k.1 asks)
       | inr k ↦ (q, k.1, asks_itself q.supply)
     ]
 
     pub keeps_taken : KeepsAsks f.readers (slice_set f.readers reader r')
-    keeps_taken place q there = elim (set_cases f.readers reader place r' q there) [
+    keeps_taken position q there = elim (set_cases f.readers reader position r' q there) [
       | inl k ↦ inl (r, ap (slice_get f.readers) k.0 ∙ at, subst (λ (x : ReaderState). SameAsks r.supply x.supply) k.1 asks)
       | inr k ↦ inl (q, k.1, asks_itself q.supply)
     ]
 
-    pub grows_taken : (place : ℕ) (q : ReaderState) → slice_get (slice_set f.readers reader r') place ≡ Some q → (o : ReaderState) × (slice_get f.readers place ≡ Some o) × GrowsAsks o.supply q.supply
-    grows_taken place q there = elim (set_cases f.readers reader place r' q there) [
+    pub grows_taken : (position : ℕ) (q : ReaderState) → slice_get (slice_set f.readers reader r') position ≡ Some q → (o : ReaderState) × (slice_get f.readers position ≡ Some o) × GrowsAsks o.supply q.supply
+    grows_taken position q there = elim (set_cases f.readers reader position r' q there) [
       | inl k ↦ (r, ap (slice_get f.readers) k.0 ∙ at, subst (λ (x : ReaderState). GrowsAsks r.supply x.supply) k.1 grows)
       | inr k ↦ (q, k.1, grows_itself q.supply)
     ]
 
-    share_was : (place : ℕ) (q : ReaderState) → slice_get (slice_set f.readers reader r') place ≡ Some q → (o : ReaderState) × (slice_get f.readers place ≡ Some o) × (q.share ≡ o.share)
-    share_was place q there = elim (set_cases f.readers reader place r' q there) [
+    share_was : (position : ℕ) (q : ReaderState) → slice_get (slice_set f.readers reader r') position ≡ Some q → (o : ReaderState) × (slice_get f.readers position ≡ Some o) × (q.share ≡ o.share)
+    share_was position q there = elim (set_cases f.readers reader position r' q there) [
       | inl k ↦ (r, ap (slice_get f.readers) k.0 ∙ at, sym (ap (λ (x : ReaderState). x.share) k.1) ∙ T.share)
       | inr k ↦ (q, k.1, refl)
     ]
@@ -245,24 +245,24 @@ module _ (f : FileState) (t : FileTreesState) (reader : ℕ) (r r' : ReaderState
     live_taken : AreLive taken_file
     live_taken = record {
       rise = is.live.rise;
-      there = All-weaker (λ place. place < length f.readers) (λ place. place < length (slice_set f.readers reader r'))
-          (λ place low. let long = length-set f.readers reader r' in omega (arith, low, long)) f.live is.live.there;
+      there = All-weaker (λ position. position < length f.readers) (λ position. position < length (slice_set f.readers reader r'))
+          (λ position low. let long = length-set f.readers reader r' in omega (arith, low, long)) f.live is.live.there;
       few = is.live.few;
       different = λ i j x y one two order at_one at_two same.
           let a = share_was i x at_one in
           let b = share_was j y at_two in
           is.live.different i j a.0 b.0 one two order a.1 b.1 (sym a.2 ∙ same ∙ b.2);
-      waits = λ place q one there. elim (set_cases f.readers reader place r' q there) [
+      waits = λ position q one there. elim (set_cases f.readers reader position r' q there) [
         | inl k ↦ subst (λ (x : ReaderState). LeadOn x.supply.taken (waiting_parts x.waiting) x.supply.asked) k.1 leads_on
-        | inr k ↦ is.live.waits place q one k.1
+        | inr k ↦ is.live.waits position q one k.1
       ];
-      upper = λ place q one there. elim (set_cases f.readers reader place r' q there) [
+      upper = λ position q one there. elim (set_cases f.readers reader position r' q there) [
         | inl k ↦ subst WaitsByLevels k.1 upper_on
-        | inr k ↦ is.live.upper place q one k.1
+        | inr k ↦ is.live.upper position q one k.1
       ];
-      reads = λ place q one there. elim (set_cases f.readers reader place r' q there) [
+      reads = λ position q one there. elim (set_cases f.readers reader position r' q there) [
         | inl k ↦ subst (λ (x : ReaderState). All (λ v. IsReadOf x.supply v.wanted) x.waiting) k.1 reads_on
-        | inr k ↦ is.live.reads place q one k.1
+        | inr k ↦ is.live.reads position q one k.1
       ];
     }
 
@@ -287,24 +287,24 @@ module _ (f : FileState) (t : FileTreesState) (reader : ℕ) (r r' : ReaderState
       levels = ap length T.taken_is ∙ length_taken f.taken w.wanted.part ∙ is.ciphertext.levels;
       pieces = λ p low. elim (either p low) [ inl old ↦ is.ciphertext.pieces p old | inr part ↦ piece_due p part ];
       known = λ p low. elim (either p low) [
-        | inl old ↦ λ place among. T.stays _ (is.ciphertext.known p old place among)
+        | inl old ↦ λ position among. T.stays _ (is.ciphertext.known p old position among)
         | inr part ↦ subst (λ (q : Part). KnowsPart f.handout.geometry f.first f.end t.ciphertext q) part T.known
       ];
-      at_giver = λ place q gives there. elim (set_cases f.readers reader place r' q there) [
+      at_giver = λ position q gives there. elim (set_cases f.readers reader position r' q there) [
         | inl k ↦
             let first : giver f ≡ Some reader = subst (λ (n : ℕ). giver f ≡ Some n) k.0 gives in
             subst (λ (x : ReaderState). x.supply.taken.ciphertext_tree ≡ taken') k.1
             (ap (λ (s : SupplyState). s.taken.ciphertext_tree) T.supply_is ∙ passed_tree r.supply.taken w.wanted.part
             ∙ ap (λ (l : List ℕ). taken_with l w.wanted.part) (is.ciphertext.at_giver reader r first at) ∙ sym T.taken_is)
-        | inr k ↦ is.ciphertext.at_giver place q gives k.1 ∙ sym (T.taken_is ∙ elim (tree_or f.taken w.wanted.part) [
-          | inl piece ↦ absurd (k.0 (one_there (giver f) place reader gives (gives_if piece.0 piece.1)))
+        | inr k ↦ is.ciphertext.at_giver position q gives k.1 ∙ sym (T.taken_is ∙ elim (tree_or f.taken w.wanted.part) [
+          | inl piece ↦ absurd (k.0 (one_there (giver f) position reader gives (gives_if piece.0 piece.1)))
           | inr same ↦ same
         ])
       ];
-      behind = λ place other q p gives order there asked. elim (set_cases f.readers reader other r' q there) [
-        | inl k ↦ is.ciphertext.behind place reader r p gives (let same = k.0 in omega (arith, order, same)) at
+      behind = λ position other q p gives order there asked. elim (set_cases f.readers reader other r' q there) [
+        | inl k ↦ is.ciphertext.behind position reader r p gives (let same = k.0 in omega (arith, order, same)) at
             ((asks.asked (CiphertextTree p)).0 (subst (λ (x : ReaderState). IsAsked x.supply (CiphertextTree p)) (sym k.1) asked))
-        | inr k ↦ is.ciphertext.behind place other q p gives order k.1 asked
+        | inr k ↦ is.ciphertext.behind position other q p gives order k.1 asked
       ];
     }
 
@@ -314,9 +314,9 @@ module _ (f : FileState) (t : FileTreesState) (reader : ℕ) (r r' : ReaderState
       range = is.range;
       last = is.last;
       next = is.next;
-      readers = λ place q there. elim (set_cases f.readers reader place r' q there) [
+      readers = λ position q there. elim (set_cases f.readers reader position r' q there) [
         | inl k ↦ subst (IsReaderOf taken_file) k.1 is_taken
-        | inr k ↦ same_reader f taken_file q follows (is.readers place q k.1)
+        | inr k ↦ same_reader f taken_file q follows (is.readers position q k.1)
       ];
       live = live_taken;
       ciphertext = gives_taken;
@@ -330,16 +330,16 @@ module _ (f : FileState) (t : FileTreesState) (reader : ℕ) (r r' : ReaderState
     holds_taken entries bytes holds a long =
         holds_as entries r.server r.share r'.server r'.share r'.supply T.server T.share
         (subst (HoldsFor entries r.server r.share) (sym T.supply_is)
-        (holds_with entries r.server r.share r.supply w.wanted.part w.place holds (λ i part.
+        (holds_with entries r.server r.share r.supply w.wanted.part w.position holds (λ i part.
         let due : IsDue r.supply (Data i) = subst (λ (p : Part). IsDue r.supply p) part is_due in
-        let place_is : w.wanted.read.place ≡ place_of r.supply.geometry r.supply.first r.supply.end (Data i) = is_read.place ∙ (λ j. place_of r.supply.geometry (first_of r.supply (part j)) r.supply.end (part j)) in
+        let begin_is : w.wanted.read.offset ≡ offset_of r.supply.geometry r.supply.first r.supply.end (Data i) = is_read.offset ∙ (λ j. offset_of r.supply.geometry (first_of r.supply (part j)) r.supply.end (part j)) in
         let long_is : w.wanted.read.length ≡ length_of r.supply.geometry r.supply.first r.supply.end (Data i) = is_read.length ∙ (λ j. length_of r.supply.geometry (first_of r.supply (part j)) r.supply.end (part j)) in (
           due.next ∙ sym (is.readers reader r at).supply.held,
           record {
             request = a.request;
             there = a.there;
             of_server = a.of_server;
-            asked = a.asked ∙ (λ j. Reading r.share (place_is j) (long_is j));
+            asked = a.asked ∙ (λ j. Reading r.share (begin_is j) (long_is j));
             bytes = bytes;
             answer = a.answer;
             long = long ∙ long_is;
@@ -377,12 +377,12 @@ module _ (f : FileState) (t : FileTreesState) (reader : ℕ) (r r' : ReaderState
 
 -- the part is taken
 pub has_taken : (f : FileState) (h' : HandoutState) (reader : ℕ) (r r' : ReaderState) (w : Waiting) (ws : List Waiting) (taken' bytes : List ℕ) → IsFile f → IsLive f reader
-    → slice_get f.readers reader ≡ Some r → r.waiting ≡ w ∷ ws → TakesPart f.handout r f.taken f.first f.end w.wanted.part w.place h' r' taken' → length bytes ≡ w.wanted.read.length
+    → slice_get f.readers reader ≡ Some r → r.waiting ≡ w ∷ ws → TakesPart f.handout r f.taken f.first f.end w.wanted.part w.position h' r' taken' → length bytes ≡ w.wanted.read.length
     → HasTaken f reader bytes (record f { handout = h'; taken = taken'; readers = slice_set f.readers reader r' })
 has_taken f h' reader r r' w ws taken' bytes is live at waits T long =
     subst (λ (h : HandoutState). HasTaken f reader bytes (record f { handout = h; taken = taken'; readers = slice_set f.readers reader r' })) (sym T.handout)
     (has_taken_by f h'.trees reader r r' w ws taken' is live at waits
-    (subst (λ (h : HandoutState). TakesPart f.handout r f.taken f.first f.end w.wanted.part w.place h r' taken') T.handout T) bytes long)
+    (subst (λ (h : HandoutState). TakesPart f.handout r f.taken f.first f.end w.wanted.part w.position h r' taken') T.handout T) bytes long)
 
 -- nothing is taken
 pub same_still : (f : FileState) (h' : HandoutState) (reader : ℕ) (r r' : ReaderState) (taken' : List ℕ) → slice_get f.readers reader ≡ Some r → h' ≡ f.handout → r' ≡ r → taken' ≡ f.taken

@@ -44,7 +44,7 @@ module _ (h : HandoutState) (r : ReaderState) (taken : List ℕ) (a b : ℕ) (w 
   pub took_hashes : (h' : HandoutState) (r' : ReaderState) (tree : PartialState) → w.wanted.part ≡ ShareHashes → h' ≡ with_trees h h'.trees → IsHandout h' → TreesGrow h.trees h'.trees
       → h'.trees.ciphertext ≡ h.trees.ciphertext → known_leaf h'.trees.shares r.share ≡ Some tree.root
       → r' ≡ record r { supply = record (with_taken r.supply ShareHashes) { tree = Some tree }; waiting = drop 1 r.waiting } → IsSupply r'.supply
-      → TakesPart h r taken a b ShareHashes w.place h' r' taken
+      → TakesPart h r taken a b ShareHashes w.position h' r' taken
   took_hashes h' r' tree part others right grow same root reader supply = record {
     handout = others;
     right = right;
@@ -62,7 +62,7 @@ module _ (h : HandoutState) (r : ReaderState) (taken : List ℕ) (a b : ℕ) (w 
   }
 
   pub took_nodes : (r' : ReaderState) (p : NodePiece) (bytes : List ℕ) → r'.server ≡ r.server → r'.share ≡ r.share → r'.waiting ≡ drop 1 r.waiting
-      → TakesPiece r.supply p bytes r'.supply → IsSupply r'.supply → TakesPart h r taken a b (BlockTree p) w.place h r' taken
+      → TakesPiece r.supply p bytes r'.supply → IsSupply r'.supply → TakesPart h r taken a b (BlockTree p) w.position h r' taken
   took_nodes r' p bytes server share waiting takes supply = record {
     handout = refl;
     right = is.right;
@@ -86,7 +86,7 @@ module _ (h : HandoutState) (r : ReaderState) (taken : List ℕ) (a b : ℕ) (w 
       → TreesGrow h.trees h'.trees → nodes ≡ nodes_of h.geometry a b p → length bytes ≡ 32 * nodes.count
       → Takes h.trees.ciphertext (nodes_offered nodes bytes) h'.trees.ciphertext
       → r' ≡ record r { supply = with_taken r.supply (CiphertextTree p); waiting = drop 1 r.waiting } → IsSupply r'.supply
-      → TakesPart h r taken a b (CiphertextTree p) w.place h' r' (piece_passed taken p)
+      → TakesPart h r taken a b (CiphertextTree p) w.position h' r' (piece_passed taken p)
   took_ciphertext h' r' p nodes bytes others right grow these long takes reader supply = record {
     handout = others;
     right = right;
@@ -105,8 +105,8 @@ module _ (h : HandoutState) (r : ReaderState) (taken : List ℕ) (a b : ℕ) (w 
   }
 
   pub took_data : (r' : ReaderState) (index : ℕ) → index ≡ r.supply.taken.data_piece
-      → r' ≡ record r { supply = holds_more r.supply w.place; waiting = drop 1 r.waiting } → IsSupply r'.supply
-      → TakesPart h r taken a b (Data index) w.place h r' taken
+      → r' ≡ record r { supply = holds_more r.supply w.position; waiting = drop 1 r.waiting } → IsSupply r'.supply
+      → TakesPart h r taken a b (Data index) w.position h r' taken
   took_data r' index next reader supply = record {
     handout = refl;
     right = is.right;
@@ -117,8 +117,8 @@ module _ (h : HandoutState) (r : ReaderState) (taken : List ℕ) (a b : ℕ) (w 
     share = ap (λ (q : ReaderState). q.share) reader;
     waiting = ap (λ (q : ReaderState). q.waiting) reader;
     supply = supply;
-    supply_is = subst (λ (q : ReaderState). q.supply ≡ record r.supply { taken = passed r.supply.taken (Data index); tree = q.supply.tree; held = r.supply.held ++ w.place ∷ [] }) (sym reader)
-        (subst (λ (n : ℕ). holds_more r.supply w.place ≡ record r.supply { taken = passed r.supply.taken (Data n); tree = r.supply.tree; held = r.supply.held ++ w.place ∷ [] }) (sym next) refl);
+    supply_is = subst (λ (q : ReaderState). q.supply ≡ record r.supply { taken = passed r.supply.taken (Data index); tree = q.supply.tree; held = r.supply.held ++ w.position ∷ [] }) (sym reader)
+        (subst (λ (n : ℕ). holds_more r.supply w.position ≡ record r.supply { taken = passed r.supply.taken (Data n); tree = r.supply.tree; held = r.supply.held ++ w.position ∷ [] }) (sym next) refl);
     tree = subst (λ (q : ReaderState). TreeStays r.supply.tree q.supply.tree) (sym reader) (tree_same r.supply.tree r.supply.tree refl);
     root = subst (λ (q : ReaderState). TellsRoot h.trees.shares r.share q.supply.tree) (sym reader) is.root;
     taken_is = refl;

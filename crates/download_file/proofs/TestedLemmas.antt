@@ -21,14 +21,14 @@ pub inconsistent_is_no_code_word : InconsistentIsNoCodeWord
 inconsistent_is_no_code_word entries f is read k =
     let size : ℕ = block_length f.handout.geometry k.number in
     let there : k.number < segment_count f.handout.geometry = next_within f.handout k.number is.handout k.next in
-    let ready : AreReady f.readers f.live k.number = λ place r live at. (k.right place r live at).ready in
+    let ready : AreReady f.readers f.live k.number = λ position r live at. (k.right position r live at).ready in
     let joined : List ℕ = blocks_of entries f.readers k.number f.live in
-    let proved : AreProved f.readers f.live k.number joined size (length f.live) = λ j place r low at at_reader.
-    subst (IsProved r.supply k.number) (sym (nth_own entries f k.number size is read there refl ready j place r at at_reader)) (k.right place r (contains_at f.live j place at) at_reader).proved in
+    let proved : AreProved f.readers f.live k.number joined size (length f.live) = λ j position r low at at_reader.
+    subst (IsProved r.supply k.number) (sym (nth_own entries f k.number size is read there refl ready j position r at at_reader)) (k.right position r (contains_at f.live j position at) at_reader).proved in
     no_code_word_in entries f k.number size is read there refl ready joined refl proved (IsTested entries f)
     (λ input known. share_node known)
-    (λ place r tree live at is_tree input known. block_node place r tree at is_tree known)
-    (λ place r live at. right_block place r k.number at (k.right place r live at) refl)
+    (λ position r tree live at is_tree input known. block_node position r tree at is_tree known)
+    (λ position r live at. right_block position r k.number at (k.right position r live at) refl)
     (numbers_of f.readers f.live) k.segment refl (live_numbers f is k.enough) k.decodes k.refuted
     (λ input known. ciphertext_node known)
 
@@ -45,14 +45,14 @@ known_grows p q input grows k = record {
 }
 
 pub tested_stay : TestedStays
-tested_stay old new f g input keeps read same (right_block place r number at right is) =
-    let goes = same.readers place r at in
-    let kept = right_keeps old new f keeps read place r number at right in
-    right_block place goes.now number goes.there (right_stays new r goes.now number goes.supply kept)
-    (is ∙ ap (tagged_input Block) (sym (block_stays new r.supply goes.now.supply number goes.supply right.ready.held ∙ same_block old new r.supply number keeps (has_answers old r (read.held place r at)))))
+tested_stay old new f g input keeps read same (right_block position r number at right is) =
+    let goes = same.readers position r at in
+    let kept = right_keeps old new f keeps read position r number at right in
+    right_block position goes.now number goes.there (right_stays new r goes.now number goes.supply kept)
+    (is ∙ ap (tagged_input Block) (sym (block_stays new r.supply goes.now.supply number goes.supply right.ready.held ∙ same_block old new r.supply number keeps (has_answers old r (read.held position r at)))))
 tested_stay old new f g input keeps read same (share_node k) = share_node (known_grows f.handout.trees.shares g.handout.trees.shares input same.trees.shares k)
 tested_stay old new f g input keeps read same (ciphertext_node k) = ciphertext_node (known_grows f.handout.trees.ciphertext g.handout.trees.ciphertext input same.trees.ciphertext k)
-tested_stay old new f g input keeps read same (block_node place r tree at is k) =
-    let goes = same.readers place r at in
+tested_stay old new f g input keeps read same (block_node position r tree at is k) =
+    let goes = same.readers position r at in
     let grown = goes.supply.tree tree is in
-    block_node place goes.now grown.0 goes.there grown.1 (known_grows tree grown.0 input grown.2 k)
+    block_node position goes.now grown.0 goes.there grown.1 (known_grows tree grown.0 input grown.2 k)

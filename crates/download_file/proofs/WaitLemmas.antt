@@ -15,7 +15,7 @@ use Rattle.download_supply.specs.declared.cursors.Cursors.{Cursors}
 use Rattle.download_supply.proofs.LawLemmas.{all_ready, leaf_known}
 use Rattle.download_segments.specs.Handout.{next_segment}
 use Rattle.download_segments.specs.State.{IsHandout}
-use Rattle.download_file.specs.State.{FileState, IsComplete, IsLive, IsReader, ReaderState, first_place, giver, waiting_in, waiting_parts}
+use Rattle.download_file.specs.State.{FileState, IsComplete, IsLive, IsReader, ReaderState, first_position, giver, waiting_in, waiting_parts}
 use Rattle.download_file.specs.Asked.{IsAskedUp}
 use Rattle.download_file.specs.Making.{CanNotGoOn, LacksNext, SomeWaits}
 use Rattle.download_file.specs.Right.{IsFile}
@@ -38,48 +38,48 @@ complete f is none = by (nat_lt f.handout.reached f.handout.to) refl
 
 module _ (f : FileState) (number : ℕ) (is : IsFile f) (next : next_segment f.handout ≡ Some number) where
   -- where nothing waits of a reader, all that was asked of it is taken
-  all_taken : (place : ℕ) (r : ReaderState) → IsLive f place → IsReader f place r → r.waiting ≡ [] → (part : Part) → IsAsked r.supply part → IsPassed r.supply.taken part
-  all_taken place r live at none part asked =
-      let same : r.supply.taken ≡ r.supply.asked = subst (λ (l : List Waiting). LeadOn r.supply.taken (waiting_parts l) r.supply.asked) none (is.live.waits place r live at) in
+  all_taken : (position : ℕ) (r : ReaderState) → IsLive f position → IsReader f position r → r.waiting ≡ [] → (part : Part) → IsAsked r.supply part → IsPassed r.supply.taken part
+  all_taken position r live at none part asked =
+      let same : r.supply.taken ≡ r.supply.asked = subst (λ (l : List Waiting). LeadOn r.supply.taken (waiting_parts l) r.supply.asked) none (is.live.waits position r live at) in
       subst (λ (c : Cursors). IsPassed c part) (sym same) (asked_passed r.supply part asked)
 
   -- the first that waits of a reader, where something does
-  some_waits : (place : ℕ) (r : ReaderState) → IsLive f place → IsReader f place r → (r.waiting ≡ [] → ⊥) → SomeWaits f
-  some_waits place r live at not = by r.waiting refl
+  some_waits : (position : ℕ) (r : ReaderState) → IsLive f position → IsReader f position r → (r.waiting ≡ [] → ⊥) → SomeWaits f
+  some_waits position r live at not = by r.waiting refl
     where
       by : (ws : List Waiting) → r.waiting ≡ ws → SomeWaits f
       by [] e = absurd (not e)
       by (w ∷ ws) e = record {
-        reader = place;
+        reader = position;
         live = live;
-        place = w.place;
-        first = ap (λ (o : Option ReaderState). first_place (waiting_in o)) at ∙ ap first_place e;
+        position = w.position;
+        first = ap (λ (o : Option ReaderState). first_position (waiting_in o)) at ∙ ap first_position e;
       }
 
   -- a reader of which nothing waits has its block, and knows its hash
-  ready_then : (place : ℕ) (r : ReaderState) → IsLive f place → IsReader f place r → IsAskedUp f place → r.waiting ≡ [] → IsReady r.supply number
-  ready_then place r live at up none =
-      let own = is.readers place r at in
+  ready_then : (position : ℕ) (r : ReaderState) → IsLive f position → IsReader f position r → IsAskedUp f position → r.waiting ≡ [] → IsReady r.supply number
+  ready_then position r live at up none =
+      let own = is.readers position r at in
       let from = own.begun number next in
       let before = (is.next number next).1 in
       let end = own.end in
       all_ready r.supply number own.supply (record { from = from; before = omega (arith, before, end) })
-      (λ part wanted. all_taken place r live at none part (up.own r number part at next wanted))
+      (λ part wanted. all_taken position r live at none part (up.own r number part at next wanted))
 
   leads : LeadTo f.handout.trees.ciphertext f.handout.trees.ciphertext.root (segment_count f.handout.geometry)
   leads = subst (λ (g : Geometry). LeadTo f.handout.trees.ciphertext f.handout.trees.ciphertext.root (segment_count g)) is.handout.roots.geometry is.handout.trees.ciphertext
 
   -- where nothing waits of the giver, the segment's hash is known
-  known_then : (place : ℕ) (r : ReaderState) → giver f ≡ Some place → IsReader f place r → IsAskedUp f place → r.waiting ≡ []
+  known_then : (position : ℕ) (r : ReaderState) → giver f ≡ Some position → IsReader f position r → IsAskedUp f position → r.waiting ≡ []
       → is_some (known_leaf f.handout.trees.ciphertext number) ≡ true
-  known_then place r first at up none =
-      let own = is.readers place r at in
+  known_then position r first at up none =
+      let own = is.readers position r at in
       let within = is.next number next in
       leaf_known f.handout.geometry f.first f.end number f.handout.trees.ciphertext is.range within.0 within.1 leads (λ p piece.
       elim (cases_lt p.index (cursor_at f.taken p.level)) [
         | inl low ↦ is.ciphertext.known p low
         | inr high ↦
-            let same : cursor_at r.supply.taken.ciphertext_tree p.level ≡ cursor_at f.taken p.level = ap (λ (l : List ℕ). cursor_at l p.level) (is.ciphertext.at_giver place r first at) in
+            let same : cursor_at r.supply.taken.ciphertext_tree p.level ≡ cursor_at f.taken p.level = ap (λ (l : List ℕ). cursor_at l p.level) (is.ciphertext.at_giver position r first at) in
             let given = own.supply.given p.level in
             let start = own.start in
             let end = own.end in
@@ -87,7 +87,7 @@ module _ (f : FileState) (number : ℕ) (is : IsFile f) (next : next_segment f.h
             let before = within.1 in
             let its : IsNodePiece r.supply.geometry r.supply.start (number + 1) p =
             subst (λ (g : Geometry). IsNodePiece g r.supply.start (number + 1) p) (sym own.geometry) (subst (λ (n : ℕ). IsNodePiece f.handout.geometry n (number + 1) p) (sym own.start) piece) in
-            let passes = all_taken place r (first_live f.live place first) at none (CiphertextTree p)
+            let passes = all_taken position r (first_live f.live position first) at none (CiphertextTree p)
             (up.ciphertext r number (CiphertextTree p) first at next (omega (arith, start, from), omega (arith, end, before), omega (arith, given, same, high), its)) in
             absurd (omega (arith, passes, same, high))
       ])
@@ -101,19 +101,19 @@ module _ (f : FileState) (number : ℕ) (is : IsFile f) (next : next_segment f.h
   pub lacks_next : LacksSome f.handout f.readers f.live number → LacksNext f
   lacks_next (lacks_readers other) = record { number = number; next = next; lacks = inl (too_few other) }
   lacks_next (lacks_hash unknown) = record { number = number; next = next; lacks = inr (inr unknown) }
-  lacks_next (lacks_block k) = record { number = number; next = next; lacks = inr (inl (record { reader = k.place; live = k.among; r = k.r; there = k.there; lacks = k.not })) }
+  lacks_next (lacks_block k) = record { number = number; next = next; lacks = inr (inl (record { reader = k.position; live = k.among; r = k.r; there = k.there; lacks = k.not })) }
 
   pub cannot : LacksSome f.handout f.readers f.live number → CanNotGoOn f
   cannot (lacks_readers other) = inr (inl (too_few other))
   cannot (lacks_block k) = inr (inr (λ up.
-      some_waits k.place k.r k.among k.there (λ none. k.not (ready_then k.place k.r k.among k.there (up k.place k.among) none))))
+      some_waits k.position k.r k.among k.there (λ none. k.not (ready_then k.position k.r k.among k.there (up k.position k.among) none))))
   cannot (lacks_hash unknown) = elim (cases_lt (length f.live) f.handout.geometry.needed) [
     | inl few ↦ inr (inl few)
     | inr enough ↦ inr (inr (λ up.
         let some = is.range.valid.some_needed in
         let first = first_of_some f.live (omega (arith, enough, some)) in
         let live = first_live f.live first.0 first.1 in
-        let r = reader_there f.readers first.0 (All-contains (λ place. place < length f.readers) f.live first.0 is.live.there live) in
+        let r = reader_there f.readers first.0 (All-contains (λ position. position < length f.readers) f.live first.0 is.live.there live) in
         some_waits first.0 r.0 live r.1 (λ none. false≢true (sym (ap is_some unknown) ∙ known_then first.0 r.0 first.1 r.1 (up first.0 live) none))))
   ]
     where

@@ -5,11 +5,11 @@ use Rattle.std.proofs.Math.ListN.{get_or-map}
 use Rattle.std.proofs.lemmas.List.{append-nil, length-map, length-set, map-append}
 use Rattle.std.proofs.lemmas.List.Elements.{All-append, All-contains, All-weaker}
 use Rattle.lemmas.proofs.Options.{one_there}
-use Rattle.lemmas.proofs.Places.{get_set, get_other, set_cases}
+use Rattle.lemmas.proofs.Positions.{get_set, get_other, set_cases}
 use Rattle.lemmas.proofs.Members.{contains_head, contains_tail, contains_map, contains_cases, contains_none}
 use Rattle.share_layout.specs.Geometry.{Geometry}
 use Rattle.download_parts.specs.PlanLaws.{AreApart}
-use Rattle.download_parts.specs.Plan.{IsPlanned, length_of, max_read, place_of}
+use Rattle.download_parts.specs.Plan.{IsPlanned, length_of, max_read, offset_of}
 use Rattle.download_parts.specs.declared.part.Part.{Part}
 use Rattle.download_parts.specs.declared.part.Part.TheVariants.{ShareHashes, BlockTree, CiphertextTree, Data}
 use Rattle.download_supply.specs.Asking.{IsAsked, IsReadOf, IsWanted, IsWantedCiphertext, OnlyAsks, parts_of}
@@ -23,7 +23,7 @@ use Rattle.download_supply.proofs.UpperLemmas.{upper_append}
 use Rattle.download_segments.specs.Handout.{next_segment}
 use Rattle.download_segments.proofs.TreeLemmas.{grow_none}
 use Rattle.download_parts.proofs.TreeLemmas.{knows_itself}
-use Rattle.download_file.specs.State.{FileState, IsLive, IsReader, ReaderState, copy, copy_of, giver, placed, copies, waiting_at, waiting_in, waiting_parts}
+use Rattle.download_file.specs.State.{FileState, IsLive, IsReader, ReaderState, copy, copy_of, giver, waiting_from, copies, waiting_at, waiting_in, waiting_parts}
 use Rattle.download_file.specs.Answers.{HoldsAnswers, HoldsFor}
 use Rattle.download_file.specs.Asked.{AsksParts, HasAsked, IsAskedUp, IsOneOf, IsPlannedRead}
 use Rattle.download_file.specs.Changes.{GoesOn, IsSameFile, OthersWait, ReadersGoOn, StaysAskedUp, StaysRead}
@@ -67,23 +67,23 @@ first_within s (Data i) is = (is.begins, is.range.some)
 
 -- ---- parts that wait
 
-placed_parts : (place : ℕ) (wanted : List Wanted) → waiting_parts (placed place wanted) ≡ parts_of wanted
-placed_parts place [] = refl
-placed_parts place (w ∷ ws) = ap (λ (l : List Part). w.part ∷ l) (placed_parts (place + 1) ws)
+waiting_from_parts : (position : ℕ) (wanted : List Wanted) → waiting_parts (waiting_from position wanted) ≡ parts_of wanted
+waiting_from_parts position [] = refl
+waiting_from_parts position (w ∷ ws) = ap (λ (l : List Part). w.part ∷ l) (waiting_from_parts (position + 1) ws)
 
-placed_all : (P : Wanted → Type 0) (place : ℕ) (wanted : List Wanted) → ((w : Wanted) → Contains wanted w → P w) → (v : Waiting) → Contains (placed place wanted) v → P v.wanted
-placed_all P place [] each v among = absurd (contains_none v among)
-placed_all P place (w ∷ ws) each v among = elim (contains_cases (record { place = place; wanted = w }) v (placed (place + 1) ws) among) [
+waiting_from_all : (P : Wanted → Type 0) (position : ℕ) (wanted : List Wanted) → ((w : Wanted) → Contains wanted w → P w) → (v : Waiting) → Contains (waiting_from position wanted) v → P v.wanted
+waiting_from_all P position [] each v among = absurd (contains_none v among)
+waiting_from_all P position (w ∷ ws) each v among = elim (contains_cases (record { position = position; wanted = w }) v (waiting_from (position + 1) ws) among) [
   | inl e ↦ subst (λ (u : Waiting). P u.wanted) e (each w (contains_head w ws))
-  | inr more ↦ placed_all P (place + 1) ws (λ u k. each u (contains_tail w u ws k)) v more
+  | inr more ↦ waiting_from_all P (position + 1) ws (λ u k. each u (contains_tail w u ws k)) v more
 ]
 
 -- ---- the file
 
-pub record HasWanted (f : FileState) (reader place last : ℕ) (wanted : List Wanted) (g : FileState) : Type 0 where
+pub record HasWanted (f : FileState) (reader position last : ℕ) (wanted : List Wanted) (g : FileState) : Type 0 where
   pub right : IsFile g
   pub asks : AsksParts f reader wanted g
-  pub waits : waiting_at g reader ≡ waiting_at f reader ++ placed place wanted
+  pub waits : waiting_at g reader ≡ waiting_at f reader ++ waiting_from position wanted
   pub asked_up : (next : ℕ) → next_segment f.handout ≡ Some next → next ≤ last → last < f.end → IsAskedUp g reader
   pub others_asked_up : (other : ℕ) → StaysAskedUp f g other
   pub copies_are : copies g ≡ copies f
@@ -91,11 +91,11 @@ pub record HasWanted (f : FileState) (reader place last : ℕ) (wanted : List Wa
   pub reads : StaysRead f g
   pub same : IsSameFile f g
 
-module _ (f : FileState) (reader : ℕ) (r r' : ReaderState) (gives : Bool) (last place : ℕ) (wanted : List Wanted) (is : IsFile f) (live : IsLive f reader)
+module _ (f : FileState) (reader : ℕ) (r r' : ReaderState) (gives : Bool) (last position : ℕ) (wanted : List Wanted) (is : IsFile f) (live : IsLive f reader)
     (at : slice_get f.readers reader ≡ Some r) (server : r'.server ≡ r.server) (share : r'.share ≡ r.share) (only : OnlyAsks r.supply r'.supply) (right : IsSupply r'.supply)
     (asks : Asks r.supply gives last wanted r'.supply) (tree : gives ≡ false → AsksNoTree r.supply r'.supply)
     (giver_is : (giver f ≡ Some reader → gives ≡ true) × (giver f ≢ Some reader → gives ≡ false))
-    (waits : r'.waiting ≡ r.waiting ++ placed place wanted) where
+    (waits : r'.waiting ≡ r.waiting ++ waiting_from position wanted) where
   abbrev pub asked_file : FileState
   asked_file = record f { readers = slice_set f.readers reader r' }
 
@@ -146,8 +146,8 @@ module _ (f : FileState) (reader : ℕ) (r r' : ReaderState) (gives : Bool) (las
   ]
 
   parts : waiting_parts r'.waiting ≡ waiting_parts r.waiting ++ parts_of wanted
-  parts = ap waiting_parts waits ∙ map-append (λ (w : Waiting). w.wanted.part) r.waiting (placed place wanted)
-      ∙ ap (λ (l : List Part). waiting_parts r.waiting ++ l) (placed_parts place wanted)
+  parts = ap waiting_parts waits ∙ map-append (λ (w : Waiting). w.wanted.part) r.waiting (waiting_from position wanted)
+      ∙ ap (λ (l : List Part). waiting_parts r.waiting ++ l) (waiting_from_parts position wanted)
 
   leads_on : LeadOn r'.supply.taken (waiting_parts r'.waiting) r'.supply.asked
   leads_on =
@@ -167,10 +167,10 @@ module _ (f : FileState) (reader : ℕ) (r r' : ReaderState) (gives : Bool) (las
   reads_on : All (λ v. IsReadOf r'.supply v.wanted) r'.waiting
   reads_on =
       subst (λ (l : List Waiting). All (λ v. IsReadOf r'.supply v.wanted) l) (sym waits)
-      (subst (λ (s : SupplyState). All (λ v. IsReadOf s v.wanted) (r.waiting ++ placed place wanted)) (sym only)
-      (All-append (λ v. IsReadOf r.supply v.wanted) r.waiting (placed place wanted) (is.live.reads reader r live at)
-      (All-from_contains (λ v. IsReadOf r.supply v.wanted) (placed place wanted)
-      (placed_all (IsReadOf r.supply) place wanted (λ w among. All-contains (IsReadOf r.supply) wanted w asks.now.reads among)))))
+      (subst (λ (s : SupplyState). All (λ v. IsReadOf s v.wanted) (r.waiting ++ waiting_from position wanted)) (sym only)
+      (All-append (λ v. IsReadOf r.supply v.wanted) r.waiting (waiting_from position wanted) (is.live.reads reader r live at)
+      (All-from_contains (λ v. IsReadOf r.supply v.wanted) (waiting_from position wanted)
+      (waiting_from_all (IsReadOf r.supply) position wanted (λ w among. All-contains (IsReadOf r.supply) wanted w asks.now.reads among)))))
 
   live_asked : AreLive asked_file
   live_asked =
@@ -245,8 +245,8 @@ module _ (f : FileState) (reader : ℕ) (r r' : ReaderState) (gives : Bool) (las
   pub copies_asked : copies asked_file ≡ copies f
   copies_asked = map_set (λ (q : ReaderState). copy_of q) f.readers reader r' r at (λ i. copy (server i) (share i))
 
-  pub waiting_asked : waiting_at asked_file reader ≡ waiting_at f reader ++ placed place wanted
-  waiting_asked = ap waiting_in (get_set f.readers reader r' r at) ∙ waits ∙ sym (ap (λ (o : Option ReaderState). waiting_in o ++ placed place wanted) at)
+  pub waiting_asked : waiting_at asked_file reader ≡ waiting_at f reader ++ waiting_from position wanted
+  waiting_asked = ap waiting_in (get_set f.readers reader r' r at) ∙ waits ∙ sym (ap (λ (o : Option ReaderState). waiting_in o ++ waiting_from position wanted) at)
 
   pub others_asked : OthersWait f reader asked_file
   others_asked other not = ap waiting_in (get_other f.readers reader other r' not)
@@ -282,18 +282,18 @@ module _ (f : FileState) (reader : ℕ) (r r' : ReaderState) (gives : Bool) (las
 
   -- of two parts that are not one no byte is read twice
   apart_from : (p q : Part) (o l : ℕ) (w : Wanted) → IsPartOf r.supply p → IsReadOf r.supply w → q ≡ w.part → p ≢ q
-      → o ≡ place_of r.supply.geometry (first_of r.supply p) r.supply.end p → l ≡ length_of r.supply.geometry (first_of r.supply p) r.supply.end p
-      → AreApart o l w.read.place w.read.length
-  apart_from p q o l w one read same other place_is long_is = elim (parts_apart r.supply p w.part (is.readers reader r at).supply one read.part) [
+      → o ≡ offset_of r.supply.geometry (first_of r.supply p) r.supply.end p → l ≡ length_of r.supply.geometry (first_of r.supply p) r.supply.end p
+      → AreApart o l w.read.offset w.read.length
+  apart_from p q o l w one read same other begin_is long_is = elim (parts_apart r.supply p w.part (is.readers reader r at).supply one read.part) [
     | inl e ↦ absurd (other (e ∙ sym same))
-    | inr k ↦ subst (λ (n : ℕ). AreApart n l w.read.place w.read.length) (sym place_is)
-        (subst (λ (n : ℕ). AreApart (place_of r.supply.geometry (first_of r.supply p) r.supply.end p) n w.read.place w.read.length) (sym long_is)
-        (subst (λ (n : ℕ). AreApart (place_of r.supply.geometry (first_of r.supply p) r.supply.end p) (length_of r.supply.geometry (first_of r.supply p) r.supply.end p) n w.read.length) (sym read.place)
-        (subst (λ (n : ℕ). AreApart (place_of r.supply.geometry (first_of r.supply p) r.supply.end p) (length_of r.supply.geometry (first_of r.supply p) r.supply.end p)
-        (place_of r.supply.geometry (first_of r.supply w.part) r.supply.end w.part) n) (sym read.length) k)))
+    | inr k ↦ subst (λ (n : ℕ). AreApart n l w.read.offset w.read.length) (sym begin_is)
+        (subst (λ (n : ℕ). AreApart (offset_of r.supply.geometry (first_of r.supply p) r.supply.end p) n w.read.offset w.read.length) (sym long_is)
+        (subst (λ (n : ℕ). AreApart (offset_of r.supply.geometry (first_of r.supply p) r.supply.end p) (length_of r.supply.geometry (first_of r.supply p) r.supply.end p) n w.read.length) (sym read.offset)
+        (subst (λ (n : ℕ). AreApart (offset_of r.supply.geometry (first_of r.supply p) r.supply.end p) (length_of r.supply.geometry (first_of r.supply p) r.supply.end p)
+        (offset_of r.supply.geometry (first_of r.supply w.part) r.supply.end w.part) n) (sym read.length) k)))
   ]
 
-  planned_read : (w : Wanted) → IsReadOf r.supply w → IsPlannedRead f w.read.place w.read.length
+  planned_read : (w : Wanted) → IsReadOf r.supply w → IsPlannedRead f w.read.offset w.read.length
   planned_read w read =
       let own = is.readers reader r at in
       let within = first_within r.supply w.part own.supply in
@@ -305,28 +305,28 @@ module _ (f : FileState) (reader : ℕ) (r r' : ReaderState) (gives : Bool) (las
         from = first_of r.supply w.part;
         begins = omega (arith, from, start);
         before = omega (arith, before, end);
-        planned = subst (λ (g : Geometry). IsPlanned g (first_of r.supply w.part) f.end w.read.place w.read.length) own.geometry
-            (subst (λ (n : ℕ). IsPlanned r.supply.geometry (first_of r.supply w.part) n w.read.place w.read.length) own.end
-            (record { part = w.part; is = read.part; place_is = read.place; len_is = read.length }));
+        planned = subst (λ (g : Geometry). IsPlanned g (first_of r.supply w.part) f.end w.read.offset w.read.length) own.geometry
+            (subst (λ (n : ℕ). IsPlanned r.supply.geometry (first_of r.supply w.part) n w.read.offset w.read.length) own.end
+            (record { part = w.part; is = read.part; begin_is = read.offset; len_is = read.length }));
       }
 
   pub asks_parts : AsksParts f reader wanted asked_file
   asks_parts = record {
-    planned = All-weaker (IsReadOf r.supply) (λ w. IsPlannedRead f w.read.place w.read.length) planned_read wanted asks.now.reads;
+    planned = All-weaker (IsReadOf r.supply) (λ w. IsPlannedRead f w.read.offset w.read.length) planned_read wanted asks.now.reads;
     few = All-weaker (IsReadOf r.supply) (λ w. (0 < w.read.length) × (w.read.length ≤ max_read)) (λ w read. (read.some, read.few)) wanted asks.now.reads;
     apart = λ i j d order low.
         let one = asks.now.reads i d (omega (arith, order, low)) in
         let two = asks.now.reads j d low in
         apart_from (get_or wanted i d).part (get_or wanted j d).part _ _ (get_or wanted j d) one.part two refl
-        (different i j d order low) one.place one.length;
+        (different i j d order low) one.offset one.length;
     fresh = λ offset len has.
         let same : has.r ≡ r = one_there (slice_get f.readers reader) has.r r has.there at in
-        All-from_contains (λ w. AreApart offset len w.read.place w.read.length) wanted (λ w among.
+        All-from_contains (λ w. AreApart offset len w.read.offset w.read.length) wanted (λ w among.
         let asked : IsAsked r.supply has.part = subst (λ (x : ReaderState). IsAsked x.supply has.part) same has.asked in
         let read = All-contains (IsReadOf r.supply) wanted w asks.now.reads among in
         apart_from has.part w.part offset len w ((is.readers reader r at).supply.parts has.part (asked_passed r.supply has.part asked)) read refl
         (λ e. asks.now.fresh w.part (among_parts w among) (subst (IsAsked r.supply) e asked))
-        (subst (λ (x : ReaderState). offset ≡ place_of x.supply.geometry (first_of x.supply has.part) x.supply.end has.part) same has.place)
+        (subst (λ (x : ReaderState). offset ≡ offset_of x.supply.geometry (first_of x.supply has.part) x.supply.end has.part) same has.offset_is)
         (subst (λ (x : ReaderState). len ≡ length_of x.supply.geometry (first_of x.supply has.part) x.supply.end has.part) same has.long));
     asked = λ other offset len. (to other offset len, from other offset len);
   } where
@@ -341,16 +341,16 @@ module _ (f : FileState) (reader : ℕ) (r r' : ReaderState) (gives : Bool) (las
 
     to : (other offset len : ℕ) → HasAsked asked_file other offset len → HasAsked f other offset len ⊎ ((other ≡ reader) × IsOneOf wanted offset len)
     to other offset len has = elim (set_cases f.readers reader other r' has.r has.there) [
-      | inr k ↦ inl (record { r = has.r; there = k.1; part = has.part; asked = has.asked; place = has.place; long = has.long })
+      | inr k ↦ inl (record { r = has.r; there = k.1; part = has.part; asked = has.asked; offset_is = has.offset_is; long = has.long })
       | inl k ↦
-          let place_is : offset ≡ place_of r.supply.geometry (first_of r.supply has.part) r.supply.end has.part =
-          subst (λ (s : SupplyState). offset ≡ place_of s.geometry (first_of s has.part) s.end has.part) only
-          (subst (λ (x : ReaderState). offset ≡ place_of x.supply.geometry (first_of x.supply has.part) x.supply.end has.part) (sym k.1) has.place) in
+          let begin_is : offset ≡ offset_of r.supply.geometry (first_of r.supply has.part) r.supply.end has.part =
+          subst (λ (s : SupplyState). offset ≡ offset_of s.geometry (first_of s has.part) s.end has.part) only
+          (subst (λ (x : ReaderState). offset ≡ offset_of x.supply.geometry (first_of x.supply has.part) x.supply.end has.part) (sym k.1) has.offset_is) in
           let long_is : len ≡ length_of r.supply.geometry (first_of r.supply has.part) r.supply.end has.part =
           subst (λ (s : SupplyState). len ≡ length_of s.geometry (first_of s has.part) s.end has.part) only
           (subst (λ (x : ReaderState). len ≡ length_of x.supply.geometry (first_of x.supply has.part) x.supply.end has.part) (sym k.1) has.long) in
           elim ((asks.now.asked has.part).0 (subst (λ (x : ReaderState). IsAsked x.supply has.part) (sym k.1) has.asked)) [
-            | inl old ↦ inl (record { r = r; there = ap (slice_get f.readers) k.0 ∙ at; part = has.part; asked = old; place = place_is; long = long_is })
+            | inl old ↦ inl (record { r = r; there = ap (slice_get f.readers) k.0 ∙ at; part = has.part; asked = old; offset_is = begin_is; long = long_is })
             | inr new ↦
                 let w = from_map (λ (x : Wanted). x.part) wanted has.part new in
                 let read = All-contains (IsReadOf r.supply) wanted w.0 asks.now.reads w.1 in
@@ -359,7 +359,7 @@ module _ (f : FileState) (reader : ℕ) (r r' : ReaderState) (gives : Bool) (las
                   record {
                     one = w.0;
                     among = w.1;
-                    place = place_is ∙ sym (read.place ∙ ap (λ (p : Part). place_of r.supply.geometry (first_of r.supply p) r.supply.end p) w.2);
+                    offset_is = begin_is ∙ sym (read.offset ∙ ap (λ (p : Part). offset_of r.supply.geometry (first_of r.supply p) r.supply.end p) w.2);
                     long = long_is ∙ sym (read.length ∙ ap (λ (p : Part). length_of r.supply.geometry (first_of r.supply p) r.supply.end p) w.2);
                   },
                 )
@@ -369,14 +369,14 @@ module _ (f : FileState) (reader : ℕ) (r r' : ReaderState) (gives : Bool) (las
     -- what was asked of a reader before
     still : (other offset len : ℕ) → HasAsked f other offset len → HasAsked asked_file other offset len
     still other offset len has = elim (get_cases f.readers reader other r' r has.r at has.there) [
-      | inr k ↦ record { r = has.r; there = k.1; part = has.part; asked = has.asked; place = has.place; long = has.long }
+      | inr k ↦ record { r = has.r; there = k.1; part = has.part; asked = has.asked; offset_is = has.offset_is; long = has.long }
       | inl k ↦ record {
         r = r';
         there = k.2;
         part = has.part;
         asked = grows.asked has.part (subst (λ (x : ReaderState). IsAsked x.supply has.part) (sym k.1) has.asked);
-        place = subst (λ (s : SupplyState). offset ≡ place_of s.geometry (first_of s has.part) s.end has.part) (sym only)
-            (subst (λ (x : ReaderState). offset ≡ place_of x.supply.geometry (first_of x.supply has.part) x.supply.end has.part) (sym k.1) has.place);
+        offset_is = subst (λ (s : SupplyState). offset ≡ offset_of s.geometry (first_of s has.part) s.end has.part) (sym only)
+            (subst (λ (x : ReaderState). offset ≡ offset_of x.supply.geometry (first_of x.supply has.part) x.supply.end has.part) (sym k.1) has.offset_is);
         long = subst (λ (s : SupplyState). len ≡ length_of s.geometry (first_of s has.part) s.end has.part) (sym only)
             (subst (λ (x : ReaderState). len ≡ length_of x.supply.geometry (first_of x.supply has.part) x.supply.end has.part) (sym k.1) has.long);
       }
@@ -392,11 +392,11 @@ module _ (f : FileState) (reader : ℕ) (r r' : ReaderState) (gives : Bool) (las
           there = ap (slice_get (slice_set f.readers reader r')) new.0 ∙ get_set f.readers reader r' r at;
           part = one.one.part;
           asked = (asks.now.asked one.one.part).1 (inr (among_parts one.one one.among));
-          place = subst (λ (s : SupplyState). offset ≡ place_of s.geometry (first_of s one.one.part) s.end one.one.part) (sym only) (one.place ∙ read.place);
+          offset_is = subst (λ (s : SupplyState). offset ≡ offset_of s.geometry (first_of s one.one.part) s.end one.one.part) (sym only) (one.offset_is ∙ read.offset);
           long = subst (λ (s : SupplyState). len ≡ length_of s.geometry (first_of s one.one.part) s.end one.one.part) (sym only) (one.long ∙ read.length);
         }
 
-  pub has_wanted : HasWanted f reader place last wanted asked_file
+  pub has_wanted : HasWanted f reader position last wanted asked_file
   has_wanted = record {
     right = file_asked;
     asks = asks_parts;

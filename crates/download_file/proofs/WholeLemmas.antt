@@ -86,33 +86,33 @@ module _ (entries : List Request) (f : FileState) (is : IsFile f) where
   length-made number s m = sym (ap length m.is) ∙ m.made.proved.size ∙ ap (λ (g : Geometry). segment_length g number) is.handout.geometry
 
   -- a piece with the first byte of a segment is of that segment
-  segment_of : (p : Piece) (g : IsGivenBy entries f p) (number : ℕ) → p.place ≤ number * u.segment_size → number * u.segment_size < p.place + length p.bytes → g.number ≡ number
+  segment_of : (p : Piece) (g : IsGivenBy entries f p) (number : ℕ) → p.offset ≤ number * u.segment_size → number * u.segment_size < p.offset + length p.bytes → g.number ≡ number
   segment_of p g number low high =
       let long = length-made g.number g.segment g.made in
-      let at = g.slice.place_is in
+      let at = g.slice.offset_is in
       let fits = g.slice.long in
       let some = valid.some_segment in
-      (same_from_place g.number (g.slice.skipped + (number * u.segment_size - p.place)) number 0 u.segment_size
+      (same_from_place g.number (g.slice.skipped + (number * u.segment_size - p.offset)) number 0 u.segment_size
       (omega (arith, long, fits, high, low)) some (omega (arith, at, low))).0
 
   -- there is the segment of a piece
   number_there : (p : Piece) (g : IsGivenBy entries f p) → g.number < segment_count (geometry_by u)
   number_there p g = subst (λ (x : Geometry). g.number < segment_count x) is.handout.geometry (segment_there f g.made.group g.number is g.made.among g.made.before)
 
-  -- one of the pieces has the byte at this place
-  record HasPlace (place : ℕ) : Type 0 where
+  -- one of the pieces has the byte at this offset
+  record HasPosition (position : ℕ) : Type 0 where
     piece : Piece
     given : IsGivenBy entries f piece
-    from : piece.place ≤ place
-    before : place < piece.place + length piece.bytes
+    from : piece.offset ≤ position
+    before : position < piece.offset + length piece.bytes
 
-  has_place : (pieces : List Piece) (from end place : ℕ) → AreConsecutive from pieces end → All (IsGivenBy entries f) pieces → from ≤ place → place < end → HasPlace place
-  has_place [] from end place follow given low high = absurd (omega (arith, follow, low, high))
-  has_place (p ∷ ps) from end place follow given low high =
+  has_position : (pieces : List Piece) (from end position : ℕ) → AreConsecutive from pieces end → All (IsGivenBy entries f) pieces → from ≤ position → position < end → HasPosition position
+  has_position [] from end position follow given low high = absurd (omega (arith, follow, low, high))
+  has_position (p ∷ ps) from end position follow given low high =
       let at = follow.0 in
-      elim (cases_lt place (from + length p.bytes)) [
+      elim (cases_lt position (from + length p.bytes)) [
         | inl here ↦ record { piece = p; given = All-head (IsGivenBy entries f) p ps given; from = omega (arith, at, low); before = omega (arith, at, here) }
-        | inr behind ↦ has_place ps (from + length p.bytes) end place follow.2 (All-tail (IsGivenBy entries f) p ps given) behind high
+        | inr behind ↦ has_position ps (from + length p.bytes) end position follow.2 (All-tail (IsGivenBy entries f) p ps given) behind high
       ]
 
   -- ---- their ciphertext
@@ -123,7 +123,7 @@ module _ (entries : List Request) (f : FileState) (is : IsFile f) where
 
     was_made : (number : ℕ) → number < segment_count (geometry_by u) → (s : List ℕ) × IsMadeSegment entries f number s
     was_made number there =
-        let p = has_place pieces 0 u.size (number * u.segment_size) follow given (omega arith) (begins number there) in
+        let p = has_position pieces 0 u.size (number * u.segment_size) follow given (omega arith) (begins number there) in
         (p.given.segment, subst (λ (n : ℕ). IsMadeSegment entries f n p.given.segment) (segment_of p.piece p.given number p.from p.before) p.given.made)
 
     cut : (text : List ℕ) × (length text ≡ u.size) × ((number : ℕ) → number < segment_count (geometry_by u) → IsMadeSegment entries f number (take u.segment_size (drop (number * u.segment_size) text)))
@@ -163,19 +163,19 @@ module _ (entries : List Request) (f : FileState) (is : IsFile f) where
     -- ---- the pieces are parts of it, decrypted
 
     module _ (p : Piece) (g : IsGivenBy entries f p) (there : g.number < segment_count (geometry_by u)) where
-      part_is : take (length p.bytes) (drop g.slice.skipped g.segment) ≡ take (length p.bytes) (drop p.place text)
+      part_is : take (length p.bytes) (drop g.slice.skipped g.segment) ≡ take (length p.bytes) (drop p.offset text)
       part_is =
           let long = length-made g.number g.segment g.made in
           let fits = g.slice.long in
           ap (λ (s : List ℕ). take (length p.bytes) (drop g.slice.skipped s)) (made_once g.number g.segment (segment_at (geometry_by u) g.number text) g.made (made g.number there))
           ∙ part_of_part text (g.number * u.segment_size) u.segment_size g.slice.skipped (length p.bytes) (omega (arith, long, fits))
-          ∙ ap (λ (n : ℕ). take (length p.bytes) (drop n text)) (sym g.slice.place_is)
+          ∙ ap (λ (n : ℕ). take (length p.bytes) (drop n text)) (sym g.slice.offset_is)
 
-      bytes_are : p.bytes ≡ xored_from f.handout.key p.place (take (length p.bytes) (drop p.place text))
-      bytes_are = g.slice.bytes_are ∙ ap (xored_from f.handout.key p.place) part_is
+      bytes_are : p.bytes ≡ xored_from f.handout.key p.offset (take (length p.bytes) (drop p.offset text))
+      bytes_are = g.slice.bytes_are ∙ ap (xored_from f.handout.key p.offset) part_is
 
-      part_long : length (take (length p.bytes) (drop p.place text)) ≡ length p.bytes
-      part_long = sym (length-xored_from f.handout.key p.place (take (length p.bytes) (drop p.place text))) ∙ sym (ap length bytes_are)
+      part_long : length (take (length p.bytes) (drop p.offset text)) ≡ length p.bytes
+      part_long = sym (length-xored_from f.handout.key p.offset (take (length p.bytes) (drop p.offset text))) ∙ sym (ap length bytes_are)
 
     joined_are : (pieces : List Piece) (from end : ℕ) → AreConsecutive from pieces end → All (IsGivenBy entries f) pieces
         → joined pieces ≡ xored_from f.handout.key from (take (end - from) (drop from text))
@@ -183,7 +183,7 @@ module _ (entries : List Request) (f : FileState) (is : IsFile f) where
     joined_are (p ∷ ps) from end follow given =
         let g = All-head (IsGivenBy entries f) p ps given in
         let n : ℕ = length p.bytes in
-        let at : p.place ≡ from = follow.0 in
+        let at : p.offset ≡ from = follow.0 in
         let upto : from + n ≤ end = subst (λ (k : ℕ). k + n ≤ end) at (taken_within from p ps end follow) in
         let there : g.number < segment_count (geometry_by u) = number_there p g in
         let own : p.bytes ≡ xored_from f.handout.key from (take n (drop from text)) = subst (λ (k : ℕ). p.bytes ≡ xored_from f.handout.key k (take n (drop k text))) at (bytes_are p g there) in

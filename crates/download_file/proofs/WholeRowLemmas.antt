@@ -39,22 +39,22 @@ has_it entries f number w = record {
   all = λ i low. record {
     enough = w.enough;
     known = subst IsSome (sym (w.proved i low).known) refl;
-    ready = λ place r among at. (w.blocks i place r low among at).ready;
+    ready = λ position r among at. (w.blocks i position r low among at).ready;
   };
 }
 
 module _ (entries : List Request) (f : FileState) (number size : ℕ) (k : HasRowBlocks entries f number size) (rows : List (List ℕ)) (joins : IsRow entries f.readers number f.live rows) where
   -- the block of a reader in its row
-  own_block : (i place reader : ℕ) (r : ReaderState) → i < 8 → slice_get f.live place ≡ Some reader → IsReader f reader r
-      → nth_block (nth rows i) size place ≡ block_of entries r.supply (number + i)
-  own_block i place reader r low at there =
-      ap (λ (l : List ℕ). nth_block l size place) (joins i low)
+  own_block : (i position reader : ℕ) (r : ReaderState) → i < 8 → slice_get f.live position ≡ Some reader → IsReader f reader r
+      → nth_block (nth rows i) size position ≡ block_of entries r.supply (number + i)
+  own_block i position reader r low at there =
+      ap (λ (l : List ℕ). nth_block l size position) (joins i low)
       ∙ nth_own entries f (number + i) size k.is k.read (row_there f.handout number i k.is.handout k.row.wanted low) (its_size entries f number size k i low)
-      (row_ready entries f number size k i low) place reader r at there
+      (row_ready entries f number size k i low) position reader r at there
 
   pub to_proved : IsWholeRow entries f number → AreRowsProved f.readers f.live number rows size (length f.live)
-  to_proved w i low place reader r below at there =
-      subst (IsProved r.supply (number + i)) (sym (own_block i place reader r low at there)) (w.blocks i reader r low (contains_at f.live place reader at) there).proved
+  to_proved w i low position reader r below at there =
+      subst (IsProved r.supply (number + i)) (sym (own_block i position reader r low at there)) (w.blocks i reader r low (contains_at f.live position reader at) there).proved
 
   -- the segments that the last group decodes
   module _ (groups : List GroupState) (begun : HasLast f number groups) (group : GroupState) (last : IsLast groups group) (segments : List (List ℕ))

@@ -1,7 +1,7 @@
 -- What was asked of the readers of a file.
 use Rattle.std.specs.Prelude.{◌≡◌, ◌⊎◌, ◌↔◌, ℕ, ◌<◌, ◌≤◌, List, All, AllPairs, Contains, Some}
 use Rattle.download_parts.specs.PlanLaws.{AreApart}
-use Rattle.download_parts.specs.Plan.{IsPlanned, length_of, max_read, place_of}
+use Rattle.download_parts.specs.Plan.{IsPlanned, length_of, max_read, offset_of}
 use Rattle.download_parts.specs.declared.part.Part.{Part}
 use Rattle.download_supply.specs.Asking.{IsAsked, IsWanted, IsWantedCiphertext}
 use Rattle.download_supply.specs.Supply.{first_of}
@@ -9,13 +9,13 @@ use Rattle.download_supply.specs.declared.wanted.Wanted.{Wanted}
 use Rattle.download_segments.specs.Handout.{next_segment}
 use Rattle.download_file.specs.State.{FileState, IsLive, IsReader, ReaderState, giver}
 
--- a reader was asked for so many bytes from this place on
+-- a reader was asked for so many bytes from this offset on
 pub record HasAsked (f : FileState) (reader offset len : ℕ) : Type 0 where
   pub r : ReaderState
   pub there : IsReader f reader r
   pub part : Part
   pub asked : IsAsked r.supply part
-  pub place : offset ≡ place_of r.supply.geometry (first_of r.supply part) r.supply.end part
+  pub offset_is : offset ≡ offset_of r.supply.geometry (first_of r.supply part) r.supply.end part
   pub long : len ≡ length_of r.supply.geometry (first_of r.supply part) r.supply.end part
 
 -- the same was asked of each reader
@@ -23,11 +23,11 @@ abbrev pub AsksNoMore : FileState → FileState → Type 0
 AsksNoMore old new = (reader offset len : ℕ)
     → HasAsked new reader offset len ↔ HasAsked old reader offset len
 
--- one of these parts is so many bytes from this place on
+-- one of these parts is so many bytes from this offset on
 pub record IsOneOf (wanted : List Wanted) (offset len : ℕ) : Type 0 where
   pub one : Wanted
   pub among : Contains wanted one
-  pub place : offset ≡ one.read.place
+  pub offset_is : offset ≡ one.read.offset
   pub long : len ≡ one.read.length
 
 -- it is a part of the plan for the segments from some one on of those that are wanted
@@ -40,12 +40,12 @@ pub record IsPlannedRead (f : FileState) (offset len : ℕ) : Type 0 where
 -- A reader is asked for these parts, and nothing else is asked. No byte is asked of it twice.
 pub record AsksParts (old : FileState) (reader : ℕ) (wanted : List Wanted) (new : FileState)
     : Type 0 where
-  pub planned : All (λ w. IsPlannedRead old w.read.place w.read.length) wanted
+  pub planned : All (λ w. IsPlannedRead old w.read.offset w.read.length) wanted
   pub few : All (λ w. (0 < w.read.length) × (w.read.length ≤ max_read)) wanted
   pub apart : AllPairs (λ v w.
-      AreApart v.read.place v.read.length w.read.place w.read.length) wanted
+      AreApart v.read.offset v.read.length w.read.offset w.read.length) wanted
   pub fresh : (offset len : ℕ) → HasAsked old reader offset len
-      → All (λ w. AreApart offset len w.read.place w.read.length) wanted
+      → All (λ w. AreApart offset len w.read.offset w.read.length) wanted
   pub asked : (other offset len : ℕ) → HasAsked new other offset len
       ↔ (HasAsked old other offset len ⊎ ((other ≡ reader) × IsOneOf wanted offset len))
 

@@ -36,10 +36,10 @@ pub record GoesOn (s t : SupplyState) : Type 0 where
   pub more : List ℕ
   pub held : t.held ≡ s.held ++ more
 
--- at the same place a reader of the same copy goes on
-pub record GoesOnAt (readers : List ReaderState) (place : ℕ) (r : ReaderState) : Type 0 where
+-- at the same position a reader of the same copy goes on
+pub record GoesOnAt (readers : List ReaderState) (position : ℕ) (r : ReaderState) : Type 0 where
   pub now : ReaderState
-  pub there : slice_get readers place ≡ Some now
+  pub there : slice_get readers position ≡ Some now
   pub server : now.server ≡ r.server
   pub share : now.share ≡ r.share
   pub supply : GoesOn r.supply now.supply
@@ -47,7 +47,7 @@ pub record GoesOnAt (readers : List ReaderState) (place : ℕ) (r : ReaderState)
 -- so does each reader
 abbrev pub ReadersGoOn : List ReaderState → List ReaderState → Type 0
 ReadersGoOn old new =
-    (place : ℕ) (r : ReaderState) → slice_get old place ≡ Some r → GoesOnAt new place r
+    (position : ℕ) (r : ReaderState) → slice_get old position ≡ Some r → GoesOnAt new position r
 
 -- It is the same download of the same file: what it made and gave stays, what is known of the trees
 -- stays known, and each reader goes on.

@@ -12,7 +12,7 @@ use Rattle.download_segments.specs.Decoding.{blocks_in}
 use Rattle.download_segments.specs.Handout.{IsRowWanted, ProvesRow, handed_out, next_segment}
 use Rattle.download_segments.specs.State.{ProvesSegment, RefutesSegment}
 use Rattle.download_file.specs.State.{FileState, IsComplete, IsLive, IsReader, ReaderState}
-use Rattle.download_file.specs.State.{first_place, first_waiting, numbers_of}
+use Rattle.download_file.specs.State.{first_position, first_waiting, numbers_of}
 use Rattle.download_file.specs.Answers.{HasRightBlock, HaveRightBlocks, block_of, blocks_of}
 use Rattle.download_file.specs.Asked.{AreAskedUp}
 
@@ -20,8 +20,8 @@ use Rattle.download_file.specs.Asked.{AreAskedUp}
 pub record SomeWaits (f : FileState) : Type 0 where
   pub reader : ℕ
   pub live : IsLive f reader
-  pub place : ℕ
-  pub first : first_waiting f reader ≡ Some place
+  pub position : ℕ
+  pub first : first_waiting f reader ≡ Some position
 
 -- Why no segment is made now: none is wanted, or too few shares are read, or, where all that is
 -- wanted of these for the next segment is asked, something waits of one of them.
@@ -44,8 +44,8 @@ pub record AwaitsBlock (readers : List ReaderState) (live : List ℕ) (number : 
   pub r : ReaderState
   pub there : slice_get readers reader ≡ Some r
   pub lacks : ¬ IsReady r.supply number
-  pub place : ℕ
-  pub first : first_place r.waiting ≡ Some place
+  pub position : ℕ
+  pub first : first_position r.waiting ≡ Some position
 
 -- Eight segments from the next on are wanted, each to its end, and are on their way: a block of the
 -- eighth is waited for.

@@ -34,10 +34,10 @@ pub record IsReaderOf (f : FileState) (r : ReaderState) : Type 0 where
   pub share : r.share < f.handout.geometry.total
   pub root : TellsRoot f.handout.trees.shares r.share r.supply.tree
 
--- they rise, the first of them at this place or behind it
+-- they rise, the first of them at this position or behind it
 abbrev pub RiseFrom : ℕ → List ℕ → Type 0
 RiseFrom low [] = Unit {0}
-RiseFrom low (place ∷ places) = (low ≤ place) × RiseFrom (place + 1) places
+RiseFrom low (position ∷ positions) = (low ≤ position) × RiseFrom (position + 1) positions
 
 -- the pieces of trees that wait of a reader come each after the piece over it
 abbrev pub WaitsByLevels : ReaderState → Type 0
@@ -48,15 +48,15 @@ WaitsByLevels r =
 -- wait of each lead from what was taken of it to what was asked.
 pub record AreLive (f : FileState) : Type 0 where
   pub rise : RiseFrom 0 f.live
-  pub there : All (λ place. place < length f.readers) f.live
+  pub there : All (λ position. position < length f.readers) f.live
   pub few : length f.live ≤ f.handout.geometry.needed
   pub different : (i j : ℕ) (r s : ReaderState) → IsLive f i → IsLive f j → i < j
       → IsReader f i r → IsReader f j s → r.share ≢ s.share
-  pub waits : (place : ℕ) (r : ReaderState) → IsLive f place → IsReader f place r
+  pub waits : (position : ℕ) (r : ReaderState) → IsLive f position → IsReader f position r
       → LeadOn r.supply.taken (waiting_parts r.waiting) r.supply.asked
-  pub upper : (place : ℕ) (r : ReaderState) → IsLive f place → IsReader f place r
+  pub upper : (position : ℕ) (r : ReaderState) → IsLive f position → IsReader f position r
       → WaitsByLevels r
-  pub reads : (place : ℕ) (r : ReaderState) → IsLive f place → IsReader f place r
+  pub reads : (position : ℕ) (r : ReaderState) → IsLive f position → IsReader f position r
       → All (λ w. IsReadOf r.supply w.wanted) r.waiting
 
 -- The ciphertext tree is read of the giver, from the pieces on that were taken already. Those are
@@ -67,10 +67,10 @@ pub record GivesTree (f : FileState) : Type 0 where
       → IsNodePiece f.handout.geometry f.first f.end p
   pub known : (p : NodePiece) → p.index < cursor_at f.taken p.level
       → KnowsPiece f.handout.geometry f.first f.end f.handout.trees.ciphertext p
-  pub at_giver : (place : ℕ) (r : ReaderState) → giver f ≡ Some place → IsReader f place r
+  pub at_giver : (reader : ℕ) (r : ReaderState) → giver f ≡ Some reader → IsReader f reader r
       → r.supply.taken.ciphertext_tree ≡ f.taken
-  pub behind : (place behind : ℕ) (r : ReaderState) (p : NodePiece) → giver f ≡ Some place
-      → place < behind → IsReader f behind r → ¬ IsAsked r.supply (CiphertextTree p)
+  pub behind : (reader behind : ℕ) (r : ReaderState) (p : NodePiece) → giver f ≡ Some reader
+      → reader < behind → IsReader f behind r → ¬ IsAsked r.supply (CiphertextTree p)
 
 -- the number behind that of the last segment that was made
 abbrev pub made_end : FileState → ℕ
@@ -87,7 +87,7 @@ pub record IsGroup (h : HandoutState) (readers : List ReaderState) (group : Grou
     : Type 0 where
   pub geometry : group.decoding.geometry ≡ h.geometry
   pub decoding : IsDecoding group.decoding
-  pub there : All (λ place. place < length readers) group.readers
+  pub there : All (λ position. position < length readers) group.readers
   pub numbers : group.decoding.numbers ≡ numbers_of readers group.readers
 
 pub record IsFile (f : FileState) : Type 0 where
@@ -96,7 +96,7 @@ pub record IsFile (f : FileState) : Type 0 where
   pub last : f.end ≡ (f.handout.to - 1) / f.handout.geometry.segment_size + 1
   pub next : (number : ℕ) → next_segment f.handout ≡ Some number
       → (f.first ≤ number) × (number < f.end)
-  pub readers : (place : ℕ) (r : ReaderState) → IsReader f place r → IsReaderOf f r
+  pub readers : (reader : ℕ) (r : ReaderState) → IsReader f reader r → IsReaderOf f r
   pub live : AreLive f
   pub ciphertext : GivesTree f
   pub groups : All (IsGroup f.handout f.readers) f.groups

@@ -11,7 +11,7 @@ use Rattle.download_segments.specs.GroupState.{GroupState}
 use Rattle.download_file.specs.declared.reader.Waiting.{Waiting}
 
 -- A share at a server that is read. What waits are the parts that were asked of it and not taken
--- yet, in order, each with the place of the request that asked it.
+-- yet, in order, each with the position of the request that asked it.
 pub record ReaderState : Type 0 where
   pub server : ℕ
   pub share : ℕ
@@ -20,7 +20,7 @@ pub record ReaderState : Type 0 where
 
 -- The segments `first` to before `end` are wanted. `taken`: how many pieces of each level of the
 -- ciphertext tree were taken. `readers`: all readers, in the order in which they were begun.
--- `live`: the places of those that are read. `groups`: what the segments were made of, in order.
+-- `live`: the positions of those that are read. `groups`: what the segments were made of, in order.
 pub record FileState : Type 0 where
   pub handout : HandoutState
   pub first : ℕ
@@ -43,7 +43,7 @@ file_state handout first end taken readers live groups = record {
   groups = groups;
 }
 
--- the bytes from a place up to another are wanted, and nothing is read yet
+-- the bytes from an offset up to another are wanted, and nothing is read yet
 abbrev pub new_file : List ℕ → Contents → Geometry → ℕ → ℕ → FileState
 new_file key u g from to = record {
   handout = starting_handout key u g from to;
@@ -59,13 +59,13 @@ new_file key u g from to = record {
 abbrev pub IsComplete : FileState → Type 0
 IsComplete f = f.handout.reached ≡ f.handout.to
 
--- the reader at a place
+-- the reader at a position
 abbrev pub IsReader : FileState → ℕ → ReaderState → Type 0
-IsReader f place r = slice_get f.readers place ≡ Some r
+IsReader f reader r = slice_get f.readers reader ≡ Some r
 
 -- it is read
 abbrev pub IsLive : FileState → ℕ → Type 0
-IsLive f place = Contains f.live place
+IsLive f position = Contains f.live position
 
 -- The giver of the ciphertext tree is the oldest reader that is read.
 abbrev pub giver : FileState → Option ℕ
@@ -87,13 +87,13 @@ copy_of r = copy r.server r.share
 abbrev pub copies : FileState → List CopyState
 copies f = map (λ r. copy_of r) f.readers
 
--- the numbers of the shares of the readers at these places
+-- the numbers of the shares of the readers at these positions
 abbrev pub share_in : Option ReaderState → ℕ
 share_in None = 0
 share_in (Some r) = r.share
 
 abbrev pub numbers_of : List ReaderState → List ℕ → List ℕ
-numbers_of readers places = map (λ place. share_in (slice_get readers place)) places
+numbers_of readers positions = map (λ position. share_in (slice_get readers position)) positions
 
 -- what waits of a reader
 abbrev pub waiting_in : Option ReaderState → List Waiting
@@ -103,22 +103,23 @@ waiting_in (Some r) = r.waiting
 abbrev pub waiting_at : FileState → ℕ → List Waiting
 waiting_at f reader = waiting_in (slice_get f.readers reader)
 
-abbrev pub first_place : List Waiting → Option ℕ
-first_place [] = None
-first_place (w ∷ ws) = Some w.place
+abbrev pub first_position : List Waiting → Option ℕ
+first_position [] = None
+first_position (w ∷ ws) = Some w.position
 
--- the place of the answer that is taken next of a reader
+-- the position of the answer that is taken next of a reader
 abbrev pub first_waiting : FileState → ℕ → Option ℕ
-first_waiting f reader = first_place (waiting_at f reader)
+first_waiting f reader = first_position (waiting_at f reader)
 
 -- the parts that wait
 abbrev pub waiting_parts : List Waiting → List Part
 waiting_parts waiting = map (λ w. w.wanted.part) waiting
 
--- parts that are asked by one request after another, the first at this place
-abbrev pub placed : ℕ → List Wanted → List Waiting
-placed place [] = []
-placed place (w ∷ ws) = record { place = place; wanted = w } ∷ placed (place + 1) ws
+-- parts that are asked by one request after another, the first at this position
+abbrev pub waiting_from : ℕ → List Wanted → List Waiting
+waiting_from position [] = []
+waiting_from position (w ∷ ws) = record { position = position; wanted = w }
+    ∷ waiting_from (position + 1) ws
 
 -- these readers without one
 abbrev pub without : ℕ → List ℕ → List ℕ

@@ -32,57 +32,57 @@ use Rattle.download_file.specs.Changes.{TreeStays}
 use Rattle.download_file.specs.Right.{IsGroup, TellsRoot}
 use Rattle.download_file.specs.declared.reader.Waiting.{Waiting}
 
--- each of the readers at these places has the block of a segment, and knows its hash
+-- each of the readers at these positions has the block of a segment, and knows its hash
 abbrev pub AreReady : List ReaderState → List ℕ → ℕ → Type 0
-AreReady readers places number = (place : ℕ) (r : ReaderState) → Contains places place
-    → slice_get readers place ≡ Some r → IsReady r.supply number
+AreReady readers positions number = (reader : ℕ) (r : ReaderState) → Contains positions reader
+    → slice_get readers reader ≡ Some r → IsReady r.supply number
 
 -- one of them has not, or does not
-pub record IsNotReady (readers : List ReaderState) (places : List ℕ) (number : ℕ) : Type 0 where
-  pub place : ℕ
-  pub among : Contains places place
+pub record IsNotReady (readers : List ReaderState) (positions : List ℕ) (number : ℕ) : Type 0 where
+  pub position : ℕ
+  pub among : Contains positions position
   pub r : ReaderState
-  pub there : slice_get readers place ≡ Some r
+  pub there : slice_get readers position ≡ Some r
   pub not : ¬ IsReady r.supply number
 
--- the reader at a place has the block of a segment, which has this length
-pub record HasBlock (readers : List ReaderState) (number len place : ℕ) : Type 0 where
+-- the reader at a position has the block of a segment, which has this length
+pub record HasBlock (readers : List ReaderState) (number len position : ℕ) : Type 0 where
   pub r : ReaderState
-  pub there : slice_get readers place ≡ Some r
+  pub there : slice_get readers position ≡ Some r
   pub held : IsHeld r.supply number
   pub long : len ≡ block_length r.supply.geometry number
 
 -- of so many readers from the first on each has its block among these
 abbrev pub AreProved : List ReaderState → List ℕ → ℕ → List ℕ → ℕ → ℕ → Type 0
-AreProved readers places number joined len count = (k place : ℕ) (r : ReaderState) → k < count
-    → slice_get places k ≡ Some place → slice_get readers place ≡ Some r
+AreProved readers positions number joined len count = (k position : ℕ) (r : ReaderState) → k < count
+    → slice_get positions k ≡ Some position → slice_get readers position ≡ Some r
     → IsProved r.supply number (nth_block joined len k)
 
--- the block of the reader at this place is another
-pub record IsWrong (readers : List ReaderState) (places : List ℕ) (number : ℕ)
-    (joined : List ℕ) (len place : ℕ) : Type 0 where
+-- the block of the reader at this position is another
+pub record IsWrong (readers : List ReaderState) (positions : List ℕ) (number : ℕ)
+    (joined : List ℕ) (len position : ℕ) : Type 0 where
   pub k : ℕ
-  pub at : slice_get places k ≡ Some place
+  pub at : slice_get positions k ≡ Some position
   pub r : ReaderState
-  pub there : slice_get readers place ≡ Some r
+  pub there : slice_get readers position ≡ Some r
   pub not : ¬ IsProved r.supply number (nth_block joined len k)
 
 -- the readers read shares of one file, and hold answers of this record
 pub record AreOfFile (entries : List Request) (g : Geometry) (readers : List ReaderState)
     : Type 0 where
-  pub supply : (place : ℕ) (r : ReaderState) → slice_get readers place ≡ Some r
+  pub supply : (position : ℕ) (r : ReaderState) → slice_get readers position ≡ Some r
       → IsSupply r.supply
-  pub geometry : (place : ℕ) (r : ReaderState) → slice_get readers place ≡ Some r
+  pub geometry : (position : ℕ) (r : ReaderState) → slice_get readers position ≡ Some r
       → r.supply.geometry ≡ g
-  pub held : (place : ℕ) (r : ReaderState) → slice_get readers place ≡ Some r
+  pub held : (position : ℕ) (r : ReaderState) → slice_get readers position ≡ Some r
       → HoldsAnswers entries r
 
--- the last group is of the readers at these places: it was, or such a group is added
+-- the last group is of the readers at these positions: it was, or such a group is added
 abbrev pub BeginsGroup : List GroupState → Geometry → List ReaderState → List ℕ → ℕ
     → List GroupState → Type 0
-BeginsGroup old g readers places number new =
-    ((new ≡ old) × (group : GroupState) × IsLast old group × (group.readers ≡ places))
-    ⊎ (new ≡ old ++ new_group g places (numbers_of readers places) number ∷ [])
+BeginsGroup old g readers positions number new =
+    ((new ≡ old) × (group : GroupState) × IsLast old group × (group.readers ≡ positions))
+    ⊎ (new ≡ old ++ new_group g positions (numbers_of readers positions) number ∷ [])
 
 -- the reader where nothing waits of it, and where it gives the ciphertext tree
 abbrev pub stopped : ReaderState → ReaderState
@@ -146,7 +146,7 @@ pub record IsBegun (g : Geometry) (start first end server share : ℕ) (gives : 
   pub from : gives ≡ true → r.supply.taken.ciphertext_tree ≡ taken
   pub none : (part : Part) → ¬ IsAsked r.supply part
 
--- The reader at a place gave the ciphertext tree and ends. The first that is left gives it.
+-- The reader at a position gave the ciphertext tree and ends. The first that is left gives it.
 pub record GivesNext (old : List ReaderState) (live : List ℕ) (taken : List ℕ) (reader : ℕ)
     (r : ReaderState) (new : List ReaderState) : Type 0 where
   pub gave : slice_get live 0 ≡ Some reader
@@ -156,7 +156,7 @@ pub record GivesNext (old : List ReaderState) (live : List ℕ) (taken : List �
   pub at : slice_get old next ≡ Some s
   pub new_is : new ≡ slice_set (slice_set old reader (stopped r)) next (giving s taken)
 
--- The reader at a place ends: nothing waits of it. Where it gave the ciphertext tree, the first
+-- The reader at a position ends: nothing waits of it. Where it gave the ciphertext tree, the first
 -- that is left gives it, if there is one.
 pub record EndsReader (old : List ReaderState) (live : List ℕ) (taken : List ℕ) (reader : ℕ)
     (new : List ReaderState) : Type 0 where
@@ -176,10 +176,10 @@ abbrev pub KnowsPart : Geometry → ℕ → ℕ → PartialState → Part → Ty
 KnowsPart g a b tree (CiphertextTree p) = KnowsPiece g a b tree p
 KnowsPart g a b tree part = Unit {0}
 
--- the answers that a supply holds, with this part at this place
+-- the answers that a supply holds, with this part at this position
 abbrev pub held_with : List ℕ → Part → ℕ → List ℕ
-held_with held (Data i) place = held ++ place ∷ []
-held_with held part place = held
+held_with held (Data i) position = held ++ position ∷ []
+held_with held part position = held
 
 -- A reader of this file, in a download of the segments `a` to before `b`. The first part that waits
 -- of it is the next to be taken.
@@ -194,10 +194,10 @@ pub record IsTaker (h : HandoutState) (a b : ℕ) (r : ReaderState) (w : Waiting
   pub due : IsDue r.supply w.wanted.part
   pub read : IsReadOf r.supply w.wanted
 
--- The first part that waits of a reader is taken, of the answer at a place. What is known of the
+-- The first part that waits of a reader is taken, of the answer at a position. What is known of the
 -- trees stays known.
 pub record TakesPart (h : HandoutState) (r : ReaderState) (taken : List ℕ) (a b : ℕ) (part : Part)
-    (place : ℕ) (h' : HandoutState) (r' : ReaderState) (taken' : List ℕ) : Type 0 where
+    (position : ℕ) (h' : HandoutState) (r' : ReaderState) (taken' : List ℕ) : Type 0 where
   pub handout : h' ≡ with_trees h h'.trees
   pub right : IsHandout h'
   pub grow : TreesGrow h.trees h'.trees
@@ -211,7 +211,7 @@ pub record TakesPart (h : HandoutState) (r : ReaderState) (taken : List ℕ) (a 
   pub supply_is : r'.supply ≡ record r.supply {
     taken = passed r.supply.taken part;
     tree = r'.supply.tree;
-    held = held_with r.supply.held part place;
+    held = held_with r.supply.held part position;
   }
   pub tree : TreeStays r.supply.tree r'.supply.tree
   pub root : TellsRoot h'.trees.shares r.share r'.supply.tree

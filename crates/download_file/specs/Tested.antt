@@ -15,12 +15,12 @@ use Rattle.download_file.specs.Right.{IsFile}
 -- This was hashed to test what was read of the file: a right block that a reader holds, or a node
 -- whose children are known, of the share tree, of the ciphertext tree or of a reader's block tree.
 pub data IsTested (entries : List Request) (f : FileState) (input : List ℕ) : Type 0 where
-  right_block : (place : ℕ) (r : ReaderState) (number : ℕ) → IsReader f place r
+  right_block : (reader : ℕ) (r : ReaderState) (number : ℕ) → IsReader f reader r
       → HasRightBlock entries r number
       → input ≡ tagged_input Block (block_of entries r.supply number) → IsTested entries f input
   share_node : IsKnownInput f.handout.trees.shares input → IsTested entries f input
   ciphertext_node : IsKnownInput f.handout.trees.ciphertext input → IsTested entries f input
-  block_node : (place : ℕ) (r : ReaderState) (tree : PartialState) → IsReader f place r
+  block_node : (reader : ℕ) (r : ReaderState) (tree : PartialState) → IsReader f reader r
       → r.supply.tree ≡ Some tree → IsKnownInput tree input → IsTested entries f input
 
 -- a law: where a file is inconsistent, what was tested of it tells that it is no code word

@@ -16,36 +16,36 @@ use download_supply::Supply;
 use request_record::requests::Requests;
 use std::alloc::{AllocError, Global};
 
-// The bytes that are the answer to the request at a place, and none where they are not.
-fn answer_at(requests: &Requests, place: usize) -> &[u8]
-    ensures { result.now ≡ answer_at requests.now.entries place }
+// The bytes that are the answer to the request at a position, and none where they are not.
+fn answer_at(requests: &Requests, position: usize) -> &[u8]
+    ensures { result.now ≡ answer_at requests.now.entries position }
 {
-    match requests.bytes_at(place) {
+    match requests.bytes_at(position) {
         Some(bytes) => bytes,
         None => &[],
     }
 }
 
-/// The blocks of a segment that the readers at these places hold, one after another, each of this
-/// length.
+/// The blocks of a segment that the readers at these positions hold, one after another, each of
+/// this length.
 pub(crate) fn join_blocks(
     alloc: Global,
     requests: &Requests,
     readers: &[Reader],
-    places: &[usize],
+    positions: &[usize],
     number: u32,
     size: u32,
 ) -> Result<Vec<u8>, AllocError>
-    requires { All (HasBlock readers.now number size) places.now }
+    requires { All (HasBlock readers.now number size) positions.now }
     ensures { IfOk result (λ joined.
-        joined.items ≡ blocks_of requests.now.entries readers.now number places.now) }
+        joined.items ≡ blocks_of requests.now.entries readers.now number positions.now) }
 {
-    let room = places.len().saturating_mul(size as usize);
+    let room = positions.len().saturating_mul(size as usize);
     let mut joined = Vec::with_capacity(alloc, room)?;
-    for place in places {
+    for position in positions {
         push_block(
             requests,
-            readers[*place].supply(),
+            readers[*position].supply(),
             number,
             size,
             &mut joined,
@@ -69,8 +69,8 @@ fn push_block(
 {
     let mut skipped = supply.block_offset(number) as usize;
     let mut left = size as usize;
-    for place in supply.block_places(number) {
-        let bytes = answer_at(requests, *place);
+    for position in supply.block_positions(number) {
+        let bytes = answer_at(requests, *position);
         let from = skipped.min(bytes.len());
         let upto = bytes.len().min(from + left);
         joined.extend_from_slice(&bytes[from..upto])?;
@@ -80,46 +80,46 @@ fn push_block(
     Ok(())
 }
 
-/// The first of the readers at these places whose block of a segment is not the one that its block
-/// tree tells. The blocks stand one after another, each of this length.
+/// The first of the readers at these positions whose block of a segment is not the one that its
+/// block tree tells. The blocks stand one after another, each of this length.
 pub(crate) fn find_wrong(
     readers: &[Reader],
-    places: &[usize],
+    positions: &[usize],
     number: u32,
     joined: &[u8],
     size: u32,
 ) -> Option<usize>
-    requires there { All (λ place. place < length readers.now) places.now }
-    requires ready { AreReady readers.now places.now number }
-    requires long { length joined.now ≡ length places.now * size }
+    requires there { All (λ position. position < length readers.now) positions.now }
+    requires ready { AreReady readers.now positions.now number }
+    requires long { length joined.now ≡ length positions.now * size }
     ensures wrong { IfSome result
-        (IsWrong readers.now places.now number joined.now size) }
-    ensures right { IsNone result → AreProved readers.now places.now number joined.now size
-        (length places.now) }
+        (IsWrong readers.now positions.now number joined.now size) }
+    ensures right { IsNone result → AreProved readers.now positions.now number joined.now size
+        (length positions.now) }
 {
     let mut rest = joined;
-    for place in places {
+    for position in positions {
         let (block, others) = rest.split_at(size as usize);
-        if !readers[*place].supply().proves(number, block) {
-            return Some(*place);
+        if !readers[*position].supply().proves(number, block) {
+            return Some(*position);
         }
         rest = others;
     }
     None
 }
 
-// Whether each of the readers at these places has the block of a segment, and knows its hash.
-fn are_ready(readers: &[Reader], places: &[usize], number: u32) -> bool
-    requires { All (λ place. place < length readers.now) places.now }
-    ensures yes { IsTrue result → AreReady readers.now places.now number }
-    ensures no { result ≡ false → IsNotReady readers.now places.now number }
+// Whether each of the readers at these positions has the block of a segment, and knows its hash.
+fn are_ready(readers: &[Reader], positions: &[usize], number: u32) -> bool
+    requires { All (λ position. position < length readers.now) positions.now }
+    ensures yes { IsTrue result → AreReady readers.now positions.now number }
+    ensures no { result ≡ false → IsNotReady readers.now positions.now number }
 {
     // Blocks are asked in turn, so that the last one tells most often that one is missing.
-    if !is_last_ready(readers, places, number) {
+    if !is_last_ready(readers, positions, number) {
         return false;
     }
-    for place in places {
-        if !readers[*place].supply().is_ready(number) {
+    for position in positions {
+        if !readers[*position].supply().is_ready(number) {
             return false;
         }
     }
@@ -128,12 +128,12 @@ fn are_ready(readers: &[Reader], places: &[usize], number: u32) -> bool
 
 // Whether the last of these readers, where there is one, has the block of a segment, and knows its
 // hash.
-fn is_last_ready(readers: &[Reader], places: &[usize], number: u32) -> bool
-    requires { All (λ place. place < length readers.now) places.now }
-    ensures { result ≡ false → IsNotReady readers.now places.now number }
+fn is_last_ready(readers: &[Reader], positions: &[usize], number: u32) -> bool
+    requires { All (λ position. position < length readers.now) positions.now }
+    ensures { result ≡ false → IsNotReady readers.now positions.now number }
 {
-    match places.last() {
-        Some(place) => readers[*place].supply().is_ready(number),
+    match positions.last() {
+        Some(position) => readers[*position].supply().is_ready(number),
         None => true,
     }
 }
@@ -142,7 +142,7 @@ fn is_last_ready(readers: &[Reader], places: &[usize], number: u32) -> bool
 /// segment's hash is known.
 pub(crate) fn has_all(handout: &Handout, readers: &[Reader], live: &[usize], number: u32) -> bool
     requires there { number < segment_count handout.now.geometry }
-    requires live { All (λ place. place < length readers.now) live.now }
+    requires live { All (λ position. position < length readers.now) live.now }
     ensures yes { IsTrue result → HasAll handout.now readers.now live.now number }
     ensures no { result ≡ false → LacksSome handout.now readers.now live.now number }
 {
@@ -151,15 +151,15 @@ pub(crate) fn has_all(handout: &Handout, readers: &[Reader], live: &[usize], num
         && are_ready(readers, live, number)
 }
 
-/// Whether one of the readers at these places has not its block of a segment, and something waits
-/// of it.
+/// Whether one of the readers at these positions has not its block of a segment, and something
+/// waits of it.
 pub(crate) fn awaits_block(readers: &[Reader], live: &[usize], number: u32) -> bool
-    requires { All (λ place. place < length readers.now) live.now }
+    requires { All (λ position. position < length readers.now) live.now }
     ensures { IsTrue result → AwaitsBlock readers.now live.now number }
 {
-    for place in live {
-        let reader = &readers[*place];
-        if reader.first_place().is_some() && !reader.supply().is_ready(number) {
+    for position in live {
+        let reader = &readers[*position];
+        if reader.first_position().is_some() && !reader.supply().is_ready(number) {
             return true;
         }
     }

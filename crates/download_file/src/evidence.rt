@@ -87,7 +87,7 @@ fn part_of(
         → IfOk result (λ part. m.segment ≡ part.segment) }
 {
     let size = handout.geometry().block_length(number);
-    let joined = join_blocks(alloc, requests, readers, group.places(), number, size)?;
+    let joined = join_blocks(alloc, requests, readers, group.positions(), number, size)?;
     let segment = group.decode(alloc, number, &joined)?;
     let Some(part) = handout.part_of(number, segment)? else {
         unreachable!();

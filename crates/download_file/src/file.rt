@@ -18,7 +18,8 @@ ghost use Rattle.download_file.specs.Making.{LacksNext, MakesNext, MakesPieces, 
 ghost use Rattle.download_file.specs.Making.{MustWait, RefutesReader};
 ghost use Rattle.download_file.specs.Right.{IsFile, made_end};
 ghost use Rattle.download_file.specs.State.{IsComplete, IsLive, IsReader, ReaderState};
-ghost use Rattle.download_file.specs.State.{copies, copy, first_waiting, giver, new_file, placed};
+ghost use Rattle.download_file.specs.State.{copies, copy, first_waiting, giver, new_file};
+ghost use Rattle.download_file.specs.State.{waiting_from};
 ghost use Rattle.download_file.specs.State.{waiting_at, without};
 ghost use Rattle.download_file.specs.Taking.{IsRefused};
 
@@ -48,7 +49,7 @@ pub enum Made {
     Waits,
     /// A piece of it is ready.
     Ready,
-    /// The block of the reader at this place is not the one that its block tree tells.
+    /// The block of the reader at this position is not the one that its block tree tells.
     Wrong(usize),
     /// Its blocks were right, and it is not the segment whose hash is known: the file is no code
     /// word.
@@ -86,7 +87,7 @@ impl Model for PartialFile {
 }
 
 impl PartialFile {
-    /// The bytes from the place `from` up to `to` of a file are wanted. The key decrypts them.
+    /// The bytes from the offset `from` up to `to` of a file are wanted. The key decrypts them.
     /// Nothing is read yet.
     pub fn new(
         alloc: Global,
@@ -130,7 +131,7 @@ impl PartialFile {
         self.handout.is_complete()
     }
 
-    /// The places of the readers that are read, rising.
+    /// The positions of the readers that are read, rising.
     pub fn live(&self) -> &[usize]
         ensures value { result.now ≡ self.now.live }
         ensures right { IsFile self.now }
@@ -138,14 +139,14 @@ impl PartialFile {
         self.live.as_slice()
     }
 
-    /// A share at a server is read from the next segment on. Gives the place of its reader.
+    /// A share at a server is read from the next segment on. Gives the position of its reader.
     pub fn begin(&mut self, server: NodeId, share: u8) -> Result<usize, AllocError>
         requires more { ¬ IsComplete self.old }
         requires there { share < self.old.handout.geometry.total }
         requires unread { (reader : ℕ) → (r : ReaderState) → IsLive self.old reader
             → IsReader self.old reader r → r.share ≢ share }
         requires few { length self.old.live < self.old.handout.geometry.needed }
-        ensures place { IfOk result (λ reader. reader ≡ length self.old.readers) }
+        ensures position { IfOk result (λ reader. reader ≡ length self.old.readers) }
         ensures copies { OnOk result (copies self.new
             ≡ copies self.old ++ copy server share ∷ []) }
         ensures live { OnOk result (self.new.live ≡ self.old.live ++ length self.old.readers ∷ []) }
@@ -195,14 +196,14 @@ impl PartialFile {
     }
 
     /// What a reader that is read is to be asked now, one part after another: the first by the
-    /// request at this place, and each other by the request behind. It waits from now on.
+    /// request at this position, and each other by the request behind. It waits from now on.
     /// Where memory is refused the reader is read no more.
-    pub fn wanted(&mut self, reader: usize, place: usize) -> Result<Vec<Wanted>, AllocError>
+    pub fn wanted(&mut self, reader: usize, position: usize) -> Result<Vec<Wanted>, AllocError>
         requires live { IsLive self.old reader }
         ensures asks { IfOk result (λ wanted.
             AsksParts self.old reader wanted.items self.new) }
         ensures waits { IfOk result (λ wanted. waiting_at self.new reader
-            ≡ waiting_at self.old reader ++ placed place wanted.items) }
+            ≡ waiting_at self.old reader ++ waiting_from position wanted.items) }
         // All that is wanted for the next segment is asked.
         ensures asked_up { OnOk result (IsAskedUp self.new reader) }
         ensures others_asked_up { OnOk result ((other : ℕ)
@@ -221,7 +222,7 @@ impl PartialFile {
         };
         let last = last_asked(&self.plan, next);
         let gives = self.live.first().copied() == Some(reader);
-        match self.readers[reader].ask(self.alloc, gives, last, place) {
+        match self.readers[reader].ask(self.alloc, gives, last, position) {
             Ok(wanted) => Ok(wanted),
             Err(error) => {
                 end_reader(&mut self.readers, &mut self.live, &self.taken, reader);
@@ -230,13 +231,14 @@ impl PartialFile {
         }
     }
 
-    /// The place of the request whose answer is taken next of a reader. `None` where nothing waits.
+    /// The position of the request whose answer is taken next of a reader. `None` where nothing
+    /// waits.
     pub fn first_waiting(&self, reader: usize) -> Option<usize>
         ensures value { result ≡ first_waiting self.now reader }
         ensures right { IsFile self.now }
     {
         match self.readers.get(reader) {
-            Some(found) => found.first_place(),
+            Some(found) => found.first_position(),
             None => None,
         }
     }

@@ -1,6 +1,6 @@
 //! The file of a download whose extension block is accepted: the shares that are read, the segments
 //! that are made of their blocks, and what proves each of these. It knows nothing of servers. Of
-//! requests it knows their places in the record, where it reads the blocks.
+//! requests it knows their positions in the record, where it reads the blocks.
 //!
 //! `PartialFile` asks each reader for parts of its share, takes their answers one after another,
 //! and makes the next segment where as many blocks of it as are needed were taken.

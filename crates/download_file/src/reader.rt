@@ -11,7 +11,7 @@ ghost use Rattle.download_supply.specs.Cursors.{cursor_at};
 ghost use Rattle.download_supply.specs.Supply.{IsSupply, gives_from, new_supply};
 ghost use Rattle.download_supply.specs.Taking.{IsDue, RefutesPiece, TakesPiece, holds_more};
 ghost use Rattle.download_supply.specs.Taking.{with_taken};
-ghost use Rattle.download_file.specs.State.{ReaderState, first_place, placed, without};
+ghost use Rattle.download_file.specs.State.{ReaderState, first_position, waiting_from, without};
 ghost use Rattle.download_file.specs.Steps.{Asks, AsksNoTree, CanGive, EndsReader, IsBegun};
 ghost use Rattle.download_file.specs.Steps.{giving};
 
@@ -26,8 +26,8 @@ use wire::message::NodeId;
 /// A part that was asked of a reader and not taken yet.
 #[derive(Clone, Copy, PartialEq, Eq)]
 pub struct Waiting {
-    /// The place of the request that asked it.
-    pub place: usize,
+    /// The position of the request that asked it.
+    pub position: usize,
     /// The part, and its bytes.
     pub wanted: Wanted,
 }
@@ -96,12 +96,12 @@ impl Reader {
         self.waiting.front().copied()
     }
 
-    /// The place of the request that asked it.
-    pub(crate) fn first_place(&self) -> Option<usize>
-        ensures { result ≡ first_place self.now.waiting }
+    /// The position of the request that asked it.
+    pub(crate) fn first_position(&self) -> Option<usize>
+        ensures { result ≡ first_position self.now.waiting }
     {
         match self.waiting.front() {
-            Some(first) => Some(first.place),
+            Some(first) => Some(first.position),
             None => None,
         }
     }
@@ -129,18 +129,18 @@ impl Reader {
     }
 
     /// What is to be asked of it for the segments up to this one, of the ciphertext tree too where
-    /// it gives that. It waits from now on, the first part at this place and the others behind.
+    /// it gives that. It waits from now on, the first part at this position and the others behind.
     pub(crate) fn ask(
         &mut self,
         alloc: Global,
         gives: bool,
         last: u32,
-        place: usize,
+        position: usize,
     ) -> Result<Vec<Wanted>, AllocError>
         ensures asks { IfOk result (λ wanted.
             Asks self.old.supply gives last wanted.items self.new.supply) }
         ensures waits { IfOk result (λ wanted.
-            self.new.waiting ≡ self.old.waiting ++ placed place wanted.items) }
+            self.new.waiting ≡ self.old.waiting ++ waiting_from position wanted.items) }
         // It is asked for the ciphertext tree only where it gives that.
         ensures none { gives ≡ false → AsksNoTree self.old.supply self.new.supply }
         ensures only { OnlyAsks self.old.supply self.new.supply }
@@ -149,7 +149,7 @@ impl Reader {
         ensures right { IsSupply self.new.supply }
     {
         let wanted = ask_supply(alloc, &mut self.supply, gives, last)?;
-        wait_for(&mut self.waiting, place, &wanted)?;
+        wait_for(&mut self.waiting, position, &wanted)?;
         Ok(wanted)
     }
 
@@ -205,17 +205,17 @@ impl Reader {
         drop_first(&mut self.waiting);
     }
 
-    /// Takes the next piece of the data, which is the answer at this place.
-    pub(crate) fn take_data(&mut self, place: usize) -> Result<(), AllocError>
+    /// Takes the next piece of the data, which is the answer at this position.
+    pub(crate) fn take_data(&mut self, position: usize) -> Result<(), AllocError>
         requires due { self.old.supply.taken.data_piece < self.old.supply.asked.data_piece }
         ensures taken { OnOk result (self.new ≡ record self.old {
-          supply = holds_more self.old.supply place;
+          supply = holds_more self.old.supply position;
           waiting = drop 1 self.old.waiting;
         }) }
         ensures unchanged { OnErr result (self.new ≡ self.old) }
         ensures right { IsSupply self.new.supply }
     {
-        self.supply.take_data(place)?;
+        self.supply.take_data(position)?;
         drop_first(&mut self.waiting);
         Ok(())
     }
@@ -263,24 +263,25 @@ fn ask_other(alloc: Global, supply: &mut Supply, last: u32) -> Result<Vec<Wanted
     supply.wanted(alloc, last)
 }
 
-// These parts wait from now on, the first at this place and the others behind.
+// These parts wait from now on, the first at this position and the others behind.
 fn wait_for(
     waiting: &mut VecDeque<Waiting>,
-    place: usize,
+    position: usize,
     wanted: &[Wanted],
 ) -> Result<(), AllocError>
-    ensures { OnOk result (waiting.new.items ≡ waiting.old.items ++ placed place wanted.now) }
+    ensures { OnOk result (waiting.new.items ≡ waiting.old.items
+        ++ waiting_from position wanted.now) }
 {
-    let mut place = place;
+    let mut position = position;
     for part in wanted {
         waiting.push_back(Waiting {
-            place,
+            position,
             wanted: *part,
         })?;
-        let Some(next) = place.checked_add(1) else {
+        let Some(next) = position.checked_add(1) else {
             return Err(AllocError);
         };
-        place = next;
+        position = next;
     }
     Ok(())
 }
@@ -318,15 +319,15 @@ pub(crate) fn begin_reader(
     reader
 }
 
-/// The reader at a place, which is one of those that are read, is read no more. Where it gave the
-/// ciphertext tree, the oldest that is left gives it from what was taken on.
+/// The reader at a position, which is one of those that are read, is read no more. Where it gave
+/// the ciphertext tree, the oldest that is left gives it from what was taken on.
 pub(crate) fn end_reader(
     readers: &mut Vec<Reader>,
     live: &mut Vec<usize>,
     taken: &[u32; 3],
     reader: usize,
 )
-    requires there { All (λ place. place < length readers.old.items) live.old.items }
+    requires there { All (λ position. position < length readers.old.items) live.old.items }
     requires live { Contains live.old.items reader }
     requires gives { slice_get live.old.items 0 ≡ Some reader
         → (next : ℕ) → (r : ReaderState)
@@ -344,24 +345,24 @@ pub(crate) fn end_reader(
     }
 }
 
-// The reader at a place is not listed any more.
+// The reader at a position is not listed any more.
 fn drop_reader(live: &mut Vec<usize>, reader: usize)
     ensures { live.new.items ≡ without reader live.old.items }
 {
-    live.retain(|place| !(*place == reader));
+    live.retain(|position| !(*position == reader));
 }
 
-// The reader at this place, where there is one, gives the ciphertext tree from now on.
+// The reader at this position, where there is one, gives the ciphertext tree from now on.
 fn give_next(readers: &mut Vec<Reader>, next: Option<usize>, taken: &[u32; 3])
-    requires there { IfSome next (λ place. place < length readers.old.items) }
-    requires gives { (place : ℕ) → (r : ReaderState) → next ≡ Some place
-        → slice_get readers.old.items place ≡ Some r → CanGive r taken.now }
-    ensures gives { (place : ℕ) → (r : ReaderState) → next ≡ Some place
-        → slice_get readers.old.items place ≡ Some r
-        → readers.new.items ≡ slice_set readers.old.items place (giving r taken.now) }
+    requires there { IfSome next (λ position. position < length readers.old.items) }
+    requires gives { (position : ℕ) → (r : ReaderState) → next ≡ Some position
+        → slice_get readers.old.items position ≡ Some r → CanGive r taken.now }
+    ensures gives { (position : ℕ) → (r : ReaderState) → next ≡ Some position
+        → slice_get readers.old.items position ≡ Some r
+        → readers.new.items ≡ slice_set readers.old.items position (giving r taken.now) }
     ensures none { next ≡ None → readers.new.items ≡ readers.old.items }
 {
-    if let Some(place) = next {
-        readers[place].give(taken);
+    if let Some(position) = next {
+        readers[position].give(taken);
     }
 }

@@ -17,7 +17,7 @@ use std::alloc::{AllocError, Global};
 /// are read, all their blocks of these segments were taken, and the segments' hashes are known.
 pub(crate) fn has_row(handout: &Handout, readers: &[Reader], live: &[usize], number: u32) -> bool
     requires there { number < segment_count handout.now.geometry }
-    requires live { All (λ place. place < length readers.now) live.now }
+    requires live { All (λ position. position < length readers.now) live.now }
     ensures yes { IsTrue result → HasRow handout.now readers.now live.now number }
     ensures no { result ≡ false → ¬ HasRow handout.now readers.now live.now number }
 {
@@ -33,55 +33,56 @@ pub(crate) fn has_row(handout: &Handout, readers: &[Reader], live: &[usize], num
 }
 
 /// The blocks of eight segments from this one on, each of this length: of each segment those that
-/// the readers at these places hold, one after another.
+/// the readers at these positions hold, one after another.
 pub(crate) fn join_row(
     alloc: Global,
     requests: &Requests,
     readers: &[Reader],
-    places: &[usize],
+    positions: &[usize],
     number: u32,
     size: u32,
 ) -> Result<Vec<Vec<u8>>, AllocError>
-    requires held { HaveRow readers.now number size places.now }
+    requires held { HaveRow readers.now number size positions.now }
     requires low { number + 8 < 2 ^ 32 }
     ensures eight { IfOk result (λ rows. length rows.items ≡ 8) }
-    ensures rows { IfOk result (λ rows. IsRow requests.now.entries readers.now number places.now
+    ensures rows { IfOk result (λ rows. IsRow requests.now.entries readers.now number positions.now
         (map (λ r. r.items) rows.items)) }
 {
     let mut rows = Vec::with_capacity(alloc, 8)?;
     for i in 0..8 {
-        let row = join_blocks(alloc, requests, readers, places, number + i, size)?;
+        let row = join_blocks(alloc, requests, readers, positions, number + i, size)?;
         rows.push(row)?;
     }
     Ok(rows)
 }
 
-/// Whether each of the readers at these places has, of eight segments from this one on, the blocks
-/// that its block tree tells. Of each segment they stand one after another, each of this length.
+/// Whether each of the readers at these positions has, of eight segments from this one on, the
+/// blocks that its block tree tells. Of each segment they stand one after another, each of this
+/// length.
 pub(crate) fn are_right(
     readers: &[Reader],
-    places: &[usize],
+    positions: &[usize],
     number: u32,
     rows: &[Vec<u8>],
     size: u32,
 ) -> bool
-    requires there { All (λ place. place < length readers.now) places.now }
-    requires ready { (i : ℕ) → i < 8 → AreReady readers.now places.now (number + i) }
+    requires there { All (λ position. position < length readers.now) positions.now }
+    requires ready { (i : ℕ) → i < 8 → AreReady readers.now positions.now (number + i) }
     requires low { number + 8 < 2 ^ 32 }
     requires eight { length rows.now ≡ 8 }
-    requires long { All (λ r. length r.items ≡ length places.now * size) rows.now }
-    ensures { IsTrue result ↔ AreRowsProved readers.now places.now number
-        (map (λ r. r.items) rows.now) size (length places.now) }
+    requires long { All (λ r. length r.items ≡ length positions.now * size) rows.now }
+    ensures { IsTrue result ↔ AreRowsProved readers.now positions.now number
+        (map (λ r. r.items) rows.now) size (length positions.now) }
 {
-    for k in 0..places.len() {
-        if !are_proved(readers[places[k]].supply(), number, rows, size, k) {
+    for k in 0..positions.len() {
+        if !are_proved(readers[positions[k]].supply(), number, rows, size, k) {
             return false;
         }
     }
     true
 }
 
-// Whether the blocks at this place of each of eight segments, which have this length, are those
+// Whether the blocks at this position of each of eight segments, which have this length, are those
 // that the block tree of a supply tells.
 fn are_proved(supply: &Supply, number: u32, rows: &[Vec<u8>], size: u32, k: usize) -> bool
     requires within { number + 8 ≤ supply.now.end }
@@ -92,12 +93,12 @@ fn are_proved(supply: &Supply, number: u32, rows: &[Vec<u8>], size: u32, k: usiz
         (map (λ r. r.items) rows.now) size k }
 {
     let hashes = block_hashes(rows, size, k);
-    let mut place = number;
+    let mut position = number;
     for hash in &hashes {
-        if !supply.proves_hash(place, hash) {
+        if !supply.proves_hash(position, hash) {
             return false;
         }
-        place += 1;
+        position += 1;
     }
     true
 }

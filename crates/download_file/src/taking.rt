@@ -25,7 +25,7 @@ pub(crate) fn take_part(
     requires plan { plan.now.geometry ≡ handout.old.geometry }
     requires long { length bytes.now ≡ first.now.wanted.read.length }
     ensures taken { OnOk result (TakesPart handout.old reader.old taken.old plan.now.first
-        plan.now.end first.now.wanted.part first.now.place handout.new reader.new taken.new) }
+        plan.now.end first.now.wanted.part first.now.position handout.new reader.new taken.new) }
     ensures refused { (check : Check) → result ≡ Err (TreeFault.Check check)
         → RefutesPart handout.old plan.now.first plan.now.end reader.old
         first.now.wanted.part bytes.now check }
@@ -56,7 +56,7 @@ fn take_hashes(
     requires plan { plan.now.geometry ≡ handout.old.geometry }
     requires long { length bytes.now ≡ first.now.wanted.read.length }
     ensures taken { OnOk result ((taken : List ℕ) → TakesPart handout.old reader.old taken
-        plan.now.first plan.now.end first.now.wanted.part first.now.place handout.new reader.new
+        plan.now.first plan.now.end first.now.wanted.part first.now.position handout.new reader.new
         taken) }
     ensures refused { (check : Check) → result ≡ Err (TreeFault.Check check)
         → RefutesPart handout.old plan.now.first plan.now.end reader.old
@@ -87,7 +87,7 @@ fn take_nodes(
     requires plan { plan.now.geometry ≡ handout.now.geometry }
     requires long { length bytes.now ≡ first.now.wanted.read.length }
     ensures taken { OnOk result ((taken : List ℕ) → TakesPart handout.now reader.old taken
-        plan.now.first plan.now.end first.now.wanted.part first.now.place handout.now reader.new
+        plan.now.first plan.now.end first.now.wanted.part first.now.position handout.now reader.new
         taken) }
     ensures refused { (check : Check) → result ≡ Err (TreeFault.Check check)
         → RefutesPart handout.now plan.now.first plan.now.end reader.old
@@ -115,7 +115,7 @@ fn take_ciphertext(
     requires plan { plan.now.geometry ≡ handout.old.geometry }
     requires long { length bytes.now ≡ first.now.wanted.read.length }
     ensures taken { OnOk result (TakesPart handout.old reader.old taken.old plan.now.first
-        plan.now.end first.now.wanted.part first.now.place handout.new reader.new taken.new) }
+        plan.now.end first.now.wanted.part first.now.position handout.new reader.new taken.new) }
     ensures refused { (check : Check) → result ≡ Err (TreeFault.Check check)
         → RefutesPart handout.old plan.now.first plan.now.end reader.old
         first.now.wanted.part bytes.now check }
@@ -142,7 +142,7 @@ fn take_data(
     requires part { first.now.wanted.part ≡ Part.Data index }
     requires taker { IsTaker handout.now plan.now.first plan.now.end reader.old first.now }
     ensures taken { OnOk result ((taken : List ℕ) → TakesPart handout.now reader.old taken
-        plan.now.first plan.now.end first.now.wanted.part first.now.place handout.now reader.new
+        plan.now.first plan.now.end first.now.wanted.part first.now.position handout.now reader.new
         taken) }
     ensures refused { (check : Check) → ¬ (result ≡ Err (TreeFault.Check check)) }
     ensures reader { OnErr result (reader.new ≡ reader.old) }
@@ -150,6 +150,6 @@ fn take_data(
     let _ = plan;
     let _ = handout;
     let _ = index;
-    reader.take_data(first.place)?;
+    reader.take_data(first.position)?;
     Ok(())
 }

@@ -57,7 +57,7 @@ rows_rise m level later above there = omega arith
 pub div_le : (a n k : ℕ) → 0 < k → a ≤ n → a / k ≤ n / k
 div_le a n k some le = le-div (a / k) n k some (omega (arith, div-mul-le_self a k))
 
--- a place whose whole pieces are fewer is below these
+-- an offset whose whole pieces are fewer is below these
 pub below_pieces : (n k m : ℕ) → 0 < k → n / k < m → n < m * k
 below_pieces n k m some low =
     omega (arith, mul-le-mul_right {m = n / k + 1} {n = m} k (omega arith), div-add-mod' n k, mod_below n k some)
@@ -135,16 +135,16 @@ group_within m row number node same =
     let high = number / leaves_below m row / k in
     let i = high * k / 1024 in
     let within = group_ends k (2 ^ (10 - min row 7)) high i (group_of row) (omega arith) in
-    let place : node ≡ high * k + node % k = omega (arith, div-add-mod' node k, ap (λ n. n * k) same) in (
-      omega (arith, place),
-      omega (arith, place, within, mod_below node k (pow_pos (min row 7))),
+    let offset : node ≡ high * k + node % k = omega (arith, div-add-mod' node k, ap (λ n. n * k) same) in (
+      omega (arith, offset),
+      omega (arith, offset, within, mod_below node k (pow_pos (min row 7))),
     )
 
 -- the node 7 rows above one that is read is read, if the level above is 7 rows above
-pub reads_above : (m row above a b count place : ℕ) → row ≡ above + 7 → row ≤ m → first_node m row a ≤ place → place < end_node m row b count
-    → (first_node m above a ≤ place / 128) × (place / 128 < end_node m above b count)
+pub reads_above : (m row above a b count offset : ℕ) → row ≡ above + 7 → row ≤ m → first_node m row a ≤ offset → offset < end_node m row b count
+    → (first_node m above a ≤ offset / 128) × (offset / 128 < end_node m above b count)
 unfolding first_node end_node
-reads_above m row above a b count place rows high from before =
+reads_above m row above a b count offset rows high from before =
     let w = leaves_below m row in
     let w' = leaves_below m above in
     let k = group_size above in
@@ -152,17 +152,17 @@ reads_above m row above a b count place rows high from before =
     let w'_some : 0 < w' = pow_pos (m - above) in
     let group : group_size row ≡ 128 = let seven : min row 7 ≡ 7 = omega (arith, rows) in ap (λ n. 2 ^ n) seven in
     let whole : w' ≡ w * 128 = let e : m - above ≡ m - row + 7 = omega (arith, rows, high) in ap (λ n. 2 ^ n) e ∙ pow-add 2 (m - row) 7 in
-    let first : a / w / 128 * 128 ≤ place = let e : a / w / group_size row * group_size row ≡ a / w / 128 * 128 = ap (λ n. a / w / n * n) group in omega (arith, e, from) in
-    let end : place < rounded_up (div_ceil b w) 128 = let e : rounded_up (div_ceil b w) (group_size row) ≡ rounded_up (div_ceil b w) 128 = ap (rounded_up (div_ceil b w)) group in omega (arith, e, before) in
-    let inside : place < div_ceil count w = omega (arith, before) in
+    let first : a / w / 128 * 128 ≤ offset = let e : a / w / group_size row * group_size row ≡ a / w / 128 * 128 = ap (λ n. a / w / n * n) group in omega (arith, e, from) in
+    let end : offset < rounded_up (div_ceil b w) 128 = let e : rounded_up (div_ceil b w) (group_size row) ≡ rounded_up (div_ceil b w) 128 = ap (rounded_up (div_ceil b w)) group in omega (arith, e, before) in
+    let inside : offset < div_ceil count w = omega (arith, before) in
     let twice : a / w' ≡ a / w / 128 = ap (λ n. a / n) whole ∙ sym (div-div-eq-div-mul a w 128) in
-    let low : a / w' / k * k ≤ place / 128 = omega (arith, div-mul-le_self (a / w') k, twice, first) in
-    let in_count : place / 128 < div_ceil count w' =
-    let times : place / 128 * w' ≡ place / 128 * 128 * w = ap (λ n. place / 128 * n) whole ∙ omega arith in
-    pieces_below count w' (place / 128) w'_some (omega (arith, times, mul-le-mul_right {m = place / 128 * 128} {n = place} w (omega arith), piece_begins count w place w_some inside)) in
-    let in_end : place / 128 < div_ceil b w' =
-    let few : place / 128 * 128 < div_ceil b w = omega (arith, end) in
-    let times : place / 128 * w' ≡ place / 128 * 128 * w = ap (λ n. place / 128 * n) whole ∙ omega arith in
-    pieces_below b w' (place / 128) w'_some (omega (arith, times, piece_begins b w (place / 128 * 128) w_some few)) in
+    let low : a / w' / k * k ≤ offset / 128 = omega (arith, div-mul-le_self (a / w') k, twice, first) in
+    let in_count : offset / 128 < div_ceil count w' =
+    let times : offset / 128 * w' ≡ offset / 128 * 128 * w = ap (λ n. offset / 128 * n) whole ∙ omega arith in
+    pieces_below count w' (offset / 128) w'_some (omega (arith, times, mul-le-mul_right {m = offset / 128 * 128} {n = offset} w (omega arith), piece_begins count w offset w_some inside)) in
+    let in_end : offset / 128 < div_ceil b w' =
+    let few : offset / 128 * 128 < div_ceil b w = omega (arith, end) in
+    let times : offset / 128 * w' ≡ offset / 128 * 128 * w = ap (λ n. offset / 128 * n) whole ∙ omega arith in
+    pieces_below b w' (offset / 128) w'_some (omega (arith, times, piece_begins b w (offset / 128 * 128) w_some few)) in
     let k_some : 0 < k = pow_pos (min above 7) in
     (low, omega (arith, in_count, in_end, (div_ceil_times (div_ceil b w') k k_some).0))

@@ -9,23 +9,23 @@ use Rattle.merkle.proofs.NumberLemmas.{needed_left, needed_right}
 use Rattle.download_parts.specs.Offers.{numbered, offered_nodes}
 
 -- a node behind the others
-offered-append : (row place : ℕ) (hashes : List (List ℕ)) (hash : List ℕ)
-    → offered_nodes row place (hashes ++ hash ∷ []) ≡ offered_nodes row place hashes ++ (node_number row (place + length hashes), hash) ∷ []
-offered-append row place [] hash =
-    let same : place ≡ place + 0 = omega arith in
+offered-append : (row position : ℕ) (hashes : List (List ℕ)) (hash : List ℕ)
+    → offered_nodes row position (hashes ++ hash ∷ []) ≡ offered_nodes row position hashes ++ (node_number row (position + length hashes), hash) ∷ []
+offered-append row position [] hash =
+    let same : position ≡ position + 0 = omega arith in
     ap (λ n. (node_number row n, hash) ∷ []) same
-offered-append row place (first ∷ hashes) hash =
-    let same : place + 1 + length hashes ≡ place + length (first ∷ hashes) = omega arith in
-    ap (λ (l : List (ℕ × List ℕ)). (node_number row place, first) ∷ l)
-    (offered-append row (place + 1) hashes hash ∙ ap (λ n. offered_nodes row (place + 1) hashes ++ (node_number row n, hash) ∷ []) same)
+offered-append row position (first ∷ hashes) hash =
+    let same : position + 1 + length hashes ≡ position + length (first ∷ hashes) = omega arith in
+    ap (λ (l : List (ℕ × List ℕ)). (node_number row position, first) ∷ l)
+    (offered-append row (position + 1) hashes hash ∙ ap (λ n. offered_nodes row (position + 1) hashes ++ (node_number row n, hash) ∷ []) same)
 
-pub offered_more : (row place : ℕ) (hashes : List (List ℕ)) (k : ℕ) → k < length hashes
-    → offered_nodes row place (take (k + 1) hashes) ≡ offered_nodes row place (take k hashes) ++ (node_number row (place + k), get_or hashes k []) ∷ []
-offered_more row place hashes k there =
+pub offered_more : (row position : ℕ) (hashes : List (List ℕ)) (k : ℕ) → k < length hashes
+    → offered_nodes row position (take (k + 1) hashes) ≡ offered_nodes row position (take k hashes) ++ (node_number row (position + k), get_or hashes k []) ∷ []
+offered_more row position hashes k there =
     let same : length (take k hashes) ≡ k = omega (arith, length-take k hashes) in
-    ap (offered_nodes row place) (take_more hashes k [] there)
-    ∙ offered-append row place (take k hashes) (get_or hashes k [])
-    ∙ ap (λ n. offered_nodes row place (take k hashes) ++ (node_number row (place + n), get_or hashes k []) ∷ []) same
+    ap (offered_nodes row position) (take_more hashes k [] there)
+    ∙ offered-append row position (take k hashes) (get_or hashes k [])
+    ∙ ap (λ n. offered_nodes row position (take k hashes) ++ (node_number row (position + n), get_or hashes k []) ∷ []) same
 
 -- a share hash behind the others
 numbered-append : (ns : List ℕ) (entries : List (List ℕ)) (n : ℕ) (entry : List ℕ) → length ns ≡ length entries
@@ -53,30 +53,30 @@ numbered-at (n ∷ ns) (e ∷ es) zero d there there' = refl
 numbered-at (n ∷ ns) (e ∷ es) (suc k) d there there' = numbered-at ns es k d (omega (arith, there)) (omega (arith, there'))
 
 -- the leaf's own number
-pub own_at : (height leaf place : ℕ) → leaf < 2 ^ height → place ≡ height + leaf % 2 - 1
-    → get_or (needed_numbers height leaf) place 0 ≡ node_number height leaf
-own_at zero leaf place inside is =
+pub own_at : (height leaf position : ℕ) → leaf < 2 ^ height → position ≡ height + leaf % 2 - 1
+    → get_or (needed_numbers height leaf) position 0 ≡ node_number height leaf
+own_at zero leaf position inside is =
     let none : leaf ≡ 0 = omega (arith, inside) in
-    let first : place ≡ 0 = is ∙ ap (λ l. 0 + l % 2 - 1) none in
+    let first : position ≡ 0 = is ∙ ap (λ l. 0 + l % 2 - 1) none in
     ap (λ i. get_or (needed_numbers zero leaf) i 0) first ∙ ap (node_number 0) (sym none)
-own_at (suc m) leaf place inside is =
+own_at (suc m) leaf position inside is =
     elim (cases_lt (leaf % 2) 1) [
-      | inl even ↦ needed_left (suc m) leaf place (omega arith) ∙ omega arith
-      | inr odd ↦ needed_right (suc m) leaf place (omega arith) (omega arith) ∙ omega arith
+      | inl even ↦ needed_left (suc m) leaf position (omega arith) ∙ omega arith
+      | inr odd ↦ needed_right (suc m) leaf position (omega arith) (omega arith) ∙ omega arith
     ]
 
 -- each hash in the bytes has 32 of them
-pub offered_long : (row place k : ℕ) (bytes : List ℕ) → k * 32 ≤ length bytes
-    → (i number : ℕ) (hash : List ℕ) → slice_get (offered_nodes row place (first_chunks 32 k bytes)) i ≡ Some (number, hash) → length hash ≡ 32
-offered_long row place zero bytes room i number hash e = absurd cc
-offered_long row place (suc k) bytes room zero number hash e =
-    let same : (node_number row place, take 32 bytes) ≡ (number, hash) = cc in
+pub offered_long : (row position k : ℕ) (bytes : List ℕ) → k * 32 ≤ length bytes
+    → (i number : ℕ) (hash : List ℕ) → slice_get (offered_nodes row position (first_chunks 32 k bytes)) i ≡ Some (number, hash) → length hash ≡ 32
+offered_long row position zero bytes room i number hash e = absurd cc
+offered_long row position (suc k) bytes room zero number hash e =
+    let same : (node_number row position, take 32 bytes) ≡ (number, hash) = cc in
     let more : suc k * 32 ≡ k * 32 + 32 = omega arith in
     ap (λ (o : ℕ × List ℕ). length o.1) (sym same) ∙ length-take-le 32 bytes (omega (arith, room, more))
-offered_long row place (suc k) bytes room (suc i) number hash e =
+offered_long row position (suc k) bytes room (suc i) number hash e =
     let more : suc k * 32 ≡ k * 32 + 32 = omega arith in
     let rest : length (drop 32 bytes) ≡ length bytes - 32 = length-drop 32 bytes in
-    offered_long row (place + 1) k (drop 32 bytes) (omega (arith, room, more, rest)) i number hash e
+    offered_long row (position + 1) k (drop 32 bytes) (omega (arith, room, more, rest)) i number hash e
 
 -- so does each of the share hashes, behind its number
 pub numbered_long : (ns : List ℕ) (k : ℕ) (bytes : List ℕ) → k * 34 ≤ length bytes

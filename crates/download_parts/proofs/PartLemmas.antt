@@ -9,10 +9,10 @@ use Rattle.merkle.proofs.HeightLemmas.{height_below, height_room}
 use Rattle.share_layout.specs.Geometry.{Geometry, IsGeometry, block_size, hashes_size, segment_count, share_data_size, tree_size}
 use Rattle.share_layout.specs.declared.layout.Layout.{Layout}
 use Rattle.share_layout.specs.declared.layout.Layout.TheVariants.{One, Two}
-use Rattle.share_layout.specs.Layout.{header_size, layout_of, places_of}
+use Rattle.share_layout.specs.Layout.{header_size, layout_of, offsets_of}
 use Rattle.share_layout.specs.Pieces.{block_length}
 use Rattle.download_parts.specs.Level.{IsAbove, first_node, group_size, level_at, level_count, row_of, tree_height}
-use Rattle.download_parts.specs.Plan.{IsAmong, IsNodePiece, IsPart, block_place, cut_at, data_end, data_pieces, data_place, length_of, max_nodes, max_read, nodes_at, nodes_of, nodes_place, offset_at, piece_at, pieces_of, place_of, run_reads, run_size}
+use Rattle.download_parts.specs.Plan.{IsAmong, IsNodePiece, IsPart, block_start, cut_at, data_end, data_pieces, data_offset, length_of, max_nodes, max_read, nodes_at, nodes_of, nodes_offset, offset_at, piece_at, pieces_of, offset_of, run_reads, run_size}
 use Rattle.download_parts.specs.Range.{IsRange}
 use Rattle.download_parts.specs.PlanLaws.{AreApart, IsInBlock, IsInPiece, LevelsHoldGroups, LiesIn, PartsAreApart, PartsHoldTheBlocks, PartsLieInside, PiecesAreGroups, PiecesAreUnderPieces, piece_over, section_end, section_start}
 use Rattle.download_parts.specs.declared.level.Level.{Level}
@@ -53,22 +53,22 @@ block_some g valid =
           absurd (omega (arith, ap (λ n. n * g.needed) zero, div-add-mod' g.segment_size g.needed, valid.multiple, valid.some_segment))
     ]
 
-pub data_begins : (g : Geometry) (a b : ℕ) → IsRange g a b → block_place g a < data_end g b
+pub data_begins : (g : Geometry) (a b : ℕ) → IsRange g a b → block_start g a < data_end g b
 data_begins g a b r =
     let s = r.some in
     omega (arith, block_begins g a b r, block_some g r.valid, mul-le-mul_right {m = a + 1} {n = b} (block_size g) (omega arith))
 
 -- the pieces of the data, from the segment `a` on
 module _ (g : Geometry) (valid : IsGeometry g) (a : ℕ) where
-  pub place_is : (i : ℕ) → data_place g a i ≡ block_place g a + piece_begin (run_size g) (run_reads g) i
-  unfolding data_place piece_begin
-  place_is i = omega arith
+  pub begin_is : (i : ℕ) → data_offset g a i ≡ block_start g a + piece_begin (run_size g) (run_reads g) i
+  unfolding data_offset piece_begin
+  begin_is i = omega arith
 
-  pub piece_is : (n : ℕ) → piece_at g a n ≡ piece_of (run_size g) (run_reads g) (n - block_place g a)
+  pub piece_is : (n : ℕ) → piece_at g a n ≡ piece_of (run_size g) (run_reads g) (n - block_start g a)
   unfolding piece_at piece_of
   piece_is n = refl
 
-  pub offset_is : (n : ℕ) → offset_at g a n ≡ (n - block_place g a) % run_size g % 32768
+  pub offset_is : (n : ℕ) → offset_at g a n ≡ (n - block_start g a) % run_size g % 32768
   unfolding offset_at
   offset_is n = refl
 
@@ -84,56 +84,56 @@ module _ (g : Geometry) (valid : IsGeometry g) (a : ℕ) where
   pub reads_room : run_size g ≤ run_reads g * 32768
   reads_room = run_room (block_size g) (block_some g valid)
 
-  pub data_from_first : (i : ℕ) → block_place g a ≤ data_place g a i
-  data_from_first i = omega (arith, place_is i)
+  pub data_from_first : (i : ℕ) → block_start g a ≤ data_offset g a i
+  data_from_first i = omega (arith, begin_is i)
 
-  pub data_rises : (i : ℕ) → data_place g a i < data_place g a (i + 1)
-  data_rises i = omega (arith, place_is i, place_is (i + 1), rises (run_size g) (run_reads g) size_some reads_some' reads_most reads_room i)
+  pub data_rises : (i : ℕ) → data_offset g a i < data_offset g a (i + 1)
+  data_rises i = omega (arith, begin_is i, begin_is (i + 1), rises (run_size g) (run_reads g) size_some reads_some' reads_most reads_room i)
 
-  pub data_short : (i : ℕ) → data_place g a (i + 1) ≤ data_place g a i + 32768
-  data_short i = omega (arith, place_is i, place_is (i + 1), short (run_size g) (run_reads g) size_some reads_some' reads_most reads_room i)
+  pub data_short : (i : ℕ) → data_offset g a (i + 1) ≤ data_offset g a i + 32768
+  data_short i = omega (arith, begin_is i, begin_is (i + 1), short (run_size g) (run_reads g) size_some reads_some' reads_most reads_room i)
 
-  pub data_rise : (i j : ℕ) → i ≤ j → data_place g a i ≤ data_place g a j
-  data_rise i j le = omega (arith, place_is i, place_is j, rise (run_size g) (run_reads g) size_some reads_some' reads_most reads_room i j le)
+  pub data_rise : (i j : ℕ) → i ≤ j → data_offset g a i ≤ data_offset g a j
+  data_rise i j le = omega (arith, begin_is i, begin_is j, rise (run_size g) (run_reads g) size_some reads_some' reads_most reads_room i j le)
 
-  pub data_from : (n : ℕ) → block_place g a ≤ n → data_place g a (piece_at g a n) ≤ n
+  pub data_from : (n : ℕ) → block_start g a ≤ n → data_offset g a (piece_at g a n) ≤ n
   data_from n from =
-      let p = piece_from (run_size g) (run_reads g) size_some reads_some' reads_most reads_room (n - block_place g a) in
-      rw (piece_is n) (omega (arith, place_is (piece_of (run_size g) (run_reads g) (n - block_place g a)), p, from))
+      let p = piece_from (run_size g) (run_reads g) size_some reads_some' reads_most reads_room (n - block_start g a) in
+      rw (piece_is n) (omega (arith, begin_is (piece_of (run_size g) (run_reads g) (n - block_start g a)), p, from))
 
-  pub data_before : (n : ℕ) → n < data_place g a (piece_at g a n + 1)
+  pub data_before : (n : ℕ) → n < data_offset g a (piece_at g a n + 1)
   data_before n =
-      let p = piece_before (run_size g) (run_reads g) size_some reads_some' reads_most reads_room (n - block_place g a) in
-      rw (piece_is n) (omega (arith, place_is (piece_of (run_size g) (run_reads g) (n - block_place g a) + 1), p))
+      let p = piece_before (run_size g) (run_reads g) size_some reads_some' reads_most reads_room (n - block_start g a) in
+      rw (piece_is n) (omega (arith, begin_is (piece_of (run_size g) (run_reads g) (n - block_start g a) + 1), p))
 
-  pub data_rest : (n : ℕ) → block_place g a ≤ n → data_place g a (piece_at g a n) + offset_at g a n ≡ n
+  pub data_rest : (n : ℕ) → block_start g a ≤ n → data_offset g a (piece_at g a n) + offset_at g a n ≡ n
   data_rest n from =
-      let p = piece_rest (run_size g) (run_reads g) size_some reads_some' reads_most reads_room (n - block_place g a) in
-      rw (piece_is n, offset_is n) (omega (arith, place_is (piece_of (run_size g) (run_reads g) (n - block_place g a)), p, from))
+      let p = piece_rest (run_size g) (run_reads g) size_some reads_some' reads_most reads_room (n - block_start g a) in
+      rw (piece_is n, offset_is n) (omega (arith, begin_is (piece_of (run_size g) (run_reads g) (n - block_start g a)), p, from))
 
   pub data_more : (n o : ℕ) → n ≤ o → piece_at g a n ≤ piece_at g a o
   data_more n o le =
       rw (piece_is n, piece_is o)
-      (piece_rises (run_size g) (run_reads g) size_some reads_some' reads_most reads_room (n - block_place g a) (o - block_place g a) (omega (arith, le)))
+      (piece_rises (run_size g) (run_reads g) size_some reads_some' reads_most reads_room (n - block_start g a) (o - block_start g a) (omega (arith, le)))
 
   pub runs_before : (i : ℕ) → i / run_reads g * run_size g ≤ i * 32768
   runs_before i =
       omega (arith, run_from (run_size g) (run_reads g) size_some reads_some' reads_most reads_room i, piece_low (run_size g) (run_reads g) size_some reads_some' reads_most reads_room i)
 
-  pub data_low : (i : ℕ) → i < 2 ^ 32 → block_place g a ≤ 2 ^ 40 + 68 → data_place g a i < 2 ^ 48
-  data_low i few low = omega (arith, place_is i, piece_low (run_size g) (run_reads g) size_some reads_some' reads_most reads_room i, few, low)
+  pub data_low : (i : ℕ) → i < 2 ^ 32 → block_start g a ≤ 2 ^ 40 + 68 → data_offset g a i < 2 ^ 48
+  data_low i few low = omega (arith, begin_is i, piece_low (run_size g) (run_reads g) size_some reads_some' reads_most reads_room i, few, low)
 
   -- no more pieces than of half as many bytes as a read has at most
   pub data_few : (n : ℕ) → piece_at g a n * 16384 ≤ n
-  data_few n = rw (piece_is n) (omega (arith, pieces_few (block_size g) (block_some g valid) (n - block_place g a)))
+  data_few n = rw (piece_is n) (omega (arith, pieces_few (block_size g) (block_some g valid) (n - block_start g a)))
 
--- a later place lies in no earlier piece, in any geometry
+-- a later offset lies in no earlier piece, in any geometry
 pub pieces_grow : (g : Geometry) (a n o : ℕ) → n ≤ o → piece_at g a n ≤ piece_at g a o
 unfolding piece_at piece_of
 pieces_grow g a n o le =
     let block = block_size g in
-    let begin = n - block_place g a in
-    let end = o - block_place g a in
+    let begin = n - block_start g a in
+    let end = o - block_start g a in
     elim (cases_lt 0 block) [
       | inl some ↦
           piece_rises (run_size g) (run_reads g) (run_some block some) (reads_some block some) (run_most block some) (run_room block some)
@@ -147,13 +147,13 @@ pieces_grow g a n o le =
           omega (arith, first, last, div-add-mod' begin 0, div-add-mod' end 0, le)
     ]
 
--- and the next place lies in no later piece than the next
+-- and the next offset lies in no later piece than the next
 pub pieces_step : (g : Geometry) (a n : ℕ) → piece_at g a (n + 1) ≤ piece_at g a n + 1
 unfolding piece_at piece_of
 pieces_step g a n =
     let block = block_size g in
-    let begin = n - block_place g a in
-    let end = n + 1 - block_place g a in
+    let begin = n - block_start g a in
+    let end = n + 1 - block_start g a in
     elim (cases_lt 0 block) [
       | inl some ↦
           piece_steps (run_size g) (run_reads g) (run_some block some) (reads_some block some) (run_most block some) (run_room block some)
@@ -168,7 +168,7 @@ pieces_step g a n =
     ]
 
 -- a piece of the data begins before the blocks end
-pub data_inside : (g : Geometry) (a b i : ℕ) → IsRange g a b → i < data_pieces g a b → data_place g a i < data_end g b
+pub data_inside : (g : Geometry) (a b i : ℕ) → IsRange g a b → i < data_pieces g a b → data_offset g a i < data_end g b
 data_inside g a b i r is =
     let last = data_end g b - 1 in
     let some = data_begins g a b r in
@@ -203,7 +203,7 @@ piece_lies g a b p r is =
 
 -- nodes of a tree lie in its section
 pub nodes_lie : (g : Geometry) (section : ℕ) (n : Nodes) → Lie (tree_height g) n
-    → LiesIn section (section + tree_size g) (nodes_place section n) (32 * n.count)
+    → LiesIn section (section + tree_size g) (nodes_offset section n) (32 * n.count)
 nodes_lie g section n l =
     let m = tree_height g in
     let rows = pow-le-pow_right {n = 2} (omega arith) {i = n.row} {j = m} l.low in
@@ -217,7 +217,7 @@ nodes_lie g section n l =
       ends = omega (arith, rows, pow_pos n.row, pow_pos m);
     }
 
--- the places of the sections
+-- the offsets of the sections
 hashes_low : (g : Geometry) (a b : ℕ) → IsRange g a b → hashes_size g ≤ 306
 hashes_low g a b r = let s = r.valid.shares in omega (arith, height_below g.total 8 (omega arith))
 
@@ -229,10 +229,10 @@ lie_inside g a b ShareHashes r is = record {
   ends = omega arith;
 }
 lie_inside g a b (BlockTree p) r is =
-    let l = nodes_lie g (places_of g).block_tree (nodes_of g a b p) (piece_lies g a b p r is) in
+    let l = nodes_lie g (offsets_of g).block_tree (nodes_of g a b p) (piece_lies g a b p r is) in
     record { some = l.some; few = l.few; begins = l.begins; ends = omega (arith, l.ends) }
 lie_inside g a b (CiphertextTree p) r is =
-    let l = nodes_lie g (places_of g).ciphertext_tree (nodes_of g a b p) (piece_lies g a b p r is) in
+    let l = nodes_lie g (offsets_of g).ciphertext_tree (nodes_of g a b p) (piece_lies g a b p r is) in
     record { some = l.some; few = l.few; begins = l.begins; ends = omega (arith, l.ends) }
 lie_inside g a b (Data i) r is =
     let inside = data_inside g a b i r is in
@@ -252,10 +252,10 @@ same_level : (l : Level) (i j : ℕ) → i < j
 same_level l i j before = omega arith
 
 -- nodes before others in a section
-before_nodes : (section : ℕ) (n o : Nodes) → n.row ≡ o.row → n.from + n.count ≤ o.from → nodes_place section n + 32 * n.count ≤ nodes_place section o
+before_nodes : (section : ℕ) (n o : Nodes) → n.row ≡ o.row → n.from + n.count ≤ o.from → nodes_offset section n + 32 * n.count ≤ nodes_offset section o
 before_nodes section n o same before = omega (arith, before, ap (λ row. 2 ^ row) same)
 
-above_nodes : (section : ℕ) (n o : Nodes) → n.from + n.count ≤ 2 ^ n.row → n.row < o.row → nodes_place section n + 32 * n.count ≤ nodes_place section o
+above_nodes : (section : ℕ) (n o : Nodes) → n.from + n.count ≤ 2 ^ n.row → n.row < o.row → nodes_offset section n + 32 * n.count ≤ nodes_offset section o
 above_nodes section n o inside above =
     let next : 2 ^ n.row * 2 ≤ 2 ^ o.row = omega (arith, pow-le-pow_right {n = 2} (omega arith) {i = n.row + 1} {j = o.row} (omega arith), pow-add 2 n.row 1) in
     omega (arith, inside, next, pow_pos n.row)
@@ -263,30 +263,30 @@ above_nodes section n o inside above =
 -- the pieces of a tree are apart
 module _ (g : Geometry) (a b section : ℕ) (r : IsRange g a b) where
   start : NodePiece → ℕ
-  start p = nodes_place section (nodes_of g a b p)
+  start p = nodes_offset section (nodes_of g a b p)
 
   size : NodePiece → ℕ
   size p = 32 * (nodes_of g a b p).count
 
-  on_level : (l : ℕ) (i j : ℕ) → i < j → nodes_place section (nodes_at (level_at g a b l) i) + 32 * (nodes_at (level_at g a b l) i).count
-      ≤ nodes_place section (nodes_at (level_at g a b l) j)
+  on_level : (l : ℕ) (i j : ℕ) → i < j → nodes_offset section (nodes_at (level_at g a b l) i) + 32 * (nodes_at (level_at g a b l) i).count
+      ≤ nodes_offset section (nodes_at (level_at g a b l) j)
   on_level l i j before =
       before_nodes section (nodes_at (level_at g a b l) i) (nodes_at (level_at g a b l) j) refl (same_level (level_at g a b l) i j before)
 
   above : (p q : NodePiece) → IsNodePiece g a b p → IsNodePiece g a b q → p.level < q.level
-      → nodes_place section (nodes_of g a b p) + 32 * (nodes_of g a b p).count ≤ nodes_place section (nodes_of g a b q)
+      → nodes_offset section (nodes_of g a b p) + 32 * (nodes_of g a b p).count ≤ nodes_offset section (nodes_of g a b q)
   above p q is also low =
       above_nodes section (nodes_of g a b p) (nodes_of g a b q) (piece_lies g a b p r is).inside (rows_rise (tree_height g) p.level q.level low also.level)
 
   beside : (p q : NodePiece) → p.level ≡ q.level → p.index < q.index
-      → nodes_place section (nodes_of g a b p) + 32 * (nodes_of g a b p).count ≤ nodes_place section (nodes_of g a b q)
+      → nodes_offset section (nodes_of g a b p) + 32 * (nodes_of g a b p).count ≤ nodes_offset section (nodes_of g a b q)
   beside p q same before =
-      subst (λ l. nodes_place section (nodes_of g a b p) + 32 * (nodes_of g a b p).count ≤ nodes_place section (nodes_at (level_at g a b l) q.index)) same
+      subst (λ l. nodes_offset section (nodes_of g a b p) + 32 * (nodes_of g a b p).count ≤ nodes_offset section (nodes_at (level_at g a b l) q.index)) same
       (on_level p.level p.index q.index before)
 
   pub nodes_apart : (p q : NodePiece) → IsNodePiece g a b p → IsNodePiece g a b q → (p ≡ q)
-      ⊎ AreApart (nodes_place section (nodes_of g a b p)) (32 * (nodes_of g a b p).count)
-      (nodes_place section (nodes_of g a b q)) (32 * (nodes_of g a b q).count)
+      ⊎ AreApart (nodes_offset section (nodes_of g a b p)) (32 * (nodes_of g a b p).count)
+      (nodes_offset section (nodes_of g a b q)) (32 * (nodes_of g a b q).count)
   nodes_apart p q is also =
       elim (cases_order p.level q.level) [
         | inl same ↦ elim (cases_order p.index q.index) [
@@ -303,11 +303,11 @@ module _ (g : Geometry) (a b section : ℕ) (r : IsRange g a b) where
       ]
 
 -- what lies in an earlier section is before what lies in a later one
-earlier : (s e place len s' e' place' len' : ℕ) → LiesIn s e place len → LiesIn s' e' place' len' → e ≤ s' → place + len ≤ place'
-earlier s e place len s' e' place' len' one other order = let f = one.ends in let t = other.begins in omega arith
+earlier : (s e offset len s' e' offset' len' : ℕ) → LiesIn s e offset len → LiesIn s' e' offset' len' → e ≤ s' → offset + len ≤ offset'
+earlier s e offset len s' e' offset' len' one other order = let f = one.ends in let t = other.begins in omega arith
 
 data_apart : (g : Geometry) (a b i j : ℕ) → IsRange g a b → (Data i ≡ Data j)
-    ⊎ AreApart (place_of g a b (Data i)) (length_of g a b (Data i)) (place_of g a b (Data j)) (length_of g a b (Data j))
+    ⊎ AreApart (offset_of g a b (Data i)) (length_of g a b (Data i)) (offset_of g a b (Data j)) (length_of g a b (Data j))
 data_apart g a b i j r =
     elim (cases_order i j) [
       | inl same ↦ inl (ap Data same)
@@ -319,12 +319,12 @@ data_apart g a b i j r =
 
 -- parts of two sections are apart
 module _ (g : Geometry) (a b : ℕ) (r : IsRange g a b) (p q : Part) (is : IsPart g a b p) (also : IsPart g a b q) where
-  first : section_end (places_of g) p ≤ section_start (places_of g) q
-      → AreApart (place_of g a b p) (length_of g a b p) (place_of g a b q) (length_of g a b q)
+  first : section_end (offsets_of g) p ≤ section_start (offsets_of g) q
+      → AreApart (offset_of g a b p) (length_of g a b p) (offset_of g a b q) (length_of g a b q)
   first order = inl (earlier _ _ _ _ _ _ _ _ (lie_inside g a b p r is) (lie_inside g a b q r also) order)
 
-  second : section_end (places_of g) q ≤ section_start (places_of g) p
-      → AreApart (place_of g a b p) (length_of g a b p) (place_of g a b q) (length_of g a b q)
+  second : section_end (offsets_of g) q ≤ section_start (offsets_of g) p
+      → AreApart (offset_of g a b p) (length_of g a b p) (offset_of g a b q) (length_of g a b q)
   second order = inr (earlier _ _ _ _ _ _ _ _ (lie_inside g a b q r also) (lie_inside g a b p r is) order)
 
 one_of : {X Y : Type 0} {x y : X} (f : X → Y) {A : Type 0} → (x ≡ y) ⊎ A → (f x ≡ f y) ⊎ A
@@ -337,12 +337,12 @@ are_apart g a b ShareHashes (BlockTree q) r is also = inr (second g a b r ShareH
 are_apart g a b ShareHashes (CiphertextTree q) r is also = inr (second g a b r ShareHashes (CiphertextTree q) is also (omega arith))
 are_apart g a b ShareHashes (Data j) r is also = inr (second g a b r ShareHashes (Data j) is also (omega arith))
 are_apart g a b (BlockTree p) ShareHashes r is also = inr (first g a b r (BlockTree p) ShareHashes is also (omega arith))
-are_apart g a b (BlockTree p) (BlockTree q) r is also = one_of BlockTree (nodes_apart g a b (places_of g).block_tree r p q is also)
+are_apart g a b (BlockTree p) (BlockTree q) r is also = one_of BlockTree (nodes_apart g a b (offsets_of g).block_tree r p q is also)
 are_apart g a b (BlockTree p) (CiphertextTree q) r is also = inr (second g a b r (BlockTree p) (CiphertextTree q) is also (omega arith))
 are_apart g a b (BlockTree p) (Data j) r is also = inr (second g a b r (BlockTree p) (Data j) is also (omega arith))
 are_apart g a b (CiphertextTree p) ShareHashes r is also = inr (first g a b r (CiphertextTree p) ShareHashes is also (omega arith))
 are_apart g a b (CiphertextTree p) (BlockTree q) r is also = inr (first g a b r (CiphertextTree p) (BlockTree q) is also (omega arith))
-are_apart g a b (CiphertextTree p) (CiphertextTree q) r is also = one_of CiphertextTree (nodes_apart g a b (places_of g).ciphertext_tree r p q is also)
+are_apart g a b (CiphertextTree p) (CiphertextTree q) r is also = one_of CiphertextTree (nodes_apart g a b (offsets_of g).ciphertext_tree r p q is also)
 are_apart g a b (CiphertextTree p) (Data j) r is also = inr (second g a b r (CiphertextTree p) (Data j) is also (omega arith))
 are_apart g a b (Data i) ShareHashes r is also = inr (first g a b r (Data i) ShareHashes is also (omega arith))
 are_apart g a b (Data i) (BlockTree q) r is also = inr (first g a b r (Data i) (BlockTree q) is also (omega arith))
@@ -350,47 +350,47 @@ are_apart g a b (Data i) (CiphertextTree q) r is also = inr (first g a b r (Data
 are_apart g a b (Data i) (Data j) r is also = data_apart g a b i j r
 
 -- the byte of a piece is one of a block
-in_block : (g : Geometry) (a b i place : ℕ) → IsRange g a b → IsInPiece g a b i place → (number : ℕ) × (a ≤ number) × (number < b) × IsInBlock g number place
-in_block g a b i place r is =
+in_block : (g : Geometry) (a b i offset : ℕ) → IsRange g a b → IsInPiece g a b i offset → (number : ℕ) × (a ≤ number) × (number < b) × IsInBlock g number offset
+in_block g a b i offset r is =
     let h = header_size (layout_of g) in
     let size = block_size g in
     let begins = is.begins in
     let ends = is.ends in
     let first = data_from_first g r.valid a i in
-    let from : a * size ≤ place - h = omega (arith, first, begins) in
-    let before : place - h < b * size = omega (arith, begins, ends) in
-    let inside : place - h < share_data_size g = omega (arith, begins, ends) in
+    let from : a * size ≤ offset - h = omega (arith, first, begins) in
+    let before : offset - h < b * size = omega (arith, begins, ends) in
+    let inside : offset - h < share_data_size g = omega (arith, begins, ends) in
     let some : 0 < size = elim (cases_lt 0 size) [ inl found ↦ found | inr none ↦ let z : size ≡ 0 = omega arith in absurd (omega (arith, before, ap (λ n. b * n) z)) ] in
-    let number = (place - h) / size in
-    let split = div-add-mod' (place - h) size in
-    let rest = mod_below (place - h) size some in (
+    let number = (offset - h) / size in
+    let split = div-add-mod' (offset - h) size in
+    let rest = mod_below (offset - h) size some in (
       number,
-      le-div a (place - h) size some from,
-      div_below (place - h) size b some before,
+      le-div a (offset - h) size some from,
+      div_below (offset - h) size b some before,
       record { begins = omega (arith, split); ends = omega (arith, split, rest, inside) },
     )
 
 -- the byte of a block is one of a piece
-in_piece : (g : Geometry) (a b place number : ℕ) → IsRange g a b → a ≤ number → number < b → IsInBlock g number place → (i : ℕ) × IsInPiece g a b i place
-in_piece g a b place number r from before is =
+in_piece : (g : Geometry) (a b offset number : ℕ) → IsRange g a b → a ≤ number → number < b → IsInBlock g number offset → (i : ℕ) × IsInPiece g a b i offset
+in_piece g a b offset number r from before is =
     let h = header_size (layout_of g) in
     let size = block_size g in
     let begins = is.begins in
     let ends = is.ends in
     let low : a * size ≤ number * size = mul-le-mul_right size from in
     let high : number * size + size ≤ b * size = omega (arith, mul-le-mul_right {m = number + 1} {n = b} size (omega arith)) in
-    let start : block_place g a ≤ place = omega arith in
-    let end : place < data_end g b = omega arith in (
-      piece_at g a place,
+    let start : block_start g a ≤ offset = omega arith in
+    let end : offset < data_end g b = omega arith in (
+      piece_at g a offset,
       record {
-        part = (let more = data_more g r.valid a place (data_end g b - 1) (omega (arith, end)) in omega (arith, more));
-        begins = data_from g r.valid a place start;
-        ends = omega (arith, data_from g r.valid a place start, data_before g r.valid a place, end);
+        part = (let more = data_more g r.valid a offset (data_end g b - 1) (omega (arith, end)) in omega (arith, more));
+        begins = data_from g r.valid a offset start;
+        ends = omega (arith, data_from g r.valid a offset start, data_before g r.valid a offset, end);
       },
     )
 
 pub hold_the_blocks : PartsHoldTheBlocks
-hold_the_blocks g a b place r = (λ i. in_block g a b i place r, λ number. in_piece g a b place number r)
+hold_the_blocks g a b offset r = (λ i. in_block g a b i offset r, λ number. in_piece g a b offset number r)
 
 pub hold_groups : LevelsHoldGroups
 hold_groups g a b level number node r there from before is =
@@ -460,9 +460,9 @@ under_pieces g a b p r some is =
     let high : row ≤ m = (row_high m p.level is.level).1 in
     let begins : cut_at l p.index < l.end = piece_begins l.end max_nodes (l.first / max_nodes + p.index) (omega arith) (let index = is.index in omega arith) in
     let wanted = first_below_end m row a b (segment_count g) r.some r.within in
-    let among : (place : ℕ) → IsAmong (nodes_of g a b p) place → IsAmong (nodes_of g a b (piece_over g a p)) (place / 128) =
-    λ place one.
-    let read = reads_above m row over a b (segment_count g) place rows high (omega (arith, one)) (omega (arith, one, begins, wanted)) in
+    let among : (offset : ℕ) → IsAmong (nodes_of g a b p) offset → IsAmong (nodes_of g a b (piece_over g a p)) (offset / 128) =
+    λ offset one.
+    let read = reads_above m row over a b (segment_count g) offset rows high (omega (arith, one)) (omega (arith, one, begins, wanted)) in
     let first = reads_above m row over a b (segment_count g) l.first rows high (omega arith) wanted in
     let left = div_le (above.first) (l.first / 128) max_nodes (omega arith) first.0 in
     (omega (arith, one, begins, wanted, read, left), omega (arith, one, begins, wanted, read, left)) in
@@ -475,24 +475,24 @@ under_pieces g a b p r some is =
     }
 
 -- the block of a wanted segment
-pub block_low : (g : Geometry) (number : ℕ) → IsGeometry g → number < segment_count g → block_place g number ≤ 2 ^ 40 + 68
+pub block_low : (g : Geometry) (number : ℕ) → IsGeometry g → number < segment_count g → block_start g number ≤ 2 ^ 40 + 68
 block_low g number valid there =
     let begins = block_begins g number (number + 1) (record { valid = valid; some = omega arith; within = omega (arith, there) }) in
     omega (arith, begins, header_short (layout_of g), share_low g valid)
 
 -- its pieces are some of the data's
 module _ (g : Geometry) (a b number : ℕ) (r : IsRange g a b) (from : a ≤ number) (before : number < b) (some : 0 < block_length g number) where
-  pub block_after : block_place g a ≤ block_place g number
+  pub block_after : block_start g a ≤ block_start g number
   block_after = omega (arith, mul-le-mul_right {m = a} {n = number} (block_size g) from)
 
-  pub block_within : piece_at g a (block_place g number + block_length g number - 1) < data_pieces g a b
+  pub block_within : piece_at g a (block_start g number + block_length g number - 1) < data_pieces g a b
   block_within =
       let high = mul-le-mul_right {m = number + 1} {n = b} (block_size g) (omega (arith, before)) in
-      let inside : block_place g number + block_length g number - 1 ≤ data_end g b - 1 = omega (arith, high, some) in
-      omega (arith, data_more g r.valid a (block_place g number + block_length g number - 1) (data_end g b - 1) inside)
+      let inside : block_start g number + block_length g number - 1 ≤ data_end g b - 1 = omega (arith, high, some) in
+      omega (arith, data_more g r.valid a (block_start g number + block_length g number - 1) (data_end g b - 1) inside)
 
-  pub block_begins_first : piece_at g a (block_place g number) ≤ piece_at g a (block_place g number + block_length g number - 1)
-  block_begins_first = data_more g r.valid a (block_place g number) (block_place g number + block_length g number - 1) (omega (arith, some))
+  pub block_begins_first : piece_at g a (block_start g number) ≤ piece_at g a (block_start g number + block_length g number - 1)
+  block_begins_first = data_more g r.valid a (block_start g number) (block_start g number + block_length g number - 1) (omega (arith, some))
 
 -- numbers that are one by what they stand for
 pub same_node : (g : Geometry) (level number h r node : ℕ) → h ≡ tree_height g → r ≡ row_of (tree_height g) level → node ≡ first_node h r number

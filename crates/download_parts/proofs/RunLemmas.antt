@@ -6,7 +6,7 @@ use Rattle.std.proofs.lemmas.Bool.{cases_lt}
 use Rattle.std.proofs.lemmas.Nat.{div-add-mod', div-mul-add, div_below, le-div, mod-mul-add, mod_below}
 use Rattle.std.proofs.lemmas.Grind.{div_ceil_times}
 
--- where a piece begins, and the piece in which a place lies
+-- where a piece begins, and the piece in which an offset lies
 unfoldable pub piece_begin : ℕ → ℕ → ℕ → ℕ
 piece_begin u q i = i / q * u + 32768 * (i % q)
 
@@ -74,7 +74,7 @@ module _ (u q : ℕ) (some : 0 < u) (reads : 0 < q) (least : q * 32768 < u + 327
   pub rise : (i j : ℕ) → i ≤ j → piece_begin u q i ≤ piece_begin u q j
   rise i j le = let e : i + (j - i) ≡ j = omega (arith, le) in omega (arith, ap (piece_begin u q) e, rises_by i (j - i))
 
-  -- a place lies in its piece
+  -- an offset lies in its piece
   read_below : (n : ℕ) → n % u / 32768 < q
   read_below n = div_below (n % u) 32768 q (omega arith) (omega (arith, mod_below n u some, room))
 
@@ -98,21 +98,21 @@ module _ (u q : ℕ) (some : 0 < u) (reads : 0 < q) (least : q * 32768 < u + 327
   unfolding piece_of
   piece_rest n = omega (arith, piece_at_run (n / u) (n % u / 32768) (read_below n), div-add-mod' n u)
 
-  -- a later place lies in no earlier piece
+  -- a later offset lies in no earlier piece
   pub piece_rises : (n o : ℕ) → n ≤ o → piece_of u q n ≤ piece_of u q o
   piece_rises n o le = elim (cases_lt (piece_of u q o) (piece_of u q n)) [
     | inr low ↦ low
     | inl high ↦ absurd (omega (arith, rise (piece_of u q o + 1) (piece_of u q n) (omega (arith, high)), piece_from n, piece_before o, le))
   ]
 
-  -- the next place lies in its piece, or in the next one
+  -- the next offset lies in its piece, or in the next one
   pub piece_steps : (n o : ℕ) → o ≤ n + 1 → piece_of u q o ≤ piece_of u q n + 1
   piece_steps n o le = elim (cases_lt (piece_of u q n + 1) (piece_of u q o)) [
     | inr low ↦ low
     | inl high ↦ absurd (omega (arith, rise (piece_of u q n + 1 + 1) (piece_of u q o) (omega (arith, high)), rises (piece_of u q n + 1), piece_before n, piece_from o, le))
   ]
 
-  -- a piece that begins before a place is none behind its own
+  -- a piece that begins before an offset is none behind its own
   pub piece_within : (i n : ℕ) → piece_begin u q i ≤ n → i ≤ piece_of u q n
   piece_within i n le = elim (cases_lt (piece_of u q n) i) [
     | inr low ↦ low

@@ -12,12 +12,12 @@ use Rattle.merkle.proofs.StateLemmas.{known-lead}
 use Rattle.download_parts.specs.declared.part.Nodes.{Nodes}
 use Rattle.download_parts.specs.TreeLaws.{BlockRootsLead, LeavesLead}
 use Rattle.download_parts.specs.Offers.{nodes_offered, numbered, share_hashes_offered}
-use Rattle.download_parts.specs.Trees.{KnowsAllOf, known_leaf, share_places}
+use Rattle.download_parts.specs.Trees.{KnowsAllOf, known_leaf, share_leaves}
 use Rattle.download_parts.proofs.OfferLemmas.{numbered_long, offered_long}
 
--- the share tree is as high with all its places
-pub height-share_places : (total : ℕ) → height (share_places total) ≡ height total
-height-share_places total = height_is (2 ^ height total) (height total) (omega arith) (λ k low. pow-lt low)
+-- the share tree is as high with all its leaves
+pub height-share_leaves : (total : ℕ) → height (share_leaves total) ≡ height total
+height-share_leaves total = height_is (2 ^ height total) (height total) (omega arith) (λ k low. pow-lt low)
 
 pub leaves_lead : LeavesLead
 leaves_lead p root count leaf hash leads inside knows =
@@ -27,9 +27,9 @@ leaves_lead p root count leaf hash leads inside knows =
 
 pub block_roots_lead : BlockRootsLead
 block_roots_lead share_root total share root is inside =
-    let low : share < share_places total = omega (arith, inside, height_room total) in
-    let l = leaves_lead is.tree share_root (share_places total) share root is.leads low is.known in
-    let up = height-share_places total in
+    let low : share < share_leaves total = omega (arith, inside, height_room total) in
+    let l = leaves_lead is.tree share_root (share_leaves total) share root is.leads low is.known in
+    let up = height-share_leaves total in
     let siblings = known_siblings is.tree share in
     let long = subst (λ h. length siblings ≡ h) up l.1 in
     let leads = subst (λ h. path_root h share root siblings ≡ share_root) up l.2 in
@@ -43,19 +43,19 @@ number_at (n ∷ ns) (e ∷ es) zero there = refl
 number_at (n ∷ ns) (e ∷ es) (suc k) there = number_at ns es k (omega (arith, there))
 
 -- the share's own hash is known once its share hashes are taken
-pub known-own : (old new : PartialState) (total share : ℕ) (bytes root : List ℕ) (place : ℕ) → old.leaf_count ≡ share_places total
-    → Takes old (share_hashes_offered total share bytes) new → place < length (share_hashes_offered total share bytes)
-    → get_or (needed_numbers (height total) share) place 0 ≡ node_number (height total) share
-    → (get_or (share_hashes_offered total share bytes) place (0, [])).1 ≡ root → known_leaf new share ≡ Some root
-known-own old new total share bytes root place count takes there own is =
+pub known-own : (old new : PartialState) (total share : ℕ) (bytes root : List ℕ) (offset : ℕ) → old.leaf_count ≡ share_leaves total
+    → Takes old (share_hashes_offered total share bytes) new → offset < length (share_hashes_offered total share bytes)
+    → get_or (needed_numbers (height total) share) offset 0 ≡ node_number (height total) share
+    → (get_or (share_hashes_offered total share bytes) offset (0, [])).1 ≡ root → known_leaf new share ≡ Some root
+known-own old new total share bytes root offset count takes there own is =
     let offers = share_hashes_offered total share bytes in
     let number = node_number (height total) share in
-    let same : height total ≡ height new.leaf_count = sym (ap height (takes.leaf_count ∙ count) ∙ height-share_places total) in
-    let at : slice_get offers place ≡ Some (number, root) =
-    slice_get-get_or offers place (0, []) there
-    ∙ ap (λ n. Some (n, (get_or offers place (0, [])).1)) (number_at (needed_numbers (height total) share) _ place there ∙ own)
+    let same : height total ≡ height new.leaf_count = sym (ap height (takes.leaf_count ∙ count) ∙ height-share_leaves total) in
+    let at : slice_get offers offset ≡ Some (number, root) =
+    slice_get-get_or offers offset (0, []) there
+    ∙ ap (λ n. Some (n, (get_or offers offset (0, [])).1)) (number_at (needed_numbers (height total) share) _ offset there ∙ own)
     ∙ ap (λ (h : List ℕ). Some (number, h)) is in
-    ap (λ h. known_at new (node_number h share)) (sym same) ∙ takes.known.offered place number root at
+    ap (λ h. known_at new (node_number h share)) (sym same) ∙ takes.known.offered offset number root at
 
 -- nodes whose hashes are bytes, 32 each, are taken, or the call refuses and changes nothing
 pub known_nodes : {X E : Type 0} (r : Result X E) (old new : PartialState) (nodes : Nodes) (bytes : List ℕ)

@@ -5,11 +5,11 @@ use Rattle.share_verify.specs.ShareHashes.{entries_in}
 use Rattle.share_verify.specs.TreeSection.{hashes_in}
 use Rattle.download_parts.specs.declared.part.Nodes.{Nodes}
 
--- hashes one after another, as those of the nodes of a row from this place on
+-- hashes one after another, as those of the nodes of a row from this position on
 abbrev pub offered_nodes : ℕ → ℕ → List (List ℕ) → List (ℕ × List ℕ)
-offered_nodes row place [] = []
-offered_nodes row place (hash ∷ hashes) =
-    (node_number row place, hash) ∷ offered_nodes row (place + 1) hashes
+offered_nodes row position [] = []
+offered_nodes row position (hash ∷ hashes) =
+    (node_number row position, hash) ∷ offered_nodes row (position + 1) hashes
 
 -- share hashes one after another, as those of the nodes with these numbers; each stands behind its
 -- number's two bytes

@@ -4,7 +4,7 @@ use Rattle.std.specs.Prelude.{None, nat_lt, if◌then◌else◌}
 use Rattle.std.specs.Int.{div_ceil}
 use Rattle.merkle.specs.Tree.{node_number}
 use Rattle.share_layout.specs.Geometry.{Geometry, block_size, hashes_size, share_data_size}
-use Rattle.share_layout.specs.Layout.{header_size, layout_of, places_of}
+use Rattle.share_layout.specs.Layout.{header_size, layout_of, offsets_of}
 use Rattle.share_layout.specs.Pieces.{block_length}
 use Rattle.download_parts.specs.Level.{level_at, level_count, tree_height}
 use Rattle.download_parts.specs.declared.level.Level.{Level}
@@ -39,9 +39,9 @@ nodes_at l index = let from = max l.first (cut_at l index) in record {
 abbrev pub nodes_of : Geometry → ℕ → ℕ → NodePiece → Nodes
 nodes_of g a b p = nodes_at (level_at g a b p.level) p.index
 
--- the node at this place of their row is one of these
+-- the node at this position of their row is one of these
 abbrev pub IsAmong : Nodes → ℕ → Type 0
-IsAmong n place = (n.from ≤ place) × (place < n.from + n.count)
+IsAmong n offset = (n.from ≤ offset) × (offset < n.from + n.count)
 
 -- the level has this piece
 pub record IsNodePiece (g : Geometry) (a b : ℕ) (p : NodePiece) : Type 0 where
@@ -62,8 +62,8 @@ next_piece g a b p =
     None
 
 -- where the block of a segment begins in a share
-abbrev pub block_place : Geometry → ℕ → ℕ
-block_place g number = header_size (layout_of g) + number * block_size g
+abbrev pub block_start : Geometry → ℕ → ℕ
+block_start g number = header_size (layout_of g) + number * block_size g
 
 -- where the blocks of the segments before `b` end
 abbrev pub data_end : Geometry → ℕ → ℕ
@@ -78,18 +78,18 @@ abbrev pub run_reads : Geometry → ℕ
 run_reads g = div_ceil (run_size g) max_read
 
 -- where a piece of the data begins: the next begins where it ends
-unfoldable pub data_place : Geometry → ℕ → ℕ → ℕ
-data_place g a i =
-    block_place g a + i / run_reads g * run_size g + max_read * (i % run_reads g)
+unfoldable pub data_offset : Geometry → ℕ → ℕ → ℕ
+data_offset g a i =
+    block_start g a + i / run_reads g * run_size g + max_read * (i % run_reads g)
 
--- the piece in which a place of the data lies, and how far behind its beginning
+-- the piece in which an offset of the data lies, and how far behind its beginning
 unfoldable pub piece_at : Geometry → ℕ → ℕ → ℕ
-piece_at g a place =
-    let begin = place - block_place g a in
+piece_at g a offset =
+    let begin = offset - block_start g a in
     begin / run_size g * run_reads g + begin % run_size g / max_read
 
 unfoldable pub offset_at : Geometry → ℕ → ℕ → ℕ
-offset_at g a place = (place - block_place g a) % run_size g % max_read
+offset_at g a offset = (offset - block_start g a) % run_size g % max_read
 
 -- how many pieces the blocks of these segments have
 abbrev pub data_pieces : Geometry → ℕ → ℕ → ℕ
@@ -102,38 +102,38 @@ IsPart g a b (BlockTree p) = IsNodePiece g a b p
 IsPart g a b (CiphertextTree p) = IsNodePiece g a b p
 IsPart g a b (Data i) = i < data_pieces g a b
 
--- the place of some nodes in the section of a tree
-abbrev pub nodes_place : ℕ → Nodes → ℕ
-nodes_place section n = section + 32 * node_number n.row n.from
+-- the offset of some nodes in the section of a tree
+abbrev pub nodes_offset : ℕ → Nodes → ℕ
+nodes_offset section n = section + 32 * node_number n.row n.from
 
--- the place of a part in the share, and its length
-abbrev pub place_of : Geometry → ℕ → ℕ → Part → ℕ
-place_of g a b ShareHashes = (places_of g).share_hashes
-place_of g a b (BlockTree p) = nodes_place (places_of g).block_tree (nodes_of g a b p)
-place_of g a b (CiphertextTree p) = nodes_place (places_of g).ciphertext_tree (nodes_of g a b p)
-place_of g a b (Data i) = data_place g a i
+-- the offset of a part in the share, and its length
+abbrev pub offset_of : Geometry → ℕ → ℕ → Part → ℕ
+offset_of g a b ShareHashes = (offsets_of g).share_hashes
+offset_of g a b (BlockTree p) = nodes_offset (offsets_of g).block_tree (nodes_of g a b p)
+offset_of g a b (CiphertextTree p) = nodes_offset (offsets_of g).ciphertext_tree (nodes_of g a b p)
+offset_of g a b (Data i) = data_offset g a i
 
 abbrev pub length_of : Geometry → ℕ → ℕ → Part → ℕ
 length_of g a b ShareHashes = hashes_size g
 length_of g a b (BlockTree p) = 32 * (nodes_of g a b p).count
 length_of g a b (CiphertextTree p) = 32 * (nodes_of g a b p).count
-length_of g a b (Data i) = min (data_place g a (i + 1)) (data_end g b) - data_place g a i
+length_of g a b (Data i) = min (data_offset g a (i + 1)) (data_end g b) - data_offset g a i
 
--- a read of so many bytes from this place on is a part of the plan
-pub record IsPlanned (g : Geometry) (a b place len : ℕ) : Type 0 where
+-- a read of so many bytes from this offset on is a part of the plan
+pub record IsPlanned (g : Geometry) (a b offset len : ℕ) : Type 0 where
   pub part : Part
   pub is : IsPart g a b part
-  pub place_is : place ≡ place_of g a b part
+  pub begin_is : offset ≡ offset_of g a b part
   pub len_is : len ≡ length_of g a b part
 
 -- where the block of a segment ends
 abbrev pub block_stop : Geometry → ℕ → ℕ
-block_stop g number = block_place g number + block_length g number
+block_stop g number = block_start g number + block_length g number
 
--- a read of so many bytes from this place on that comes to the end of a block of these segments
+-- a read of so many bytes from this offset on that comes to the end of a block of these segments
 -- ends with the end of one
 abbrev pub EndsWithBlock : Geometry → ℕ → ℕ → ℕ → ℕ → Type 0
-EndsWithBlock g a b place len =
+EndsWithBlock g a b offset len =
     (number : ℕ) → a ≤ number → number < b
-    → place < block_stop g number → block_stop g number ≤ place + len
-    → (last : ℕ) × (a ≤ last) × (last < b) × (place + len ≡ block_stop g last)
+    → offset < block_stop g number → block_stop g number ≤ offset + len
+    → (last : ℕ) × (a ≤ last) × (last < b) × (offset + len ≡ block_stop g last)

@@ -29,10 +29,10 @@ pub record KnowsAllOf (p q : PartialState) : Type 0 where
 abbrev pub known_leaf : PartialState → ℕ → Option (List ℕ)
 known_leaf p leaf = known_at p (leaf_number p.leaf_count leaf)
 
--- how many places the share tree has for leaves: the power of two with room for all shares. What
+-- how many leaves the share tree has: the power of two with room for all shares. What
 -- stands behind the last share is not asked for.
-abbrev pub share_places : ℕ → ℕ
-share_places total = 2 ^ height total
+abbrev pub share_leaves : ℕ → ℕ
+share_leaves total = 2 ^ height total
 
 -- the share tree, with a leaf for each share, and the ciphertext tree, with one for each segment
 pub record FileTreesState : Type 0 where
@@ -49,14 +49,14 @@ trees_state geometry shares ciphertext =
 abbrev pub starting_trees : Contents → Geometry → FileTreesState
 starting_trees u g = record {
   geometry = g;
-  shares = starting u.share_root_hash (share_places g.total);
+  shares = starting u.share_root_hash (share_leaves g.total);
   ciphertext = starting u.crypttext_root_hash (segment_count g);
 }
 
 -- What holds of the trees of each file: the known nodes lead to the roots, and have 32 bytes each.
 pub record AreTrees (t : FileTreesState) : Type 0 where
   pub valid : IsGeometry t.geometry
-  pub shares : LeadTo t.shares t.shares.root (share_places t.geometry.total)
+  pub shares : LeadTo t.shares t.shares.root (share_leaves t.geometry.total)
   pub ciphertext : LeadTo t.ciphertext t.ciphertext.root (segment_count t.geometry)
   pub share_hashes : KnowsHashes t.shares
   pub hashes : KnowsHashes t.ciphertext
@@ -71,7 +71,7 @@ pub record HaveSameRoots (old new : FileTreesState) : Type 0 where
 -- the share tree
 pub record IsBlockRoot (share_root : List ℕ) (total share : ℕ) (root : List ℕ) : Type 0 where
   pub tree : PartialState
-  pub leads : LeadTo tree share_root (share_places total)
+  pub leads : LeadTo tree share_root (share_leaves total)
   pub known : known_leaf tree share ≡ Some root
 
 -- the leaf that is known for a segment is the hash of this block

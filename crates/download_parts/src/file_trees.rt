@@ -9,11 +9,11 @@ ghost use Rattle.share_layout.specs.Geometry.{hashes_size, segment_count};
 ghost use Rattle.download_parts.specs.Offers.{nodes_offered, share_hashes_offered};
 ghost use Rattle.download_parts.specs.Refusal.{HasNumbers, IsHashesRefusal};
 ghost use Rattle.download_parts.specs.Trees.{AreTrees, HaveSameRoots, IsBlockRoot, IsBlockTree};
-ghost use Rattle.download_parts.specs.Trees.{known_leaf, share_places, starting_trees};
+ghost use Rattle.download_parts.specs.Trees.{known_leaf, share_leaves, starting_trees};
 
 use crate::block_tree::BlockTree;
 use crate::error::TreeFault;
-use crate::offers::{chained, own_place};
+use crate::offers::{chained, own_position};
 use crate::part::Nodes;
 use crate::partial::{leaf_of, offer, offer_nodes, tree_with};
 use merkle::{Padding, Partial, height};
@@ -48,11 +48,11 @@ impl FileTrees {
         ensures trees { IfOk result (λ trees. trees ≡ starting_trees ueb.now geometry.now) }
         ensures right { IfOk result AreTrees }
     {
-        let places = Padding::of(share_places(geometry));
+        let positions = Padding::of(share_leaves(geometry));
         let segments = Padding::of(geometry.segment_count());
         Ok(FileTrees {
             geometry: *geometry,
-            shares: tree_with(alloc, ueb.share_root_hash(), &places)?,
+            shares: tree_with(alloc, ueb.share_root_hash(), &positions)?,
             ciphertext: tree_with(alloc, ueb.crypttext_root_hash(), &segments)?,
         })
     }
@@ -97,7 +97,7 @@ impl FileTrees {
         let height = share_height(&self.geometry);
         let leaf = u32::from(share);
         let offers = chained(alloc, height, leaf, bytes)?;
-        let root = offers[own_place(height, leaf) as usize].1;
+        let root = offers[own_position(height, leaf) as usize].1;
         let padding = self.ciphertext.padding();
         let tree = BlockTree::new(alloc, &root, self.geometry.segment_count(), padding)?;
         offer(&mut self.shares, &offers, Check::ShareHashes)?;
@@ -174,9 +174,9 @@ fn share_height(geometry: &Geometry) -> u32
     height(u32::from(geometry.total()))
 }
 
-// How many places the share tree has for leaves: a power of two.
-fn share_places(geometry: &Geometry) -> u32
-    ensures value { result ≡ share_places geometry.now.total }
+// How many positions the share tree has for leaves: a power of two.
+fn share_leaves(geometry: &Geometry) -> u32
+    ensures value { result ≡ share_leaves geometry.now.total }
     ensures range { (0 < result) × (result ≤ 256) }
 {
     1 << share_height(geometry)

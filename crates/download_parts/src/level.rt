@@ -5,8 +5,8 @@
 pub struct Level {
     /// The row.
     pub row: u32,
-    /// The place of the first node in the row.
+    /// The position of the first node in the row.
     pub first: u32,
-    /// The place behind the last.
+    /// The offset behind the last.
     pub end: u32,
 }

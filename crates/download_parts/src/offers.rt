@@ -14,7 +14,7 @@ use std::alloc::{AllocError, Global};
 pub(crate) type Offer = (u32, [u8; 32]);
 
 /// The hashes of these nodes, one after another in the bytes.
-pub(crate) fn placed(alloc: Global, nodes: &Nodes, bytes: &[u8]) -> Result<Vec<Offer>, AllocError>
+pub(crate) fn numbered(alloc: Global, nodes: &Nodes, bytes: &[u8]) -> Result<Vec<Offer>, AllocError>
     requires low { nodes.now.row ≤ 20 }
     requires inside { nodes.now.from + nodes.now.count ≤ 2 ^ nodes.now.row }
     requires long { length bytes.now ≡ 32 * nodes.now.count }
@@ -22,10 +22,10 @@ pub(crate) fn placed(alloc: Global, nodes: &Nodes, bytes: &[u8]) -> Result<Vec<O
 {
     let (hashes, _) = bytes.as_chunks::<32>();
     let mut offers = Vec::with_capacity(alloc, hashes.len())?;
-    let mut place = nodes.from;
+    let mut position = nodes.from;
     for hash in hashes {
-        offers.push((node_number(nodes.row, place), *hash))?;
-        place += 1;
+        offers.push((node_number(nodes.row, position), *hash))?;
+        position += 1;
     }
     Ok(offers)
 }
@@ -47,9 +47,9 @@ pub(crate) fn chained(
 {
     let (entries, _) = bytes.as_chunks::<34>();
     let mut offers = Vec::with_capacity(alloc, entries.len())?;
-    for place in 0..height + 1 {
-        let hash = hash_of(&entries[place as usize]);
-        offers.push((needed_number(height, leaf, place), hash))?;
+    for position in 0..height + 1 {
+        let hash = hash_of(&entries[position as usize]);
+        offers.push((needed_number(height, leaf, position), hash))?;
     }
     Ok(offers)
 }
@@ -63,9 +63,9 @@ fn hash_of(entry: &[u8; 34]) -> [u8; 32]
     hash
 }
 
-/// The place of a leaf's own hash among those that lead from it to the root of a tree of this
+/// The position of a leaf's own hash among those that lead from it to the root of a tree of this
 /// height.
-pub(crate) fn own_place(height: u32, leaf: u32) -> u32
+pub(crate) fn own_position(height: u32, leaf: u32) -> u32
     requires low { height ≤ 8 }
     requires inside { leaf < 2 ^ height }
     ensures within { result ≤ height }

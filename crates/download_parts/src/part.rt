@@ -27,7 +27,7 @@ pub struct NodePiece {
 pub struct Nodes {
     /// The row, counted from the root, which is row 0.
     pub row: u32,
-    /// The place of the first of them in the row.
+    /// The position of the first of them in the row.
     pub from: u32,
     /// How many they are: 1 to `MAX_NODES`.
     pub count: u32,
@@ -45,8 +45,8 @@ pub struct DataPieces {
 /// Bytes of a share.
 #[derive(Clone, Copy, Debug, PartialEq, Eq)]
 pub struct Read {
-    /// The place of the first.
-    pub place: u64,
+    /// The offset of the first.
+    pub offset: u64,
     /// How many they are: 1 to `MAX_READ`.
     pub length: u32,
 }

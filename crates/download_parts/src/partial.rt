@@ -8,7 +8,7 @@ ghost use Rattle.download_parts.specs.Offers.{nodes_offered};
 ghost use Rattle.download_parts.specs.Trees.{known_leaf};
 
 use crate::error::TreeFault;
-use crate::offers::{Offer, placed};
+use crate::offers::{Offer, numbered};
 use crate::part::Nodes;
 use merkle::{OfferError, Padding, Partial, height, node_number};
 use share_verify::Check;
@@ -76,7 +76,7 @@ pub(crate) fn offer_nodes(
     ensures right { IsPartial tree.new }
     ensures hashes { KnowsHashes tree.old → KnowsHashes tree.new }
 {
-    let offers = placed(alloc, nodes, bytes)?;
+    let offers = numbered(alloc, nodes, bytes)?;
     offer(tree, &offers, check)
 }
 

@@ -3,22 +3,22 @@
 ghost use Rattle.std.specs.Prelude.{◌≡◌, ℕ, ◌+◌, ◌-◌, ◌*◌, ◌^◌, ◌<◌, ◌≤◌, IfSome};
 ghost use Rattle.merkle.specs.Tree.{node_number};
 ghost use Rattle.share_layout.specs.Geometry.{segment_count};
-ghost use Rattle.share_layout.specs.Layout.{places_of};
+ghost use Rattle.share_layout.specs.Layout.{offsets_of};
 ghost use Rattle.download_parts.specs.Level.{first_node, end_node, level_at, level_count, row_of};
 ghost use Rattle.share_layout.specs.Pieces.{block_length};
 ghost use Rattle.download_parts.specs.Level.{IsAbove, group_size, leaves_below, tree_height};
-ghost use Rattle.download_parts.specs.Plan.{IsAmong, IsNodePiece, IsPart, IsPlanned, block_place};
-ghost use Rattle.download_parts.specs.Plan.{EndsWithBlock, data_end, data_pieces, data_place};
+ghost use Rattle.download_parts.specs.Plan.{IsAmong, IsNodePiece, IsPart, IsPlanned, block_start};
+ghost use Rattle.download_parts.specs.Plan.{EndsWithBlock, data_end, data_pieces, data_offset};
 ghost use Rattle.download_parts.specs.Plan.{first_piece, length_of, max_nodes, max_read, piece_at};
-ghost use Rattle.download_parts.specs.Plan.{next_piece, nodes_of, nodes_place, offset_at};
+ghost use Rattle.download_parts.specs.Plan.{next_piece, nodes_of, nodes_offset, offset_at};
 ghost use Rattle.download_parts.specs.Plan.{pieces_of};
-ghost use Rattle.download_parts.specs.Plan.{place_of, run_reads, run_size};
+ghost use Rattle.download_parts.specs.Plan.{offset_of, run_reads, run_size};
 ghost use Rattle.download_parts.specs.Range.{IsRange};
 
 use crate::level::Level;
 use crate::part::{DataPieces, NodePiece, Nodes, Part, Read};
 use merkle::{height, node_number};
-use share_layout::{Geometry, Places};
+use share_layout::{Geometry, Offsets};
 
 /// The most bytes of a read.
 pub const MAX_READ: u32 = 32_768;
@@ -195,10 +195,10 @@ impl Plan {
         self.piece_at(self.data_end() - 1) + 1
     }
 
-    /// The place of the block of a segment in each share.
-    pub fn block_place(&self, segment: u32) -> u64
+    /// The offset of the block of a segment in each share.
+    pub fn block_start(&self, segment: u32) -> u64
         requires there { segment < segment_count self.now.geometry }
-        ensures value { result ≡ block_place self.now.geometry segment }
+        ensures value { result ≡ block_start self.now.geometry segment }
         ensures low { result ≤ 2 ^ 40 + 68 }
     {
         let header = self.geometry.layout().header_size() as u64;
@@ -211,14 +211,14 @@ impl Plan {
         requires from { self.now.first ≤ segment }
         requires before { segment < self.now.end }
         ensures first { result.first ≡ piece_at self.now.geometry self.now.first
-            (block_place self.now.geometry segment) }
+            (block_start self.now.geometry segment) }
         ensures end { result.end ≡ piece_at self.now.geometry self.now.first
-            (block_place self.now.geometry segment
+            (block_start self.now.geometry segment
             + block_length self.now.geometry segment - 1) + 1 }
         ensures some { result.first < result.end }
         ensures within { result.end ≤ data_pieces self.now.geometry self.now.first self.now.end }
     {
-        let begin = self.block_place(segment);
+        let begin = self.block_start(segment);
         let last = begin + u64::from(self.geometry.block_length(segment)) - 1;
         DataPieces {
             first: self.piece_at(begin),
@@ -231,10 +231,10 @@ impl Plan {
         requires from { self.now.first ≤ segment }
         requires before { segment < self.now.end }
         ensures value { result ≡ offset_at self.now.geometry self.now.first
-            (block_place self.now.geometry segment) }
+            (block_start self.now.geometry segment) }
         ensures low { result < max_read }
     {
-        let begin = self.block_place(segment) - self.block_place(self.first);
+        let begin = self.block_start(segment) - self.block_start(self.first);
         (begin % self.run_size() % u64::from(MAX_READ)) as u32
     }
 
@@ -257,29 +257,29 @@ impl Plan {
     }
 
     // Where a piece of the data begins.
-    fn data_place(&self, index: u32) -> u64
-        ensures value { result ≡ data_place self.now.geometry self.now.first index }
+    fn data_offset(&self, index: u32) -> u64
+        ensures value { result ≡ data_offset self.now.geometry self.now.first index }
         ensures low { result < 2 ^ 48 }
     {
         let runs = u64::from(index) / self.run_reads();
         let reads = u64::from(index) % self.run_reads();
-        self.block_place(self.first) + runs * self.run_size() + u64::from(MAX_READ) * reads
+        self.block_start(self.first) + runs * self.run_size() + u64::from(MAX_READ) * reads
     }
 
-    // The piece of the data in which a place lies.
-    fn piece_at(&self, place: u64) -> u32
-        requires from { block_place self.now.geometry self.now.first ≤ place }
-        requires low { place < 2 ^ 42 }
-        ensures value { result ≡ piece_at self.now.geometry self.now.first place }
+    // The piece of the data in which an offset lies.
+    fn piece_at(&self, offset: u64) -> u32
+        requires from { block_start self.now.geometry self.now.first ≤ offset }
+        requires low { offset < 2 ^ 42 }
+        ensures value { result ≡ piece_at self.now.geometry self.now.first offset }
         ensures low { result < 2 ^ 28 }
     {
-        let begin = place - self.block_place(self.first);
+        let begin = offset - self.block_start(self.first);
         let runs = begin / self.run_size();
         let reads = begin % self.run_size() / u64::from(MAX_READ);
         (runs * self.run_reads() + reads) as u32
     }
 
-    // The place behind the last byte of the wanted segments' blocks.
+    // The offset behind the last byte of the wanted segments' blocks.
     fn data_end(&self) -> u64
         ensures value { result ≡ data_end self.now.geometry self.now.end }
         ensures low { result ≤ 2 ^ 40 + 68 }
@@ -292,34 +292,34 @@ impl Plan {
     /// The bytes of a part.
     pub fn read(&self, part: &Part) -> Read
         requires { IsPart self.now.geometry self.now.first self.now.end part.now }
-        ensures place { result.place
-            ≡ place_of self.now.geometry self.now.first self.now.end part.now }
+        ensures offset { result.offset
+            ≡ offset_of self.now.geometry self.now.first self.now.end part.now }
         ensures length { result.length
             ≡ length_of self.now.geometry self.now.first self.now.end part.now }
-        ensures planned { IsPlanned self.now.geometry self.now.first self.now.end result.place
+        ensures planned { IsPlanned self.now.geometry self.now.first self.now.end result.offset
             result.length }
         ensures range { (0 < result.length) × (result.length ≤ max_read) }
         // A read of the data that comes to the end of a block ends with the end of one.
         ensures ends { (i : ℕ) → part.now ≡ Part.Data i → EndsWithBlock self.now.geometry
-            self.now.first self.now.end result.place result.length }
+            self.now.first self.now.end result.offset result.length }
     {
-        let places = Places::of(&self.geometry);
+        let offsets = Offsets::of(&self.geometry);
         match part {
             Part::ShareHashes => Read {
-                place: places.share_hashes,
+                offset: offsets.share_hashes,
                 length: self.geometry.hashes_size(),
             },
-            Part::BlockTree(piece) => self.read_nodes(places.block_tree, piece),
-            Part::CiphertextTree(piece) => self.read_nodes(places.ciphertext_tree, piece),
+            Part::BlockTree(piece) => self.read_nodes(offsets.block_tree, piece),
+            Part::CiphertextTree(piece) => self.read_nodes(offsets.ciphertext_tree, piece),
             Part::Data(index) => self.read_data(*index),
         }
     }
 
-    // The bytes of some nodes, in the section that begins at this place.
+    // The bytes of some nodes, in the section that begins at this offset.
     fn read_nodes(&self, section: u64, piece: &NodePiece) -> Read
         requires piece { IsNodePiece self.now.geometry self.now.first self.now.end piece.now }
         requires low { section < 2 ^ 41 }
-        ensures place { result.place ≡ nodes_place section
+        ensures offset { result.offset ≡ nodes_offset section
             (nodes_of self.now.geometry self.now.first self.now.end piece.now) }
         ensures length { result.length
             ≡ 32 * (nodes_of self.now.geometry self.now.first self.now.end piece.now).count }
@@ -327,7 +327,7 @@ impl Plan {
     {
         let nodes = self.nodes(piece);
         Read {
-            place: section + 32 * u64::from(node_number(nodes.row, nodes.from)),
+            offset: section + 32 * u64::from(node_number(nodes.row, nodes.from)),
             length: 32 * nodes.count,
         }
     }
@@ -335,16 +335,16 @@ impl Plan {
     // The bytes of a piece of the data, which ends where the next begins, or with the blocks.
     fn read_data(&self, index: u32) -> Read
         requires { index < data_pieces self.now.geometry self.now.first self.now.end }
-        ensures place { result.place ≡ data_place self.now.geometry self.now.first index }
+        ensures offset { result.offset ≡ data_offset self.now.geometry self.now.first index }
         ensures length { result.length
             ≡ length_of self.now.geometry self.now.first self.now.end (Part.Data index) }
         ensures range { (0 < result.length) × (result.length ≤ max_read) }
     {
-        let place = self.data_place(index);
-        let end = self.data_place(index + 1).min(self.data_end());
+        let offset = self.data_offset(index);
+        let end = self.data_offset(index + 1).min(self.data_end());
         Read {
-            place,
-            length: (end - place) as u32,
+            offset,
+            length: (end - offset) as u32,
         }
     }
 }
@@ -376,7 +376,7 @@ fn first_node(height: u32, row: u32, first: u32) -> u32
     first / leaves_below(height, row) / group * group
 }
 
-// The place behind the last.
+// The offset behind the last.
 #[tactic(auto, unfolding(crate::specs::Level::end_node))]
 fn end_node(height: u32, row: u32, end: u32, count: u32) -> u32
     requires low { height ≤ 20 }

@@ -46,9 +46,9 @@ module _ (P : List ℕ → Type 0) (cap : ReadCapValue) (block : List ℕ) (u : 
     segment_hashed = λ input among. member_there (tagged_input ExtensionBlock block) input (segment_inputs f.given.number f.given.segment f.given.siblings) among;
   }
 
--- no place of a cap's file has two bytes
+-- no offset of a cap's file has two bytes
 pub agree_in : (P : List ℕ → Type 0) → HasNoClashIn P → (cap : ReadCapValue) (first second : List ℕ) (u v : Contents) (p q : Piece)
-    → IsGivenIn P cap first u p → IsGivenIn P cap second v q → (place a b : ℕ) → HasByte p place a → HasByte q place b → a ≡ b
+    → IsGivenIn P cap first u p → IsGivenIn P cap second v q → (offset a b : ℕ) → HasByte p offset a → HasByte q offset b → a ≡ b
 agree_in P none cap first second u v p q f g =
     let these = hashed_for P cap first u p f in
     let those = hashed_for P cap second v q g in
@@ -65,7 +65,7 @@ agree_in P none cap first second u v p q f g =
 pub file_agrees_in : (P : List ℕ → Type 0) → HasNoClashIn P → (cap : ReadCapValue) (block other : List ℕ) (u v : Contents) (ciphertext file : List ℕ) (p : Piece)
     → IsFileOf cap block u ciphertext file → P (tagged_input ExtensionBlock block)
     → ((input : List ℕ) → Contains (segments_inputs (segments_of (geometry_by u) ciphertext)) input → P input)
-    → IsGivenIn P cap other v p → (place byte : ℕ) → HasByte p place byte → slice_get file place ≡ Some byte
+    → IsGivenIn P cap other v p → (offset byte : ℕ) → HasByte p offset byte → slice_get file offset ≡ Some byte
 file_agrees_in P none cap block other u v ciphertext file p whole hashed own f =
     let these = hashed_for P cap other v p f in
     let tree : List (List ℕ) = segments_inputs (segments_of (geometry_by u) ciphertext) in

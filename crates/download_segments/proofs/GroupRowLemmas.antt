@@ -1,4 +1,4 @@
--- Texts at their places.
+-- Texts at their offsets.
 use Rattle.std.proofs.Common.{◌≡◌, ℕ, zero, suc, ◌+◌, ◌<◌, All, List, [], ◌∷◌, ◌++◌, length, map, get_or, refl, sym, ap, subst, arith}
 
 -- one text more
@@ -17,7 +17,7 @@ nth_item f [] i x low is = absurd (omega (arith, low))
 nth_item f (y ∷ ys) zero x low is = ap f (sym is)
 nth_item f (y ∷ ys) (suc i) x low is = nth_item f ys i x (omega (arith, low)) is
 
--- what holds of each by its place, holds of all
+-- what holds of each by its position, holds of all
 pub from_nth : {X : Type 0} (f : X → List ℕ) (P : List ℕ → Type 0) (xs : List X) → ((i : ℕ) → i < length xs → P (get_or (map f xs) i [])) → All (λ x. P (f x)) xs
 from_nth f P xs all i d low = subst P (nth_item f xs i (get_or xs i d) low (within xs i d low)) (all i low)
   where

@@ -1,4 +1,4 @@
--- Places of a file, and pieces that are made of segments.
+-- Offsets of a file, and pieces that are made of segments.
 use Rattle.std.proofs.Common.{◌≡◌, ℕ, ◌+◌, ◌-◌, ◌*◌, ◌/◌, ◌%◌, ◌<◌, ◌≤◌, Bool, true, false, All, List, [], ◌∷◌, ◌++◌, Some, None, length, min, take, drop, refl, ap, subst, sym, ◌∙◌, arith}
 use Rattle.std.specs.Prelude.{if◌then◌else◌, nat_lt}
 use Rattle.std.specs.Int.{div_ceil}
@@ -104,7 +104,7 @@ next_slice h number segment k next long =
     let begins : h.reached ≡ number * h.geometry.segment_size + skipped = ends.begins ∙ ap (λ (n : ℕ). n * h.geometry.segment_size + skipped) is.1 in
     record {
       skipped = skipped;
-      place_is = begins ∙ ap (λ (n : ℕ). number * n + skipped) size;
+      offset_is = begins ∙ ap (λ (n : ℕ). number * n + skipped) size;
       long = omega (arith, count, fits);
       bytes_are = ap (λ (n : ℕ). xored_from h.key h.reached (take n (drop skipped segment))) (sym count);
     }
@@ -133,7 +133,7 @@ right_handed h number segment siblings k next long by =
 
 -- the first piece is taken
 pub right_taken : (h : HandoutState) (p : Piece) (ps : List Piece) → IsHandout h → h.ready ≡ p ∷ ps
-    → IsHandout (record h { ready = ps; handed = p.place + length p.bytes })
+    → IsHandout (record h { ready = ps; handed = p.offset + length p.bytes })
 right_taken h p ps k is =
     let ready : AreConsecutive h.handed (p ∷ ps) h.reached = subst (λ (l : List Piece). AreConsecutive h.handed l h.reached) is k.consecutive in
     record {

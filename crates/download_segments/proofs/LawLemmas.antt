@@ -15,8 +15,8 @@ use Rattle.share_layout.specs.Pieces.{block_length}
 use Rattle.ueb.specs.Shape.{Contents}
 use Rattle.share_verify.specs.CapBlock.{geometry_by}
 use Rattle.proved_parts.specs.Decoding.{DecodesBlocks}
-use Rattle.download_parts.proofs.TreeLemmas.{height-share_places, leaves_lead}
-use Rattle.download_parts.specs.Trees.{IsBlockTree, LeadTo, ProvesBlock, known_leaf, share_places}
+use Rattle.download_parts.proofs.TreeLemmas.{height-share_leaves, leaves_lead}
+use Rattle.download_parts.specs.Trees.{IsBlockTree, LeadTo, ProvesBlock, known_leaf, share_leaves}
 use Rattle.download_segments.specs.Decoding.{AreShareNumbers, blocks_in}
 use Rattle.download_segments.specs.Laws.{BlocksLead, NoCodeWords}
 use Rattle.download_segments.specs.NoCodeWord.{IsAnyInput, IsBlockIn, IsNoCodeWordIn, LeadsIn}
@@ -38,7 +38,7 @@ leads_in IsOne p root count n leaf hash leads hashes few up inside knows all =
     }
 
 pub blocks_lead_in : (IsOne : List ℕ → Type 0) (u : Contents) (shares tree : PartialState) (share number : ℕ) (block : List ℕ) → share < u.total_shares → number < segment_count (geometry_by u)
-    → LeadTo shares u.share_root_hash (share_places u.total_shares) → KnowsHashes shares → known_leaf shares share ≡ Some tree.root → IsBlockTree tree (segment_count (geometry_by u)) → ProvesBlock tree number block
+    → LeadTo shares u.share_root_hash (share_leaves u.total_shares) → KnowsHashes shares → known_leaf shares share ≡ Some tree.root → IsBlockTree tree (segment_count (geometry_by u)) → ProvesBlock tree number block
     → length block ≡ block_length (geometry_by u) number → ((input : List ℕ) → IsKnownInput shares input → IsOne input) → ((input : List ℕ) → IsKnownInput tree input → IsOne input) → IsOne (tagged_input Block block)
     → IsBlockIn IsOne u share number block
 blocks_lead_in IsOne u shares tree share number block there inside shares_lead share_hashes knows own proves long in_shares in_tree hashed = record {
@@ -48,7 +48,7 @@ blocks_lead_in IsOne u shares tree share number block there inside shares_lead s
   in_share = known_siblings tree number;
   leads_in_share = leads_in IsOne tree tree.root (segment_count (geometry_by u)) (segment_count (geometry_by u)) number (tagged_hash Block block) own.leads own.hashes (omega arith) refl inside proves in_tree;
   in_file = known_siblings shares share;
-  leads_in_file = leads_in IsOne shares u.share_root_hash (share_places u.total_shares) u.total_shares share tree.root shares_lead share_hashes (height_room u.total_shares) (height-share_places u.total_shares) there knows in_shares;
+  leads_in_file = leads_in IsOne shares u.share_root_hash (share_leaves u.total_shares) u.total_shares share tree.root shares_lead share_hashes (height_room u.total_shares) (height-share_leaves u.total_shares) there knows in_shares;
 }
 
 pub blocks_lead : BlocksLead

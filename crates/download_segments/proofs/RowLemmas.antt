@@ -15,7 +15,7 @@ use Rattle.download_segments.specs.State.{HandoutState, IsHandout, ProvesSegment
 use Rattle.download_segments.proofs.HandoutLemmas.{next_follows, next_is, next_within, right_handed, valid_of}
 use Rattle.download_segments.proofs.KnownLemmas.{known_segment}
 
--- each of these lists, by its place
+-- each of these lists, by its position
 pub nth_map : {X : Type 0} (f : X → List ℕ) (P : List ℕ → Type 0) (xs : List X) → All (λ x. P (f x)) xs → (i : ℕ) → i < length xs → P (get_or (map f xs) i [])
 nth_map f P [] all i low = absurd (omega (arith, low))
 nth_map f P (x ∷ xs) all zero low = all 0 x low

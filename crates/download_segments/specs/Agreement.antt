@@ -27,18 +27,18 @@ pub record IsGivenIn (IsOne : List ℕ → Type 0) (cap : ReadCapValue) (extensi
 abbrev pub IsGivenAmong : List (List ℕ) → ReadCapValue → List ℕ → Contents → Piece → Type 0
 IsGivenAmong inputs cap extension_block u p = IsGivenIn (Contains inputs) cap extension_block u p
 
--- the piece has this byte of the file, at this place of the file
-pub record HasByte (p : Piece) (place byte : ℕ) : Type 0 where
+-- the piece has this byte of the file, at this position of the file
+pub record HasByte (p : Piece) (position byte : ℕ) : Type 0 where
   pub offset : ℕ
-  pub place_is : place ≡ p.place + offset
+  pub position_is : position ≡ p.offset + offset
   pub byte_is : slice_get p.bytes offset ≡ Some byte
 
--- a law: without a clash no place of a cap's file has two bytes
+-- a law: without a clash no position of a cap's file has two bytes
 abbrev pub PiecesAgree : Type 0
 PiecesAgree = (inputs : List (List ℕ)) → HasNoClash inputs → (cap : ReadCapValue)
     (first second : List ℕ) (u v : Contents) (p q : Piece)
     → IsGivenAmong inputs cap first u p → IsGivenAmong inputs cap second v q
-    → (place a b : ℕ) → HasByte p place a → HasByte q place b → a ≡ b
+    → (position a b : ℕ) → HasByte p position a → HasByte q position b → a ≡ b
 
 -- a law: without a clash each byte is the one of the cap's file, where that is known
 abbrev pub PiecesAreOfTheFile : Type 0
@@ -48,4 +48,4 @@ PiecesAreOfTheFile = (inputs : List (List ℕ)) → HasNoClash inputs → (cap :
     → Contains inputs (tagged_input ExtensionBlock extension_block)
     → AreAmong inputs (segments_inputs (segments_of (geometry_by u) ciphertext))
     → IsGivenAmong inputs cap other v p
-    → (place byte : ℕ) → HasByte p place byte → slice_get file place ≡ Some byte
+    → (offset byte : ℕ) → HasByte p offset byte → slice_get file offset ≡ Some byte

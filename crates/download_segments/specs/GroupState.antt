@@ -15,13 +15,13 @@ pub record GroupState : Type 0 where
 abbrev pub segments_in : GroupState → List ℕ
 segments_in group = range_with_len group.first (group.end - group.first)
 
--- a group of the readers at these places, which read shares of these numbers, that no segment was
--- made of yet
+-- a group of the readers at these positions, which read shares of these numbers, that no segment
+-- was made of yet
 abbrev pub new_group : Geometry → List ℕ → List ℕ → ℕ → GroupState
-new_group g places numbers number = record {
+new_group g offsets numbers number = record {
   first = number;
   end = number;
-  readers = places;
+  readers = offsets;
   decoding = record { geometry = g; numbers = numbers };
 }
 

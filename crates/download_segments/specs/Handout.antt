@@ -11,14 +11,14 @@ abbrev pub next_segment : HandoutState → Option ℕ
 next_segment h =
     if nat_lt h.reached h.to then Some (h.reached / h.geometry.segment_size) else None
 
--- the place up to which pieces are made with that segment: its end, or the end of what is wanted
+-- the offset up to which pieces are made with that segment: its end, or the end of what is wanted
 abbrev pub next_end : HandoutState → ℕ
 next_end h = min h.to ((h.reached / h.geometry.segment_size + 1) * h.geometry.segment_size)
 
--- the piece that is made of it: its bytes from the place that is reached up to there, decrypted
+-- the piece that is made of it: its bytes from the offset that is reached up to there, decrypted
 abbrev pub next_piece : HandoutState → List ℕ → Piece
 next_piece h segment = record {
-  place = h.reached;
+  offset = h.reached;
   bytes = xored_from h.key h.reached
       (take (next_end h - h.reached) (drop (h.reached % h.geometry.segment_size) segment));
 }
@@ -49,4 +49,4 @@ ProvesRow h number segments =
 abbrev pub TakesPiece : HandoutState → Option Piece → HandoutState → Type 0
 TakesPiece old None new = (old.ready ≡ []) × (new ≡ old)
 TakesPiece old (Some p) new = (old.ready ≡ p ∷ new.ready)
-    × (new ≡ record old { ready = new.ready; handed = p.place + length p.bytes })
+    × (new ≡ record old { ready = new.ready; handed = p.offset + length p.bytes })

@@ -9,7 +9,7 @@ use Rattle.share_layout.specs.Pieces.{block_length}
 use Rattle.share_verify.specs.CapBlock.{geometry_by}
 use Rattle.proved_parts.specs.Decoding.{DecodesBlocks}
 use Rattle.download_parts.specs.Trees.{FileTreesState, IsBlockTree, LeadTo, ProvesBlock}
-use Rattle.download_parts.specs.Trees.{known_leaf, share_places}
+use Rattle.download_parts.specs.Trees.{known_leaf, share_leaves}
 use Rattle.download_segments.specs.State.{HandoutState, IsHandout, ProvesSegment, RefutesSegment}
 use Rattle.download_segments.specs.State.{TreesGrow}
 use Rattle.download_segments.specs.Handout.{handed_out, next_end, next_segment}
@@ -27,7 +27,7 @@ SegmentsAreUnique = (g : Geometry) (numbers : List ℕ) (blocks : List (List ℕ
 abbrev pub BlocksLead : Type 0
 BlocksLead = (u : Contents) (shares tree : PartialState) (share number : ℕ) (block : List ℕ)
     → share < u.total_shares → number < segment_count (geometry_by u)
-    → LeadTo shares u.share_root_hash (share_places u.total_shares) → KnowsHashes shares
+    → LeadTo shares u.share_root_hash (share_leaves u.total_shares) → KnowsHashes shares
     → known_leaf shares share ≡ Some tree.root
     → IsBlockTree tree (segment_count (geometry_by u)) → ProvesBlock tree number block
     → length block ≡ block_length (geometry_by u) number → IsBlockBy u share number block

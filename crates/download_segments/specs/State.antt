@@ -11,8 +11,8 @@ use Rattle.download_parts.specs.Trees.{known_leaf, starting_trees}
 use Rattle.download_segments.specs.declared.piece.Piece.{Piece}
 use Rattle.download_segments.specs.Pieces.{AreConsecutive, IsGiven}
 
--- Places are in bytes from the file's beginning. `to`: the place behind the last byte that is
--- wanted. `reached`: the place up to which pieces were made. `handed`: the place up to which they
+-- Offsets are in bytes from the file's beginning. `to`: the offset behind the last byte that is
+-- wanted. `reached`: the offset up to which pieces were made. `handed`: the offset up to which they
 -- were taken. `ready`: the pieces between the two, in order.
 pub record HandoutState : Type 0 where
   pub key : List ℕ
@@ -49,7 +49,7 @@ pub record IsHandout (h : HandoutState) : Type 0 where
   pub consecutive : AreConsecutive h.handed h.ready h.reached
   pub given : All (IsGiven h.key h.ueb) h.ready
 
--- the bytes of a file with this extension block from a place up to another are wanted, and only
+-- the bytes of a file with this extension block from an offset up to another are wanted, and only
 -- the roots of its trees are known
 abbrev pub starting_handout : List ℕ → Contents → Geometry → ℕ → ℕ → HandoutState
 starting_handout key u g from to = handout_state key u g (starting_trees u g) to from from []

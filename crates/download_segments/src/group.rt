@@ -21,7 +21,7 @@ use std::alloc::{AllocError, Global};
 use std::marker::Model;
 
 /// The segments `first` to before `end`, which were made of the blocks of the readers at these
-/// places.
+/// positions.
 #[derive(Drop)]
 pub struct Group {
     first: u32,
@@ -58,18 +58,18 @@ impl Group {
         self.end
     }
 
-    /// The places of its readers.
-    pub fn places(&self) -> &[usize]
+    /// The positions of its readers.
+    pub fn positions(&self) -> &[usize]
         ensures { result.now ≡ self.now.readers }
     {
         self.readers.as_slice()
     }
 
-    // Whether it is of the readers at these places.
-    fn is_of(&self, places: &[usize]) -> bool
-        ensures { IsTrue result ↔ (self.now.readers ≡ places.now) }
+    // Whether it is of the readers at these positions.
+    fn is_of(&self, positions: &[usize]) -> bool
+        ensures { IsTrue result ↔ (self.now.readers ≡ positions.now) }
     {
-        self.readers.as_slice() == places
+        self.readers.as_slice() == positions
     }
 
     // The segment before this one is its last.
@@ -94,36 +94,36 @@ impl Group {
     }
 }
 
-/// Whether the last group is of the readers at these places.
-pub fn is_last_of(groups: &[Group], places: &[usize]) -> bool
+/// Whether the last group is of the readers at these positions.
+pub fn is_last_of(groups: &[Group], positions: &[usize]) -> bool
     ensures { IsTrue result → (group : GroupState) × IsLast groups.now group
-        × (group.readers ≡ places.now) }
+        × (group.readers ≡ positions.now) }
 {
     match groups.last() {
-        Some(group) => group.is_of(places),
+        Some(group) => group.is_of(positions),
         None => false,
     }
 }
 
-/// Adds a group of the readers at these places, which read shares of these numbers, for the
+/// Adds a group of the readers at these positions, which read shares of these numbers, for the
 /// segments from this one on.
 pub fn push_group(
     alloc: Global,
     groups: &mut Vec<Group>,
     geometry: &Geometry,
-    places: &[usize],
+    positions: &[usize],
     numbers: Vec<u16>,
     number: u32,
 ) -> Result<(), AllocError>
     requires shares { AreShareNumbers geometry.now numbers.items }
     ensures pushed { OnOk result (groups.new.items
-        ≡ groups.old.items ++ new_group geometry.now places.now numbers.items number ∷ []) }
+        ≡ groups.old.items ++ new_group geometry.now positions.now numbers.items number ∷ []) }
     ensures unchanged { OnErr result (groups.new.items ≡ groups.old.items) }
 {
     let group = Group {
         first: number,
         end: number,
-        readers: Vec::from_slice(alloc, places)?,
+        readers: Vec::from_slice(alloc, positions)?,
         decoding: Decoding::new(alloc, geometry, numbers)?,
     };
     groups.push(group)?;
@@ -216,11 +216,11 @@ fn decode_row(
         (map (λ r. r.items) rows.now) (map (λ s. s.items) segments.items)) }
 {
     let mut segments = Vec::with_capacity(alloc, 8)?;
-    let mut place = number;
+    let mut position = number;
     for row in rows {
-        let segment = group.decode(alloc, place, row)?;
+        let segment = group.decode(alloc, position, row)?;
         segments.push(segment)?;
-        place += 1;
+        position += 1;
     }
     Ok(segments)
 }

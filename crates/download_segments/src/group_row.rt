@@ -8,7 +8,7 @@ ghost use Rattle.download_segments.specs.GroupMaking.{nth, nth_block};
 
 use tagged_hash::{Tag, tagged_eight};
 
-/// The hashes of the blocks at this place of each of eight segments, which have this length.
+/// The hashes of the blocks at this position of each of eight segments, which have this length.
 pub fn block_hashes(rows: &[Vec<u8>], size: u32, k: usize) -> [[u8; 32]; 8]
     requires eight { length rows.now ≡ 8 }
     requires long { All (λ r. k * size + size ≤ length r.items) rows.now }

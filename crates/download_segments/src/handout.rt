@@ -62,7 +62,7 @@ impl Model for Handout {
 }
 
 impl Handout {
-    /// The bytes of the file from the place `from` up to `to` are wanted, which is not behind the
+    /// The bytes of the file from the offset `from` up to `to` are wanted, which is not behind the
     /// file's end. The key decrypts them. Nothing is known yet but what the extension block says.
     pub fn new(
         alloc: Global,
@@ -108,7 +108,7 @@ impl Handout {
         self.reached == self.to
     }
 
-    /// The number of the segment of which a piece is made next: the one that begins at the place
+    /// The number of the segment of which a piece is made next: the one that begins at the offset
     /// up to which pieces were made, or has it inside. `None` where all pieces were made.
     pub fn next(&self) -> Option<u32>
         ensures value { result ≡ next_segment self.now }
@@ -295,7 +295,7 @@ impl Handout {
         let end = self.end_behind(self.reached);
         let bytes = self.decrypted(segment, self.reached, end);
         self.ready.push_back(Piece {
-            place: self.reached,
+            offset: self.reached,
             bytes: Bytes::from_vec(bytes),
         })?;
         self.reached = end;
@@ -348,17 +348,17 @@ impl Handout {
         ensures { IsTrue result ↔ ProvesRow self.now number (map (λ s. s.items) segments.now) }
     {
         let hashes = segment_hashes(segments, self.geometry.segment_size() as usize);
-        let mut place = number;
+        let mut offset = number;
         for hash in &hashes {
-            if !self.has_leaf(place, hash) {
+            if !self.has_leaf(offset, hash) {
                 return false;
             }
-            place += 1;
+            offset += 1;
         }
         true
     }
 
-    // The pieces of the next segments, which are proved, and the place behind them.
+    // The pieces of the next segments, which are proved, and the offset behind them.
     fn pieces_of(
         &self,
         number: u32,
@@ -378,7 +378,7 @@ impl Handout {
             let end = self.end_behind(reached);
             let bytes = self.decrypted(segment, reached, end);
             pieces.push_back(Piece {
-                place: reached,
+                offset: reached,
                 bytes: Bytes::from_vec(bytes),
             })?;
             reached = end;
@@ -386,7 +386,7 @@ impl Handout {
         Ok((pieces, reached))
     }
 
-    // The place up to which pieces are made with the next segment, where they are made up to this
+    // The offset up to which pieces are made with the next segment, where they are made up to this
     // one.
     fn end_behind(&self, reached: u64) -> u64
         requires { reached < self.now.to }
@@ -396,7 +396,7 @@ impl Handout {
         self.to.min((reached / size + 1) * size)
     }
 
-    // The bytes of a segment from this place of the file up to another, decrypted.
+    // The bytes of a segment from this offset of the file up to another, decrypted.
     fn decrypted(&self, segment: Vec<u8>, reached: u64, end: u64) -> Vec<u8>
         requires more { reached ≤ end }
         requires within { reached % self.now.geometry.segment_size
@@ -419,7 +419,7 @@ impl Handout {
         ensures right { IsHandout self.new }
     {
         let piece = self.ready.pop_front()?;
-        self.handed = piece.place + piece.bytes.as_slice().len() as u64;
+        self.handed = piece.offset + piece.bytes.as_slice().len() as u64;
         Some(piece)
     }
 }

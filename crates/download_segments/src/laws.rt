@@ -34,7 +34,7 @@ pub fn next_segments_follow()
     ensures { NextSegmentsFollow }
 {}
 
-/// A law: without a clash no place of a cap's file has two bytes in pieces of it, whoever sent
+/// A law: without a clash no offset of a cap's file has two bytes in pieces of it, whoever sent
 /// them.
 pub fn pieces_agree()
     ensures { PiecesAgree }

@@ -2,7 +2,7 @@
 use Rattle.std.proofs.Common.{◌≡◌, ℕ, ◌+◌, inr, Bool, true, List, [], ◌∷◌, ◌++◌, length, Some, None, refl, sym, ap, ◌∙◌, arith, true≢false}
 use Rattle.std.specs.Prelude.{slice_get}
 use Rattle.std.proofs.lemmas.List.{length-set}
-use Rattle.lemmas.proofs.Places.{get_set}
+use Rattle.lemmas.proofs.Positions.{get_set}
 use Rattle.lemmas.proofs.Options.{one_there}
 use Rattle.share_layout.specs.Geometry.{Geometry, IsGeometry}
 use Rattle.share_reading.specs.Opening.{Agrees}

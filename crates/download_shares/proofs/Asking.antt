@@ -3,10 +3,10 @@ use Rattle.std.proofs.Common.{◌≡◌, ℕ, ◌+◌, ◌<◌, ◌≤◌, ◌�
 use Rattle.std.specs.Prelude.{slice_get, slice_set}
 use Rattle.std.proofs.lemmas.Bool.{cases_eq, cases_lt}
 use Rattle.std.proofs.lemmas.List.{length-set}
-use Rattle.lemmas.proofs.Places.{get_set, get_other, set_cases, get_last}
+use Rattle.lemmas.proofs.Positions.{get_set, get_other, set_cases, get_last}
 use Rattle.lemmas.proofs.Options.{one_there}
 use Rattle.cap_text.specs.Cap.{VerifyCapValue}
-use Rattle.share_reading.specs.Opening.{Advances, next_length, next_place}
+use Rattle.share_reading.specs.Opening.{Advances, next_length, next_offset}
 use Rattle.share_reading.specs.OpeningReads.{IsLedToBy}
 use Rattle.share_reading.specs.declared.opening.Opening.{Opening}
 use Rattle.share_reading.specs.declared.opening.Opening.TheVariants.{Start}
@@ -35,7 +35,7 @@ use Rattle.download_shares.proofs.Reading.{ends, next_is}
 -- ---- nothing of it was asked
 
 unread_apart : (h : Holding) (entries : List Request) (i : ℕ) (r : Request) (offset len : ℕ) → slice_get entries i ≡ Some r → r.server ≡ h.server
-    → ((place len2 : ℕ) → IsReadAt entries h i place len2 → (place + len2 ≤ offset) ⊎ (offset + len ≤ place)) → AreApart r.asked (Reading h.share offset len)
+    → ((position len2 : ℕ) → IsReadAt entries h i position len2 → (position + len2 ≤ offset) ⊎ (offset + len ≤ position)) → AreApart r.asked (Reading h.share offset len)
 unread_apart h entries i r offset len there of_server apart = by r.asked refl
   where
     by : (a : Asked) → r.asked ≡ a → AreApart a (Reading h.share offset len)
@@ -47,22 +47,22 @@ unread_apart h entries i r offset len there of_server apart = by r.asked refl
     by (Reading share o l) e = λ f. apart o l (record { request = r; there = there; of_server = of_server; asked = e ∙ ap (λ n. Reading n o l) f })
 
 -- bytes that no read of the share overlaps were not asked for
-pub unasked_by : (s : HoldingsState) (holding offset len : ℕ) → ((h : Holding) (i place len2 : ℕ) → IsHolding s.table holding h → IsReadAt s.requests.entries h i place len2 → (place + len2 ≤ offset) ⊎ (offset + len ≤ place)) → IsUnasked s holding offset len
+pub unasked_by : (s : HoldingsState) (holding offset len : ℕ) → ((h : Holding) (i position len2 : ℕ) → IsHolding s.table holding h → IsReadAt s.requests.entries h i position len2 → (position + len2 ≤ offset) ⊎ (offset + len ≤ position)) → IsUnasked s holding offset len
 unasked_by s holding offset len apart h i r is there of_server =
-    unread_apart h s.requests.entries i r offset len there of_server (λ place len2 read. apart h i place len2 is read)
+    unread_apart h s.requests.entries i r offset len there of_server (λ position len2 read. apart h i position len2 is read)
 
 -- the first read of a share of which nothing was asked
-pub unasked_first : (s : HoldingsState) (holding : ℕ) → ((h : Holding) (i place len : ℕ) → IsHolding s.table holding h → IsReadAt s.requests.entries h i place len → ⊥) → IsUnasked s holding (next_place Start) (next_length Start)
-unasked_first s holding none = unasked_by s holding (next_place Start) (next_length Start) (λ h i place len is read. absurd (none h i place len is read))
+pub unasked_first : (s : HoldingsState) (holding : ℕ) → ((h : Holding) (i position len : ℕ) → IsHolding s.table holding h → IsReadAt s.requests.entries h i position len → ⊥) → IsUnasked s holding (next_offset Start) (next_length Start)
+unasked_first s holding none = unasked_by s holding (next_offset Start) (next_length Start) (λ h i position len is read. absurd (none h i position len is read))
 
 -- the next read of an opening that goes on
 pub unasked_next : (s : BeginningsState) (verify : VerifyCapValue) (holding : ℕ) (b : Begun) (old new : Opening) (bytes : List ℕ) → Advances verify old bytes (Next new)
     → ((h : Holding) (i offset len : ℕ) → IsHolding s.holdings.table holding h → IsReadAt s.holdings.requests.entries h i offset len → IsReadUpTo old offset len)
-    → IsUnasked s.holdings holding (next_place new) (next_length new)
+    → IsUnasked s.holdings holding (next_offset new) (next_length new)
 unasked_next s verify holding b old new bytes a reads =
-    unasked_by s.holdings holding (next_place new) (next_length new)
-    (λ h i place len is read. inl (
-    let e = ends old place len (reads h i place len is read) in
+    unasked_by s.holdings holding (next_offset new) (next_length new)
+    (λ h i position len is read. inl (
+    let e = ends old position len (reads h i position len is read) in
     let k = rise verify old new bytes a in
     let f = k.0 in
     let g = k.1 in
@@ -85,9 +85,9 @@ next_out es server share offset len now = record {
   waits = refl;
 }
 
--- two places have different shares
-pub distinct_places : {s : HoldingsState} → IsRight s → (i j : ℕ) (a b : Holding) → IsHolding s.table i a → IsHolding s.table j b → a.server ≡ b.server → a.share ≡ b.share → (i ≡ j → ⊥) → ⊥
-distinct_places right i j a b e f servers shares other = elim (cases_lt i j) [
+-- two positions have different shares
+pub distinct_positions : {s : HoldingsState} → IsRight s → (i j : ℕ) (a b : Holding) → IsHolding s.table i a → IsHolding s.table j b → a.server ≡ b.server → a.share ≡ b.share → (i ≡ j → ⊥) → ⊥
+distinct_positions right i j a b e f servers shares other = elim (cases_lt i j) [
   | inl lt ↦ right.distinct i j a b lt e f servers shares
   | inr le ↦ right.distinct j i b a (omega (arith, le, lt_of i j le other)) f e (sym servers) (sym shares)
 ]
@@ -103,7 +103,7 @@ module _ (s u : BeginningsState) (holding : ℕ) (o : Opening) (known : AreBegun
   h = a.asks.0
 
   abbrev pub now_asked : List Request
-  now_asked = es ++ first_request h.server (Reading h.share (next_place o) (next_length o)) s.holdings.requests.clock ∷ []
+  now_asked = es ++ first_request h.server (Reading h.share (next_offset o) (next_length o)) s.holdings.requests.clock ∷ []
 
   entries_are : u.holdings.requests.entries ≡ now_asked
   entries_are = ap (λ (x : HoldingsState). x.requests.entries) a.asks.2
@@ -111,108 +111,108 @@ module _ (s u : BeginningsState) (holding : ℕ) (o : Opening) (known : AreBegun
   table_is : u.holdings.table ≡ s.holdings.table
   table_is = ap (λ (x : HoldingsState). x.table) a.asks.2
 
-  -- what stands at a place afterwards: the one that is asked, or an old one
-  pub begun_cases : (place : ℕ) (b : Begun) → IsBegun u place b → ((place ≡ holding) × (b.opening ≡ Some o) × (b.waiting ≡ Some (length es)) × (b.reader ≡ a.begun.reader)) ⊎ ((place ≡ holding → ⊥) × IsBegun s place b)
-  begun_cases place b e = elim (set_cases s.begun holding place (record a.begun { opening = Some o; waiting = Some (length es) }) b (sym (ap (λ (l : List Begun). slice_get l place) a.is) ∙ e)) [
+  -- what stands at a position afterwards: the one that is asked, or an old one
+  pub begun_cases : (position : ℕ) (b : Begun) → IsBegun u position b → ((position ≡ holding) × (b.opening ≡ Some o) × (b.waiting ≡ Some (length es)) × (b.reader ≡ a.begun.reader)) ⊎ ((position ≡ holding → ⊥) × IsBegun s position b)
+  begun_cases position b e = elim (set_cases s.begun holding position (record a.begun { opening = Some o; waiting = Some (length es) }) b (sym (ap (λ (l : List Begun). slice_get l position) a.is) ∙ e)) [
     | inl k ↦ inl (k.0, sym (ap (λ (x : Begun). x.opening) k.1), sym (ap (λ (x : Begun). x.waiting) k.1), sym (ap (λ (x : Begun). x.reader) k.1))
     | inr k ↦ inr k
   ]
 
-  held_back : (place : ℕ) (g : Holding) → IsHolding u.holdings.table place g → IsHolding s.holdings.table place g
-  held_back place g e = sym (ap (λ (t : TableState). slice_get t.holdings place) table_is) ∙ e
+  held_back : (position : ℕ) (g : Holding) → IsHolding u.holdings.table position g → IsHolding s.holdings.table position g
+  held_back position g e = sym (ap (λ (t : TableState). slice_get t.holdings position) table_is) ∙ e
 
   pub known_next : IsRight u.holdings → ((g : Holding) → IsHolding s.holdings.table holding g → IsLedToBy (brought_of es g.server g.share) o) → AreBegun u
   known_next right led = record {
     right = right;
     counted = ap length a.is ∙ length-set s.begun holding _ ∙ known.counted ∙ sym (ap (λ (t : TableState). length t.holdings) table_is);
-    each = λ place g b is there. elim (begun_cases place b there) [
+    each = λ position g b is there. elim (begun_cases position b there) [
       | inl k ↦ (
-          let held : IsHolding s.holdings.table holding g = ap (slice_get s.holdings.table.holdings) (sym k.0) ∙ held_back place g is in
+          let held : IsHolding s.holdings.table holding g = ap (slice_get s.holdings.table.holdings) (sym k.0) ∙ held_back position g is in
           let same : g ≡ h = one_there (slice_get s.holdings.table.holdings holding) g h held a.asks.1 in
           record {
             led = λ p e. (
                 let one : o ≡ p = one_there b.opening o p k.1 e in
                 subst (λ (q : Opening). IsLedToBy (brought_of u.holdings.requests.entries g.server g.share) q) one
-                (led_grows es u.holdings.requests.entries g g o (grows_asks holding (next_place o) (next_length o) s.holdings u.holdings a.asks).stays refl refl (led g held)));
+                (led_grows es u.holdings.requests.entries g g o (grows_asks holding (next_offset o) (next_length o) s.holdings u.holdings a.asks).stays refl refl (led g held)));
             waits = λ request e. (
                 let one : length es ≡ request = one_there b.waiting (length es) request k.2 e in
                 subst (λ (q : Option Opening). IsNextAt u.holdings.requests.entries g q request) (sym k.1)
-                (subst (λ (ns : List Request). IsReadAt ns g request (next_place o) (next_length o)) (sym entries_are)
-                (subst (λ (q : ℕ). IsReadAt now_asked g q (next_place o) (next_length o)) one
-                (next_taken es h.server h.share (next_place o) (next_length o) s.holdings.requests.clock g (ap (λ (x : Holding). x.server) same) (ap (λ (x : Holding). x.share) same)))));
+                (subst (λ (ns : List Request). IsReadAt ns g request (next_offset o) (next_length o)) (sym entries_are)
+                (subst (λ (q : ℕ). IsReadAt now_asked g q (next_offset o) (next_length o)) one
+                (next_taken es h.server h.share (next_offset o) (next_length o) s.holdings.requests.clock g (ap (λ (x : Holding). x.server) same) (ap (λ (x : Holding). x.share) same)))));
           })
-      | inr k ↦ known_old place g b (held_back place g is) k.1
+      | inr k ↦ known_old position g b (held_back position g is) k.1
     ];
-    held = held_follows s.holdings u.holdings known.held (offered_asks holding (next_place o) (next_length o) s.holdings u.holdings a.asks) (ap (λ (t : TableState). length t.numbers) table_is)
-        (λ place g e. (g, ap (λ (t : TableState). slice_get t.holdings place) table_is ∙ e, refl, refl));
+    held = held_follows s.holdings u.holdings known.held (offered_asks holding (next_offset o) (next_length o) s.holdings u.holdings a.asks) (ap (λ (t : TableState). length t.numbers) table_is)
+        (λ position g e. (g, ap (λ (t : TableState). slice_get t.holdings position) table_is ∙ e, refl, refl));
   }
     where
-      known_old : (place : ℕ) (g : Holding) (b : Begun) → IsHolding s.holdings.table place g → IsBegun s place b → IsBegunBy u.holdings.requests.entries g b
-      known_old place g b is there = begun_by s u.holdings.requests.entries place g b known (grows_asks holding (next_place o) (next_length o) s.holdings u.holdings a.asks)
+      known_old : (position : ℕ) (g : Holding) (b : Begun) → IsHolding s.holdings.table position g → IsBegun s position b → IsBegunBy u.holdings.requests.entries g b
+      known_old position g b is there = begun_by s u.holdings.requests.entries position g b known (grows_asks holding (next_offset o) (next_length o) s.holdings u.holdings a.asks)
           (record { held = g; is = is; of_server = refl; of_share = refl; begun = b; there = there; opening = refl; waiting = λ request e. e })
 
   -- ---- the shares are begun still
 
   -- those that are read are at it, where all but this one were
-  pub opening_next : (but : ℕ → Type 0) → AreOpening but s → ((place : ℕ) → but place → place ≡ holding)
+  pub opening_next : (but : ℕ → Type 0) → AreOpening but s → ((position : ℕ) → but position → position ≡ holding)
       → ((g : Holding) (i offset len : ℕ) → IsHolding s.holdings.table holding g → IsReadAt es g i offset len → IsReadUpTo o offset len)
       → ((g : Holding) → IsHolding s.holdings.table holding g → (g.left ≡ false) ⊎ IsTaken s.holdings.table holding g)
       → ((g : Holding) → IsHolding s.holdings.table holding g → (g.suspended ≡ false) × (a.begun.reader ≡ None))
       → AreOpening nobody u
   opening_next but opening only reads taken rest = record {
-    each = λ place g b is there. elim (begun_cases place b there) [
-      | inl k ↦ each_new place g b is k
-      | inr k ↦ each_old place g b is (opening.each place g b (held_back place g is) k.1) k.0
+    each = λ position g b is there. elim (begun_cases position b there) [
+      | inl k ↦ each_new position g b is k
+      | inr k ↦ each_old position g b is (opening.each position g b (held_back position g is) k.1) k.0
     ];
-    works = λ share place n e reading none. works share place n (sym (ap (λ (t : TableState). slice_get t.numbers share) table_is) ∙ e) reading (cases_eq place holding);
+    works = λ share position n e reading none. works share position n (sym (ap (λ (t : TableState). slice_get t.numbers share) table_is) ∙ e) reading (cases_eq position holding);
   }
     where
-      each_new : (place : ℕ) (g : Holding) (b : Begun) → IsHolding u.holdings.table place g → (place ≡ holding) × (b.opening ≡ Some o) × (b.waiting ≡ Some (length es)) × (b.reader ≡ a.begun.reader) → IsOpening u place g b
-      each_new place g b is k =
-          let held : IsHolding s.holdings.table holding g = ap (slice_get s.holdings.table.holdings) (sym k.0) ∙ held_back place g is in
+      each_new : (position : ℕ) (g : Holding) (b : Begun) → IsHolding u.holdings.table position g → (position ≡ holding) × (b.opening ≡ Some o) × (b.waiting ≡ Some (length es)) × (b.reader ≡ a.begun.reader) → IsOpening u position g b
+      each_new position g b is k =
+          let held : IsHolding s.holdings.table holding g = ap (slice_get s.holdings.table.holdings) (sym k.0) ∙ held_back position g is in
           record {
             reads = λ i offset len read. subst (λ (q : Option Opening). IsBeginning q offset len) (sym k.1)
-                (by_read g held i offset len (read_pushed es (first_request h.server (Reading h.share (next_place o) (next_length o)) s.holdings.requests.clock) g i offset len (subst (λ (ns : List Request). IsReadAt ns g i offset len) entries_are read)));
-            taken = λ some. subst (λ (t : TableState). (g.left ≡ false) ⊎ IsTaken t place g) (sym table_is) (subst (λ (p : ℕ). (g.left ≡ false) ⊎ IsTaken s.holdings.table p g) (sym k.0) (taken g held));
+                (by_read g held i offset len (read_pushed es (first_request h.server (Reading h.share (next_offset o) (next_length o)) s.holdings.requests.clock) g i offset len (subst (λ (ns : List Request). IsReadAt ns g i offset len) entries_are read)));
+            taken = λ some. subst (λ (t : TableState). (g.left ≡ false) ⊎ IsTaken t position g) (sym table_is) (subst (λ (p : ℕ). (g.left ≡ false) ⊎ IsTaken s.holdings.table p g) (sym k.0) (taken g held));
             unread = k.3 ∙ (rest g held).1;
             choosable = (rest g held).0;
           }
         where
-          by_read : (g : Holding) → IsHolding s.holdings.table holding g → (i offset len : ℕ) → IsReadAt es g i offset len ⊎ ((i ≡ length es) × (h.server ≡ g.server) × (Reading h.share (next_place o) (next_length o) ≡ Reading g.share offset len)) → IsReadUpTo o offset len
+          by_read : (g : Holding) → IsHolding s.holdings.table holding g → (i offset len : ℕ) → IsReadAt es g i offset len ⊎ ((i ≡ length es) × (h.server ≡ g.server) × (Reading h.share (next_offset o) (next_length o) ≡ Reading g.share offset len)) → IsReadUpTo o offset len
           by_read g held i offset len (inl old) = reads g i offset len held old
           by_read g held i offset len (inr new) =
-              let places : next_place o ≡ offset = cc in
+              let positions : next_offset o ≡ offset = cc in
               let lengths : next_length o ≡ len = cc in
-              subst (λ n. IsReadUpTo o n len) places (subst (λ n. IsReadUpTo o (next_place o) n) lengths (next_is o))
+              subst (λ n. IsReadUpTo o n len) positions (subst (λ n. IsReadUpTo o (next_offset o) n) lengths (next_is o))
 
-      each_old : (place : ℕ) (g : Holding) (b : Begun) → IsHolding u.holdings.table place g → IsOpening s place g b → (place ≡ holding → ⊥) → IsOpening u place g b
-      each_old place g b is old other = record {
-        reads = λ i offset len read. by_read i offset len (read_pushed es (first_request h.server (Reading h.share (next_place o) (next_length o)) s.holdings.requests.clock) g i offset len (subst (λ (ns : List Request). IsReadAt ns g i offset len) entries_are read));
-        taken = λ some. subst (λ (t : TableState). (g.left ≡ false) ⊎ IsTaken t place g) (sym table_is) (old.taken some);
+      each_old : (position : ℕ) (g : Holding) (b : Begun) → IsHolding u.holdings.table position g → IsOpening s position g b → (position ≡ holding → ⊥) → IsOpening u position g b
+      each_old position g b is old other = record {
+        reads = λ i offset len read. by_read i offset len (read_pushed es (first_request h.server (Reading h.share (next_offset o) (next_length o)) s.holdings.requests.clock) g i offset len (subst (λ (ns : List Request). IsReadAt ns g i offset len) entries_are read));
+        taken = λ some. subst (λ (t : TableState). (g.left ≡ false) ⊎ IsTaken t position g) (sym table_is) (old.taken some);
         unread = old.unread;
         choosable = old.choosable;
       }
         where
-          by_read : (i offset len : ℕ) → IsReadAt es g i offset len ⊎ ((i ≡ length es) × (h.server ≡ g.server) × (Reading h.share (next_place o) (next_length o) ≡ Reading g.share offset len)) → IsBeginning b.opening offset len
+          by_read : (i offset len : ℕ) → IsReadAt es g i offset len ⊎ ((i ≡ length es) × (h.server ≡ g.server) × (Reading h.share (next_offset o) (next_length o) ≡ Reading g.share offset len)) → IsBeginning b.opening offset len
           by_read i offset len (inl was) = old.reads i offset len was
           by_read i offset len (inr new) =
               let shares : h.share ≡ g.share = cc in
-              absurd (distinct_places known.right place holding g h (held_back place g is) a.asks.1 (sym new.1) (sym shares) other)
+              absurd (distinct_positions known.right position holding g h (held_back position g is) a.asks.1 (sym new.1) (sym shares) other)
 
-      works : (share place : ℕ) (n : NumberState) → IsNumber s.holdings.table share n → n.reading ≡ Some place → (place ≡ holding) ⊎ (place ≡ holding → ⊥) → IsOut u place
-      works share place n e reading (inl here) = record {
+      works : (share position : ℕ) (n : NumberState) → IsNumber s.holdings.table share n → n.reading ≡ Some position → (position ≡ holding) ⊎ (position ≡ holding → ⊥) → IsOut u position
+      works share position n e reading (inl here) = record {
         begun = record a.begun { opening = Some o; waiting = Some (length es) };
-        is = ap (λ (l : List Begun). slice_get l place) a.is ∙ ap (slice_get (slice_set s.begun holding (record a.begun { opening = Some o; waiting = Some (length es) }))) here ∙ get_set s.begun holding (record a.begun { opening = Some o; waiting = Some (length es) }) a.begun a.there;
+        is = ap (λ (l : List Begun). slice_get l position) a.is ∙ ap (slice_get (slice_set s.begun holding (record a.begun { opening = Some o; waiting = Some (length es) }))) here ∙ get_set s.begun holding (record a.begun { opening = Some o; waiting = Some (length es) }) a.begun a.there;
         request = length es;
         waiting = refl;
-        out = subst (λ (ns : List Request). IsOutAt ns (length es)) (sym entries_are) (next_out es h.server h.share (next_place o) (next_length o) s.holdings.requests.clock);
+        out = subst (λ (ns : List Request). IsOutAt ns (length es)) (sym entries_are) (next_out es h.server h.share (next_offset o) (next_length o) s.holdings.requests.clock);
       }
-      works share place n e reading (inr other) =
-          let w = opening.works share place n e reading (λ b. other (only place b)) in
+      works share position n e reading (inr other) =
+          let w = opening.works share position n e reading (λ b. other (only position b)) in
           record {
             begun = w.begun;
-            is = ap (λ (l : List Begun). slice_get l place) a.is ∙ get_other s.begun holding place (record a.begun { opening = Some o; waiting = Some (length es) }) other ∙ w.is;
+            is = ap (λ (l : List Begun). slice_get l position) a.is ∙ get_other s.begun holding position (record a.begun { opening = Some o; waiting = Some (length es) }) other ∙ w.is;
             request = w.request;
             waiting = w.waiting;
-            out = subst (λ (ns : List Request). IsOutAt ns w.request) (sym entries_are) (out_pushed es (first_request h.server (Reading h.share (next_place o) (next_length o)) s.holdings.requests.clock) w.request w.out);
+            out = subst (λ (ns : List Request). IsOutAt ns w.request) (sym entries_are) (out_pushed es (first_request h.server (Reading h.share (next_offset o) (next_length o)) s.holdings.requests.clock) w.request w.out);
           }

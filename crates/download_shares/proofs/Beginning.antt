@@ -24,28 +24,28 @@ one_of now (s ∷ ss) zero r e = let is : first_request s Holdings now ≡ r = c
 one_of now (s ∷ ss) (suc i) r e = one_of now ss i r e
 
 module _ (total : ℕ) (servers : List ℕ) (session now : ℕ) (s : BeginningsState) (begins : Begins total servers session now s.holdings) (none : s.begun ≡ []) where
-  no_holdings : (place : ℕ) (h : Holding) → IsHolding s.holdings.table place h → ⊥
-  no_holdings place h e = let f : slice_get [] place ≡ Some h = sym (ap (λ (l : List Holding). slice_get l place) begins.holdings) ∙ e in absurd cc
+  no_holdings : (position : ℕ) (h : Holding) → IsHolding s.holdings.table position h → ⊥
+  no_holdings position h e = let f : slice_get [] position ≡ Some h = sym (ap (λ (l : List Holding). slice_get l position) begins.holdings) ∙ e in absurd cc
 
   pub known_first : IsRight s.holdings → AreBegun s
   known_first right = record {
     right = right;
     counted = ap length none ∙ sym (ap length begins.holdings);
-    each = λ place h b e there. absurd (no_holdings place h e);
+    each = λ position h b e there. absurd (no_holdings position h e);
     held = λ server share o below. absurd (
-        let there : slice_get (map (λ server. first_request server Holdings now) servers) o.place ≡ Some o.request =
-        sym (ap (λ (l : List Request). slice_get l o.place) (ap (λ (r : RequestsState). r.entries) begins.requests ∙ begun_entries servers session now)) ∙ o.there in
-        let two : Outstanding ≡ Answered (Have o.readonly o.held) = sym (one_of now servers o.place o.request there) ∙ o.answer in
+        let there : slice_get (map (λ server. first_request server Holdings now) servers) o.position ≡ Some o.request =
+        sym (ap (λ (l : List Request). slice_get l o.position) (ap (λ (r : RequestsState). r.entries) begins.requests ∙ begun_entries servers session now)) ∙ o.there in
+        let two : Outstanding ≡ Answered (Have o.readonly o.held) = sym (one_of now servers o.position o.request there) ∙ o.answer in
         cc);
   }
 
   pub opening_first : AreOpening nobody s
   opening_first = record {
-    each = λ place h b e there. absurd (no_holdings place h e);
-    works = λ share place n e reading none. absurd (
+    each = λ position h b e there. absurd (no_holdings position h e);
+    works = λ share position n e reading none. absurd (
         let lt = slice_get_within s.holdings.table.numbers share n e in
         let is : n ≡ slice_index_or s.holdings.table.numbers share n = sym (get_or_from_slice_get s.holdings.table.numbers share n n e) in
         let un : slice_index_or s.holdings.table.numbers share n ≡ no_holding = begins.unread share n lt in
-        let two : None ≡ Some place = sym (ap (λ (x : NumberState). x.reading) (is ∙ un)) ∙ reading in
+        let two : None ≡ Some position = sym (ap (λ (x : NumberState). x.reading) (is ∙ un)) ∙ reading in
         cc);
   }

@@ -53,13 +53,13 @@ module _ (s u : BeginningsState) (now : ℕ) (known : AreBegun s) (ticks : Ticks
 
   pub offered_ticked : (server share : ℕ) → IsOffered u.holdings.requests.entries server share → IsOffered es server share
   offered_ticked server share o =
-      let q = there_after o.place o.request o.there in
-      let w = alike_ticked o.place o.request o.there in
-      let one : w.request ≡ q.0 = one_there (slice_get es o.place) w.request q.0 w.there q.1 in
+      let q = there_after o.position o.request o.there in
+      let w = alike_ticked o.position o.request o.there in
+      let one : w.request ≡ q.0 = one_there (slice_get es o.position) w.request q.0 w.there q.1 in
       elim (ticked_cases at q.0) [
         | inl lost ↦ (let two : Lost ≡ Answered (Have o.readonly o.held) = sym (lost_one at q.0 lost) ∙ ap (λ (x : Request). x.outcome) q.2 ∙ o.answer in absurd cc)
         | inr kept ↦ record {
-          place = o.place;
+          position = o.position;
           request = q.0;
           there = q.1;
           of_server = sym (ap (λ (x : Request). x.server) one) ∙ w.of_server ∙ o.of_server;
@@ -78,19 +78,19 @@ module _ (s u : BeginningsState) (now : ℕ) (known : AreBegun s) (ticks : Ticks
   known_ticked right = known_goes s u known grows_ticked offered_ticked (shares_fall s.holdings.table u.holdings.table ticked_falls) right (ap length same) (keeps_same s.begun u.begun same)
 
   -- what is still to be answered, of one that is left
-  pub out_ticked : (place : ℕ) (h : Holding) → IsHolding u.holdings.table place h → h.left ≡ true → IsOut s place → IsOut u place
-  out_ticked place h is left out =
-      let was = ticked_falls.back place h is in
+  pub out_ticked : (position : ℕ) (h : Holding) → IsHolding u.holdings.table position h → h.left ≡ true → IsOut s position → IsOut u position
+  out_ticked position h is left out =
+      let was = ticked_falls.back position h is in
       let r = read_of was.held was.is in
       let own = owner r.0 r.1 r.2 in
       elim (ticked_cases at out.out.request) [
         | inl lost ↦ (
             let zero_is : 0 + out.request ≡ out.request = omega arith in
             let among : Contains (lost_by_tick now s.holdings.requests) out.request = subst (Contains (lost_by_tick now s.holdings.requests)) zero_is (listed (is_lost_at at) es 0 out.request out.out.request out.out.there lost) in
-            absurd (((ticks.table.holdings place was.held h was.is is).3 left).1 (out.request, among, own.0, own.1)))
+            absurd (((ticks.table.holdings position was.held h was.is is).3 left).1 (out.request, among, own.0, own.1)))
         | inr kept ↦ record {
           begun = out.begun;
-          is = ap (λ (l : List Begun). slice_get l place) same ∙ out.is;
+          is = ap (λ (l : List Begun). slice_get l position) same ∙ out.is;
           request = out.request;
           waiting = out.waiting;
           out = record {
@@ -101,14 +101,14 @@ module _ (s u : BeginningsState) (now : ℕ) (known : AreBegun s) (ticks : Ticks
         }
       ]
     where
-      read_of : (x : Holding) → IsHolding s.holdings.table place x → (x2 : Holding) × IsHolding s.holdings.table place x2 × ((offset : ℕ) × ((len : ℕ) × IsReadAt es x2 out.request offset len))
-      read_of x held = by_opening out.begun.opening ((known.each place x out.begun held out.is).waits out.request out.waiting)
+      read_of : (x : Holding) → IsHolding s.holdings.table position x → (x2 : Holding) × IsHolding s.holdings.table position x2 × ((offset : ℕ) × ((len : ℕ) × IsReadAt es x2 out.request offset len))
+      read_of x held = by_opening out.begun.opening ((known.each position x out.begun held out.is).waits out.request out.waiting)
         where
-          by_opening : (o : Option Opening) → IsNextAt es x o out.request → (x2 : Holding) × IsHolding s.holdings.table place x2 × ((offset : ℕ) × ((len : ℕ) × IsReadAt es x2 out.request offset len))
+          by_opening : (o : Option Opening) → IsNextAt es x o out.request → (x2 : Holding) × IsHolding s.holdings.table position x2 × ((offset : ℕ) × ((len : ℕ) × IsReadAt es x2 out.request offset len))
           by_opening None w = absurd w
           by_opening (Some o) w = (x, held, (_, (_, w)))
 
-      owner : (x : Holding) → IsHolding s.holdings.table place x → (offset : ℕ) × ((len : ℕ) × IsReadAt es x out.request offset len) → (s.holdings.servers ≤ out.request) × (slice_get s.holdings.owners (out.request - s.holdings.servers) ≡ Some place)
+      owner : (x : Holding) → IsHolding s.holdings.table position x → (offset : ℕ) × ((len : ℕ) × IsReadAt es x out.request offset len) → (s.holdings.servers ≤ out.request) × (slice_get s.holdings.owners (out.request - s.holdings.servers) ≡ Some position)
       owner x held r = elim (cases_lt out.request s.holdings.servers) [
         | inl low ↦ (let two : Reading x.share r.0 r.1.0 ≡ Holdings = sym r.1.1.asked ∙ known.right.first out.request r.1.1.request r.1.1.there low in absurd cc)
         | inr high ↦ (
@@ -117,13 +117,13 @@ module _ (s u : BeginningsState) (now : ℕ) (known : AreBegun s) (ticks : Ticks
             let lt : out.request - s.holdings.servers < length s.holdings.owners = omega (arith, c, w, high) in
             let k = slice_index_or s.holdings.owners (out.request - s.holdings.servers) 0 in
             let own : slice_get s.holdings.owners (out.request - s.holdings.servers) ≡ Some k = slice_get-get_or s.holdings.owners (out.request - s.holdings.servers) 0 lt in
-            let one : place ≡ k = (only_owner s.holdings known.right out.request k high own).others place x r.1.1.request held r.1.1.there r.1.1.of_server r.0 r.1.0 r.1.1.asked in
+            let one : position ≡ k = (only_owner s.holdings known.right out.request k high own).others position x r.1.1.request held r.1.1.there r.1.1.of_server r.0 r.1.0 r.1.1.asked in
             (high, own ∙ ap Some (sym one)))
       ]
 
   pub opening_ticked : AreOpening nobody s → IsTable u.holdings.table → AreOpening nobody u
   opening_ticked opening table =
-      opening_falls s u nobody nobody opening alike_ticked ticked_falls same (λ place b. b)
-      (λ share place m is reads none out. (
-      let p = table.places share place m is (table.reading share place m is reads) in
-      out_ticked place p.0 p.1 p.3 out))
+      opening_falls s u nobody nobody opening alike_ticked ticked_falls same (λ position b. b)
+      (λ share position m is reads none out. (
+      let p = table.positions share position m is (table.reading share position m is reads) in
+      out_ticked position p.0 p.1 p.3 out))

@@ -43,7 +43,7 @@ begun_length servers session now = ap length (begun_entries servers session now)
 
 -- ---- nobody is asked twice
 
--- what holds of all holds of the one at a place
+-- what holds of all holds of the one at a position
 get_all : (P : ℕ → Type 0) (xs : List ℕ) → AllByRecursion P xs → (i x : ℕ) → slice_get xs i ≡ Some x → P x
 get_all P [] all i x e = absurd cc
 get_all P (y ∷ ys) all zero x e = let is : y ≡ x = cc in subst P is all.0
@@ -73,12 +73,12 @@ begun_right total servers session now s d b = record {
   first = λ i r e lt. begun_asks servers session now i r (sym (ap (λ (q : RequestsState). slice_get q.entries i) b.requests) ∙ e);
   counted = (let len = ap (λ (q : RequestsState). length q.entries) b.requests ∙ begun_length servers session now in let own = ap length b.owners in let n = b.servers_are in omega (arith, len, own, n));
   owned = λ i holding e. let f : slice_get [] i ≡ Some holding = sym (ap (λ (l : List ℕ). slice_get l i) b.owners) ∙ e in absurd cc;
-  offered = λ place h e. absurd (none place h e);
+  offered = λ position h e. absurd (none position h e);
   distinct = λ i j x y lt e f servers-same shares-same. none i x e;
-  left = λ place h e left. absurd (none place h e);
-  others = λ place h e left. absurd (none place h e);
+  left = λ position h e left. absurd (none position h e);
+  others = λ position h e left. absurd (none position h e);
   blamed = λ i x e. (let f : slice_get [] i ≡ Some x = sym (ap (λ (l : List Blame). slice_get l i) b.blamed) ∙ e in absurd cc);
 }
   where
-    none : (place : ℕ) (h : Holding) → IsHolding s.table place h → ⊥
-    none place h e = let f : slice_get [] place ≡ Some h = sym (ap (λ (l : List Holding). slice_get l place) b.holdings) ∙ e in absurd cc
+    none : (position : ℕ) (h : Holding) → IsHolding s.table position h → ⊥
+    none position h e = let f : slice_get [] position ≡ Some h = sym (ap (λ (l : List Holding). slice_get l position) b.holdings) ∙ e in absurd cc

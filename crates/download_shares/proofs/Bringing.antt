@@ -27,10 +27,10 @@ fitting : (from : ℕ) (body : Body) (o : Option Request) → awaits_at from bod
 fitting from body None e = absurd (false≢true e)
 fitting from body (Some r) e = (r, refl, (both (is_outstanding r.outcome && (r.server == from)) (fits r.asked body) e).1)
 
-pub fits_at : (from : ℕ) (m : Message) (s : RequestsState) (place : ℕ) → counts_at from m s ≡ Some place → (r : Request) × (slice_get s.entries place ≡ Some r) × (fits r.asked m.body ≡ true)
-fits_at from m s place e =
+pub fits_at : (from : ℕ) (m : Message) (s : RequestsState) (position : ℕ) → counts_at from m s ≡ Some position → (r : Request) × (slice_get s.entries position ≡ Some r) × (fits r.asked m.body ≡ true)
+fits_at from m s position e =
     let at = slice_get s.entries (m.number - 1) in
-    let t = chosen ((m.session == s.session) && not (m.number == 0) && awaits_at from m.body at) (m.number - 1) place e in
+    let t = chosen ((m.session == s.session) && not (m.number == 0) && awaits_at from m.body at) (m.number - 1) position e in
     let last = (both ((m.session == s.session) && not (m.number == 0)) (awaits_at from m.body at) t.0).1 in
     let f = fitting from m.body at last in
     (f.0, ap (slice_get s.entries) (sym t.1) ∙ f.1, f.2)
@@ -55,20 +55,20 @@ fits_data share o l (Data bytes) e some = (bytes, refl)
 fits_data share o l NoShare e some = absurd (some refl)
 
 module _ (s u : BeginningsState) (from : ℕ) (m : Message) (now : ℕ) (what : Heard) (right : IsRight s.holdings) (hears : Hears from m now s.holdings u.holdings what) where
-  -- the request at the place is answered by bytes
-  answered : (holding place : ℕ) → Brings place m s.holdings u.holdings (heard.Bytes holding place) → counts_at from m s.holdings.requests ≡ Some place → (bytes : List ℕ) × IsAnsweredBy u.holdings.requests.entries place bytes
-  answered holding place b counts =
-      let f = fits_at from m s.holdings.requests place counts in
-      let o = right.owned (place - s.holdings.servers) holding b.2 in
+  -- the request at the position is answered by bytes
+  answered : (holding position : ℕ) → Brings position m s.holdings u.holdings (heard.Bytes holding position) → counts_at from m s.holdings.requests ≡ Some position → (bytes : List ℕ) × IsAnsweredBy u.holdings.requests.entries position bytes
+  answered holding position b counts =
+      let f = fits_at from m s.holdings.requests position counts in
+      let o = right.owned (position - s.holdings.servers) holding b.2 in
       let le = b.0 in
-      let at : s.holdings.servers + (place - s.holdings.servers) ≡ place = omega (arith, le) in
-      let same : o.request ≡ f.0 = one_there (slice_get s.holdings.requests.entries place) o.request f.0 (ap (slice_get s.holdings.requests.entries) (sym at) ∙ o.there) f.1 in
+      let at : s.holdings.servers + (position - s.holdings.servers) ≡ position = omega (arith, le) in
+      let same : o.request ≡ f.0 = one_there (slice_get s.holdings.requests.entries position) o.request f.0 (ap (slice_get s.holdings.requests.entries) (sym at) ∙ o.there) f.1 in
       let asks : f.0.asked ≡ Reading o.held.share o.read.offset o.read.len = sym (ap (λ (q : Request). q.asked) same) ∙ o.read.asked in
       let d = fits_data o.held.share o.read.offset o.read.len m.body (subst (λ (a : Asked). fits a m.body ≡ true) asks f.2) b.3 in (
         d.0,
         record {
           request = with_outcome f.0 (Answered m.body);
-          there = ap (λ (r : RequestsState). slice_get r.entries place) hears.requests ∙ answered_at from m now s.holdings.requests place f.0 counts f.1;
+          there = ap (λ (r : RequestsState). slice_get r.entries position) hears.requests ∙ answered_at from m now s.holdings.requests position f.0 counts f.1;
           answer = ap Answered d.1;
         },
       )

@@ -4,7 +4,7 @@ use Rattle.std.specs.Prelude.{slice_get, slice_index_or}
 use Rattle.std.proofs.lemmas.Bool.{cases_lt}
 use Rattle.std.proofs.lemmas.Option.{slice_get-get_or, slice_get_within}
 use Rattle.lemmas.proofs.Options.{one_there}
-use Rattle.lemmas.proofs.Places.{get_pushed}
+use Rattle.lemmas.proofs.Positions.{get_pushed}
 use Rattle.cap_text.specs.Cap.{VerifyCapValue}
 use Rattle.wire.specs.declared.message.Body.TheVariants.{Data}
 use Rattle.request_record.specs.declared.requests.Asked.TheVariants.{Reading}
@@ -13,7 +13,7 @@ use Rattle.request_record.specs.declared.requests.Request.{Request}
 use Rattle.request_record.specs.Record.{first_request, is_outstanding}
 use Rattle.share_layout.specs.Geometry.{Geometry}
 use Rattle.share_verify.specs.declared.check.Check.{Check}
-use Rattle.share_reading.specs.Opening.{next_length, next_place}
+use Rattle.share_reading.specs.Opening.{next_length, next_offset}
 use Rattle.share_reading.specs.OpeningReads.{IsLedToBy}
 use Rattle.share_reading.specs.Refusal.{IsRefused, check_of}
 use Rattle.share_reading.specs.declared.error.OpeningError.{OpeningError}
@@ -63,25 +63,25 @@ blamed_low n w u holding check table same blames =
 
 -- ---- an answer to the next read of an opening fails
 
-module _ (s : BeginningsState) (holding place : ℕ) (o : Opening) (h : Holding) (bytes : List ℕ) (known : AreBegun s) (awaits : (p : Opening) × Awaits s holding place p) (is : (b : Begun) → IsBegun s holding b → Some o ≡ b.opening)
-    (at : IsHolding s.holdings.table holding h) (answered : IsAnsweredBy s.holdings.requests.entries place bytes) where
+module _ (s : BeginningsState) (holding position : ℕ) (o : Opening) (h : Holding) (bytes : List ℕ) (known : AreBegun s) (awaits : (p : Opening) × Awaits s holding position p) (is : (b : Begun) → IsBegun s holding b → Some o ≡ b.opening)
+    (at : IsHolding s.holdings.table holding h) (answered : IsAnsweredBy s.holdings.requests.entries position bytes) where
   opening : awaits.1.begun.opening ≡ Some o
   opening = sym (is awaits.1.begun awaits.1.there)
 
   led : IsLedToBy (brought_of s.holdings.requests.entries h.server h.share) o
   led = (known.each holding h awaits.1.begun at awaits.1.there).led o opening
 
-  next : IsReadAt s.holdings.requests.entries h place (next_place o) (next_length o)
-  next = subst (λ (q : Option Opening). IsNextAt s.holdings.requests.entries h q place) opening ((known.each holding h awaits.1.begun at awaits.1.there).waits place awaits.1.waiting)
+  next : IsReadAt s.holdings.requests.entries h position (next_offset o) (next_length o)
+  next = subst (λ (q : Option Opening). IsNextAt s.holdings.requests.entries h q position) opening ((known.each holding h awaits.1.begun at awaits.1.there).waits position awaits.1.waiting)
 
   answer : next.request.outcome ≡ Answered (Data bytes)
-  answer = ap (λ (r : Request). r.outcome) (one_there (slice_get s.holdings.requests.entries place) next.request answered.request next.there answered.there) ∙ answered.answer
+  answer = ap (λ (r : Request). r.outcome) (one_there (slice_get s.holdings.requests.entries position) next.request answered.request next.there answered.there) ∙ answered.answer
 
   pub opening_fault : (cap : VerifyCapValue) (check : Check) (error : OpeningError) → IsRefused cap o bytes error → check ≡ check_of error → IsOpeningFault cap s.holdings.requests.entries (record { server = h.server; share = h.share; check = check })
   opening_fault cap check error refused same = record {
     opening = o;
     led = led;
-    place = place;
+    position = position;
     request = next.request;
     there = next.there;
     of_server = next.of_server;
@@ -100,8 +100,8 @@ module _ (s : BeginningsState) (holding place : ℕ) (o : Opening) (h : Holding)
       inr (record {
         opening = other.0;
         led = lead_on cap brought brought o other.0 bytes led other.1 (λ read there. there)
-            (brought_has s.holdings.requests.entries h.server h.share (next_place o, bytes)
-            (record { place = place; request = next.request; there = next.there; of_server = next.of_server; len = next_length o; asked = next.asked; answer = answer }));
+            (brought_has s.holdings.requests.entries h.server h.share (next_offset o, bytes)
+            (record { position = position; request = next.request; there = next.there; of_server = next.of_server; len = next_length o; asked = next.asked; answer = answer }));
         other = other.2;
         check = other.3;
       })
@@ -115,9 +115,9 @@ pub opening_fault_stays : (cap : VerifyCapValue) (es ns : List Request) (b : Bla
 opening_fault_stays cap es ns b stays k = record {
   opening = k.opening;
   led = led_stays es ns b.server b.share k.opening stays k.led;
-  place = k.place;
+  position = k.position;
   request = k.request;
-  there = stays k.place k.request k.there (ap is_outstanding k.answer);
+  there = stays k.position k.request k.there (ap is_outstanding k.answer);
   of_server = k.of_server;
   asked = k.asked;
   bytes = k.bytes;
@@ -137,32 +137,32 @@ beginning_stays es ns server share offset len stays k = record { opening = k.ope
 -- ---- what is read more
 
 pub reads_none : (may : ℕ → ℕ → ℕ → ℕ → Type 0) (old new : List Request) → new ≡ old → AddsReads may old new
-reads_none may old new e place r share offset len there le asked = (let w = slice_get_within new place r there in let l = ap length e in absurd (omega (arith, w, l, le)))
+reads_none may old new e position r share offset len there le asked = (let w = slice_get_within new position r there in let l = ap length e in absurd (omega (arith, w, l, le)))
 
 pub reads_trans : (may : ℕ → ℕ → ℕ → ℕ → Type 0) (es ns ms : List Request) → ((i : ℕ) (r : Request) → slice_get ns i ≡ Some r → slice_get ms i ≡ Some r) → AddsReads may es ns → AddsReads may ns ms → AddsReads may es ms
-reads_trans may es ns ms stays first second place r share offset len there le asked = elim (cases_lt place (length ns)) [
+reads_trans may es ns ms stays first second position r share offset len there le asked = elim (cases_lt position (length ns)) [
   | inl lt ↦ (
-      let was : slice_get ns place ≡ Some (slice_index_or ns place r) = slice_get-get_or ns place r lt in
-      let same : slice_index_or ns place r ≡ r = one_there (slice_get ms place) (slice_index_or ns place r) r (stays place (slice_index_or ns place r) was) there in
-      first place r share offset len (was ∙ ap Some same) le asked)
-  | inr ge ↦ second place r share offset len there ge asked
+      let was : slice_get ns position ≡ Some (slice_index_or ns position r) = slice_get-get_or ns position r lt in
+      let same : slice_index_or ns position r ≡ r = one_there (slice_get ms position) (slice_index_or ns position r) r (stays position (slice_index_or ns position r) was) there in
+      first position r share offset len (was ∙ ap Some same) le asked)
+  | inr ge ↦ second position r share offset len there ge asked
 ]
 
 -- these bytes of a holding's share
 pub reads_asked : (may : ℕ → ℕ → ℕ → ℕ → Type 0) (s u : HoldingsState) (holding offset len : ℕ) → (a : Asks holding offset len s u) → may a.0.server a.0.share offset len → AddsReads may s.requests.entries u.requests.entries
-reads_asked may s u holding offset len a own place r share o l there le asked =
+reads_asked may s u holding offset len a own position r share o l there le asked =
     let es = s.requests.entries in
     let n = first_request a.0.server (Reading a.0.share offset len) s.requests.clock in
     let list : u.requests.entries ≡ es ++ n ∷ [] = ap (λ (x : HoldingsState). x.requests.entries) a.2 in
-    elim (get_pushed es n r place (sym (ap (λ (x : List Request). slice_get x place) list) ∙ there)) [
-      | inl was ↦ (let w = slice_get_within es place r was in absurd (omega (arith, w, le)))
+    elim (get_pushed es n r position (sym (ap (λ (x : List Request). slice_get x position) list) ∙ there)) [
+      | inl was ↦ (let w = slice_get_within es position r was in absurd (omega (arith, w, le)))
       | inr last ↦ (
           let asks : Reading a.0.share offset len ≡ Reading share o l = ap (λ (q : Request). q.asked) last.1 ∙ asked in
           let shares : a.0.share ≡ share = cc in
-          let places : offset ≡ o = cc in
+          let positions : offset ≡ o = cc in
           let lengths : len ≡ l = cc in
           let servers : a.0.server ≡ r.server = ap (λ (q : Request). q.server) last.1 in
-          subst (λ x. may r.server share o x) lengths (subst (λ x. may r.server share x len) places (subst (λ x. may r.server x offset len) shares (subst (λ x. may x a.0.share offset len) servers own))))
+          subst (λ x. may r.server share o x) lengths (subst (λ x. may r.server share x len) positions (subst (λ x. may r.server x offset len) shares (subst (λ x. may x a.0.share offset len) servers own))))
     ]
 
 -- the next bytes of an opening
@@ -171,5 +171,5 @@ pub reads_next : (s u : BeginningsState) (holding : ℕ) (o : Opening) → AsksN
 reads_next s u holding o a led =
     let es = s.holdings.requests.entries in
     let h = a.asks.0 in
-    reads_asked (IsInBeginning u.holdings.requests.entries) s.holdings u.holdings holding (next_place o) (next_length o) a.asks
-    (record { opening = o; led = led_stays es u.holdings.requests.entries h.server h.share o (grows_asks holding (next_place o) (next_length o) s.holdings u.holdings a.asks).stays (led h a.asks.1); lies = next_is o })
+    reads_asked (IsInBeginning u.holdings.requests.entries) s.holdings u.holdings holding (next_offset o) (next_length o) a.asks
+    (record { opening = o; led = led_stays es u.holdings.requests.entries h.server h.share o (grows_asks holding (next_offset o) (next_length o) s.holdings u.holdings a.asks).stays (led h a.asks.1); lies = next_is o })

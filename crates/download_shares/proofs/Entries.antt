@@ -5,8 +5,8 @@ use Rattle.std.proofs.lemmas.Bool.{eq-eqb}
 use Rattle.std.proofs.lemmas.Option.{slice_get_within}
 use Rattle.lemmas.proofs.Members.{flat_map_has, IsFrom, flat_map_from}
 pub use Rattle.lemmas.proofs.Options.{one_there as same_of}
-pub use Rattle.lemmas.proofs.Places.{get_pushed as pushed}
-use Rattle.lemmas.proofs.Places.{get_pushed, get_push}
+pub use Rattle.lemmas.proofs.Positions.{get_pushed as pushed}
+use Rattle.lemmas.proofs.Positions.{get_pushed, get_push}
 use Rattle.placement.proofs.Members.{Contains-head, Contains-nil}
 use Rattle.wire.specs.declared.message.Body.TheVariants.{Data}
 use Rattle.request_record.specs.declared.requests.Asked.{Asked}
@@ -28,9 +28,9 @@ use Rattle.download_shares.specs.Reads.{IsOutAt, IsReadAt, brought_by, brought_i
 
 -- bytes that answered a request for bytes of the share
 pub record IsBroughtBy (entries : List Request) (server share : ℕ) (read : Brought) : Type 0 where
-  pub place : ℕ
+  pub position : ℕ
   pub request : Request
-  pub there : slice_get entries place ≡ Some request
+  pub there : slice_get entries position ≡ Some request
   pub of_server : request.server ≡ server
   pub len : ℕ
   pub asked : request.asked ≡ Reading share read.0 len
@@ -44,7 +44,7 @@ about server share r offset len of_server asked =
 
 pub brought_has : (entries : List Request) (server share : ℕ) (read : Brought) → IsBroughtBy entries server share read → Contains (brought_of entries server share) read
 brought_has entries server share read b =
-    flat_map_has (brought_by server share) entries b.place b.request read b.there
+    flat_map_has (brought_by server share) entries b.position b.request read b.there
     (subst (λ (c : Bool). Contains (cond c (brought_in b.request.asked b.request.outcome) []) read) (sym (about server share b.request read.0 b.len b.of_server b.asked))
     (subst (λ (a : Asked). Contains (brought_in a b.request.outcome) read) (sym b.asked)
     (subst (λ (o : Outcome). Contains (brought_in (Reading share read.0 b.len) o) read) (sym b.answer)
@@ -74,7 +74,7 @@ brought_grows es ns server share read stays h =
   where
     by : (f : IsFrom (brought_by server share) es read) (b : Bool) → is_outstanding f.source.outcome ≡ b → Contains (brought_of ns server share) read
     by f true e = absurd (Contains-nil read (subst (λ (l : List Brought). Contains l read) (unbrought_by server share f.source e) f.has))
-    by f false e = flat_map_has (brought_by server share) ns f.place f.source read (stays f.place f.source f.there e) f.has
+    by f false e = flat_map_has (brought_by server share) ns f.position f.source read (stays f.position f.source f.there e) f.has
 
 -- ---- the record goes on
 
@@ -99,33 +99,33 @@ grows_trans es ms ns f g = record {
 }
 
 -- a read is still there
-pub read_grows : (es ns : List Request) (h g : Holding) (place offset len : ℕ) → Grows es ns → g.server ≡ h.server → g.share ≡ h.share → IsReadAt es h place offset len → IsReadAt ns g place offset len
-read_grows es ns h g place offset len grows servers shares r =
-    let k = grows.kept place r.request r.there in
+pub read_grows : (es ns : List Request) (h g : Holding) (position offset len : ℕ) → Grows es ns → g.server ≡ h.server → g.share ≡ h.share → IsReadAt es h position offset len → IsReadAt ns g position offset len
+read_grows es ns h g position offset len grows servers shares r =
+    let k = grows.kept position r.request r.there in
     record { request = k.0; there = k.1; of_server = k.3 ∙ r.of_server ∙ sym servers; asked = k.2 ∙ r.asked ∙ ap (λ n. Reading n offset len) (sym shares) }
 
 -- a read was there, where each request was
-pub read_alike : (es ns : List Request) (h g : Holding) (place offset len : ℕ) → AskedAlike es ns → g.server ≡ h.server → g.share ≡ h.share → IsReadAt ns g place offset len → IsReadAt es h place offset len
-read_alike es ns h g place offset len alike servers shares r =
-    let w = alike place r.request r.there in
+pub read_alike : (es ns : List Request) (h g : Holding) (position offset len : ℕ) → AskedAlike es ns → g.server ≡ h.server → g.share ≡ h.share → IsReadAt ns g position offset len → IsReadAt es h position offset len
+read_alike es ns h g position offset len alike servers shares r =
+    let w = alike position r.request r.there in
     record { request = w.request; there = w.there; of_server = w.of_server ∙ r.of_server ∙ servers; asked = w.same ∙ r.asked ∙ ap (λ n. Reading n offset len) shares }
 
 -- a read was there, or is the last
-pub read_pushed : (es : List Request) (n : Request) (h : Holding) (place offset len : ℕ) → IsReadAt (es ++ n ∷ []) h place offset len
-    → IsReadAt es h place offset len ⊎ ((place ≡ length es) × (n.server ≡ h.server) × (n.asked ≡ Reading h.share offset len))
-read_pushed es n h place offset len r = elim (get_pushed es n r.request place r.there) [
+pub read_pushed : (es : List Request) (n : Request) (h : Holding) (position offset len : ℕ) → IsReadAt (es ++ n ∷ []) h position offset len
+    → IsReadAt es h position offset len ⊎ ((position ≡ length es) × (n.server ≡ h.server) × (n.asked ≡ Reading h.share offset len))
+read_pushed es n h position offset len r = elim (get_pushed es n r.request position r.there) [
   | inl old ↦ inl (record { request = r.request; there = old; of_server = r.of_server; asked = r.asked })
   | inr last ↦ inr (last.0, ap (λ (q : Request). q.server) last.1 ∙ r.of_server, ap (λ (q : Request). q.asked) last.1 ∙ r.asked)
 ]
 
 -- what waits for its answer
-pub out_pushed : (es : List Request) (n : Request) (place : ℕ) → IsOutAt es place → IsOutAt (es ++ n ∷ []) place
-out_pushed es n place o = record { request = o.request; there = get_push es n place (slice_get_within es place o.request o.there) ∙ o.there; waits = o.waits }
+pub out_pushed : (es : List Request) (n : Request) (position : ℕ) → IsOutAt es position → IsOutAt (es ++ n ∷ []) position
+out_pushed es n position o = record { request = o.request; there = get_push es n position (slice_get_within es position o.request o.there) ∙ o.there; waits = o.waits }
 
 -- ---- what is offered
 
 pub offered_pushed : (es : List Request) (server share now s offset len : ℕ) (other : ℕ) → IsOffered (es ++ first_request s (Reading other offset len) now ∷ []) server share → IsOffered es server share
-offered_pushed es server share now s offset len other o = elim (get_pushed es (first_request s (Reading other offset len) now) o.request o.place o.there) [
-  | inl old ↦ record { place = o.place; request = o.request; there = old; of_server = o.of_server; asked = o.asked; readonly = o.readonly; held = o.held; answer = o.answer; index = o.index; listed = o.listed; among = o.among; number = o.number }
+offered_pushed es server share now s offset len other o = elim (get_pushed es (first_request s (Reading other offset len) now) o.request o.position o.there) [
+  | inl old ↦ record { position = o.position; request = o.request; there = old; of_server = o.of_server; asked = o.asked; readonly = o.readonly; held = o.held; answer = o.answer; index = o.index; listed = o.listed; among = o.among; number = o.number }
   | inr last ↦ (let two : Reading other offset len ≡ Holdings = ap (λ (q : Request). q.asked) last.1 ∙ o.asked in absurd cc)
 ]

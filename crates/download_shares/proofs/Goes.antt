@@ -4,7 +4,7 @@ use Rattle.std.specs.Prelude.{slice_get, slice_index_or, slice_set}
 use Rattle.std.proofs.lemmas.Bool.{cases_eq, cases_lt}
 use Rattle.std.proofs.lemmas.List.{length-append, length-set}
 use Rattle.std.proofs.lemmas.Option.{slice_get-get_or, slice_get_within}
-use Rattle.lemmas.proofs.Places.{get_set, get_other, set_cases, get_push, get_last}
+use Rattle.lemmas.proofs.Positions.{get_set, get_other, set_cases, get_push, get_last}
 use Rattle.wire.specs.declared.message.Body.TheVariants.{NoShare}
 use Rattle.wire.specs.declared.message.Message.{Message}
 use Rattle.request_record.specs.declared.requests.Asked.TheVariants.{Reading}
@@ -28,9 +28,9 @@ use Rattle.download_shares.proofs.Records.{AskedAlike, StaysTo, alike_message, s
 
 pub offered_stays : (es ns : List Request) (server share : ℕ) → StaysTo es ns → IsOffered es server share → IsOffered ns server share
 offered_stays es ns server share stays o = record {
-  place = o.place;
+  position = o.position;
   request = o.request;
-  there = stays o.place o.request o.there (ap is_outstanding o.answer);
+  there = stays o.position o.request o.there (ap is_outstanding o.answer);
   of_server = o.of_server;
   asked = o.asked;
   readonly = o.readonly;
@@ -48,9 +48,9 @@ gone_quiet o (inr e) = ap is_outstanding e
 
 pub gone_stays : (es ns : List Request) (server share : ℕ) → StaysTo es ns → IsGone es server share → IsGone ns server share
 gone_stays es ns server share stays g = record {
-  place = g.place;
+  position = g.position;
   request = g.request;
-  there = stays g.place g.request g.there (gone_quiet g.request.outcome g.gone);
+  there = stays g.position g.request g.there (gone_quiet g.request.outcome g.gone);
   of_server = g.of_server;
   offset = g.offset;
   len = g.len;
@@ -62,11 +62,11 @@ gone_stays es ns server share stays g = record {
 
 -- the same shares at the same servers
 pub record HaveSamePairs (t u : TableState) : Type 0 where
-  pub forth : (place : ℕ) (h : Holding) → IsHolding t place h → (g : Holding) × IsHolding u place g × (g.server ≡ h.server) × (g.share ≡ h.share)
-  pub back : (place : ℕ) (g : Holding) → IsHolding u place g → (h : Holding) × IsHolding t place h × (g.server ≡ h.server) × (g.share ≡ h.share)
+  pub forth : (position : ℕ) (h : Holding) → IsHolding t position h → (g : Holding) × IsHolding u position g × (g.server ≡ h.server) × (g.share ≡ h.share)
+  pub back : (position : ℕ) (g : Holding) → IsHolding u position g → (h : Holding) × IsHolding t position h × (g.server ≡ h.server) × (g.share ≡ h.share)
 
 pub same_pairs : (t : TableState) → HaveSamePairs t t
-same_pairs t = record { forth = λ place h e. (h, e, refl, refl); back = λ place h e. (h, e, refl, refl) }
+same_pairs t = record { forth = λ position h e. (h, e, refl, refl); back = λ position h e. (h, e, refl, refl) }
 
 -- each request is still there, and asks the same
 pub record GoesAlike (es ns : List Request) : Type 0 where
@@ -102,19 +102,19 @@ module _ (s : HoldingsState) (right : IsRight s) (r : RequestsState) (u : TableS
       }
 
   pub right_goes : AsksOnce r.entries
-      → ((place : ℕ) (g : Holding) → IsHolding u place g → g.left ≡ true → IsLeft r.entries s.blamed g.server g.share)
-      → ((place : ℕ) (g : Holding) → IsHolding u place g → g.left ≡ false → IsGone r.entries g.server g.share ⊎ IsBlamed s.blamed g.server g.share)
+      → ((position : ℕ) (g : Holding) → IsHolding u position g → g.left ≡ true → IsLeft r.entries s.blamed g.server g.share)
+      → ((position : ℕ) (g : Holding) → IsHolding u position g → g.left ≡ false → IsGone r.entries g.server g.share ⊎ IsBlamed s.blamed g.server g.share)
       → IsRight (record s { requests = r; table = u })
   right_goes once left others = record {
     once = once;
     first = λ i n e lt. let was = goes.alike i n e in sym was.same ∙ right.first i was.request was.there lt;
     counted = (let c = right.counted in let l = goes.long in omega (arith, c, l));
     owned = owned_after;
-    offered = λ place g e.
-        let h = pairs.back place g e in
+    offered = λ position g e.
+        let h = pairs.back position g e in
         subst (λ (server : ℕ). IsOffered r.entries server g.share) (sym h.2)
         (subst (λ (share : ℕ). IsOffered r.entries h.0.server share) (sym h.3)
-        (offered_stays s.requests.entries r.entries h.0.server h.0.share goes.stays (right.offered place h.0 h.1)));
+        (offered_stays s.requests.entries r.entries h.0.server h.0.share goes.stays (right.offered position h.0 h.1)));
     distinct = λ i j a b lt e f servers shares.
         let x = pairs.back i a e in
         let y = pairs.back j b f in
@@ -129,17 +129,17 @@ module _ (s : HoldingsState) (right : IsRight s) (r : RequestsState) (u : TableS
 
 -- ---- answers
 
--- what stands at a place after a message: what stood there, or the request that it answers
+-- what stands at a position after a message: what stood there, or the request that it answers
 pub message_cases : (from : ℕ) (m : Message) (now : ℕ) (r : RequestsState) (k : ℕ) (n : Request) → slice_get (after_message from m now r).entries k ≡ Some n → (slice_get r.entries k ≡ Some n) ⊎ ((counts_at from m r ≡ Some k) × (n.outcome ≡ Answered m.body))
 message_cases from m now r k n e = by (counts_at from m (at now r)) refl e
   where
     by : (o : Option ℕ) → counts_at from m (at now r) ≡ o → slice_get (counted_at m (at now r) o).entries k ≡ Some n → (slice_get r.entries k ≡ Some n) ⊎ ((counts_at from m r ≡ Some k) × (n.outcome ≡ Answered m.body))
     by None c f = inl f
-    by (Some place) c f = at_place (slice_get r.entries place) refl f
+    by (Some position) c f = at_position (slice_get r.entries position) refl f
       where
-        at_place : (q : Option Request) → slice_get r.entries place ≡ q → slice_get (answered_in r.entries place q m.body) k ≡ Some n → (slice_get r.entries k ≡ Some n) ⊎ ((counts_at from m r ≡ Some k) × (n.outcome ≡ Answered m.body))
-        at_place None there g = inl g
-        at_place (Some q) there g = elim (set_cases r.entries place k (with_outcome q (Answered m.body)) n g) [
+        at_position : (q : Option Request) → slice_get r.entries position ≡ q → slice_get (answered_in r.entries position q m.body) k ≡ Some n → (slice_get r.entries k ≡ Some n) ⊎ ((counts_at from m r ≡ Some k) × (n.outcome ≡ Answered m.body))
+        at_position None there g = inl g
+        at_position (Some q) there g = elim (set_cases r.entries position k (with_outcome q (Answered m.body)) n g) [
           | inl new ↦ inr (c ∙ ap Some (sym new.0), ap (λ (x : Request). x.outcome) (sym new.1))
           | inr old ↦ inl old.1
         ]
@@ -147,31 +147,31 @@ message_cases from m now r k n e = by (counts_at from m (at now r)) refl e
 length_message : (from : ℕ) (m : Message) (now : ℕ) (r : RequestsState) → length (after_message from m now r).entries ≡ length r.entries
 length_message from m now r = by (counts_at from m (at now r))
   where
-    in_place : (place : ℕ) (q : Option Request) → length (answered_in r.entries place q m.body) ≡ length r.entries
-    in_place place None = refl
-    in_place place (Some q) = length-set r.entries place (with_outcome q (Answered m.body))
+    in_position : (position : ℕ) (q : Option Request) → length (answered_in r.entries position q m.body) ≡ length r.entries
+    in_position position None = refl
+    in_position position (Some q) = length-set r.entries position (with_outcome q (Answered m.body))
 
     by : (o : Option ℕ) → length (counted_at m (at now r) o).entries ≡ length r.entries
     by None = refl
-    by (Some place) = in_place place (slice_get r.entries place)
+    by (Some position) = in_position position (slice_get r.entries position)
 
 pub message_goes : (from : ℕ) (m : Message) (now : ℕ) (r : RequestsState) → GoesAlike r.entries (after_message from m now r).entries
 message_goes from m now r = record { stays = stays_message from m now r; alike = alike_message from m now r; long = length_message from m now r }
 
 -- the request that a message answers has its answer
-pub answered_at : (from : ℕ) (m : Message) (now : ℕ) (r : RequestsState) (place : ℕ) (q : Request) → counts_at from m r ≡ Some place → slice_get r.entries place ≡ Some q → slice_get (after_message from m now r).entries place ≡ Some (with_outcome q (Answered m.body))
-answered_at from m now r place q counts there =
-    ap (λ (o : Option ℕ). slice_get (counted_at m (at now r) o).entries place) counts
-    ∙ ap (λ (o : Option Request). slice_get (answered_in r.entries place o m.body) place) there
-    ∙ get_set r.entries place (with_outcome q (Answered m.body)) q there
+pub answered_at : (from : ℕ) (m : Message) (now : ℕ) (r : RequestsState) (position : ℕ) (q : Request) → counts_at from m r ≡ Some position → slice_get r.entries position ≡ Some q → slice_get (after_message from m now r).entries position ≡ Some (with_outcome q (Answered m.body))
+answered_at from m now r position q counts there =
+    ap (λ (o : Option ℕ). slice_get (counted_at m (at now r) o).entries position) counts
+    ∙ ap (λ (o : Option Request). slice_get (answered_in r.entries position o m.body) position) there
+    ∙ get_set r.entries position (with_outcome q (Answered m.body)) q there
 
 -- what is gone after a message was gone before, or is gone by it
-pub gone_message : (from : ℕ) (m : Message) (now : ℕ) (r : RequestsState) (server share : ℕ) → IsGone (after_message from m now r).entries server share → IsGone r.entries server share ⊎ ((place : ℕ) × (counts_at from m r ≡ Some place) × (m.body ≡ NoShare) × ((q : Request) × (slice_get r.entries place ≡ Some q) × (q.server ≡ server) × ((offset : ℕ) × ((len : ℕ) × (q.asked ≡ Reading share offset len)))))
-gone_message from m now r server share g = elim (message_cases from m now r g.place g.request g.there) [
-  | inl old ↦ inl (record { place = g.place; request = g.request; there = old; of_server = g.of_server; offset = g.offset; len = g.len; asked = g.asked; gone = g.gone })
+pub gone_message : (from : ℕ) (m : Message) (now : ℕ) (r : RequestsState) (server share : ℕ) → IsGone (after_message from m now r).entries server share → IsGone r.entries server share ⊎ ((position : ℕ) × (counts_at from m r ≡ Some position) × (m.body ≡ NoShare) × ((q : Request) × (slice_get r.entries position ≡ Some q) × (q.server ≡ server) × ((offset : ℕ) × ((len : ℕ) × (q.asked ≡ Reading share offset len)))))
+gone_message from m now r server share g = elim (message_cases from m now r g.position g.request g.there) [
+  | inl old ↦ inl (record { position = g.position; request = g.request; there = old; of_server = g.of_server; offset = g.offset; len = g.len; asked = g.asked; gone = g.gone })
   | inr new ↦
-      let was = alike_message from m now r g.place g.request g.there in
-      inr (g.place, new.0, no_share g.gone new.1, (was.request, was.there, was.of_server ∙ g.of_server, (g.offset, (g.len, was.same ∙ g.asked))))
+      let was = alike_message from m now r g.position g.request g.there in
+      inr (g.position, new.0, no_share g.gone new.1, (was.request, was.there, was.of_server ∙ g.of_server, (g.offset, (g.len, was.same ∙ g.asked))))
 ]
   where
     no_share : {o : Outcome} → (o ≡ Lost) ⊎ (o ≡ Answered NoShare) → o ≡ Answered m.body → m.body ≡ NoShare
@@ -180,22 +180,22 @@ gone_message from m now r server share g = elim (message_cases from m now r g.pl
 
 -- ---- a message that is no refusal of a read changes what is left of nothing
 
--- the request at this place asks for bytes of the share of this holding, and of no other
-pub record IsOnly (s : HoldingsState) (place holding : ℕ) : Type 0 where
+-- the request at this position asks for bytes of the share of this holding, and of no other
+pub record IsOnly (s : HoldingsState) (position holding : ℕ) : Type 0 where
   pub held : Holding
   pub is : IsHolding s.table holding held
-  pub others : (other : ℕ) (h : Holding) (q : Request) → IsHolding s.table other h → slice_get s.requests.entries place ≡ Some q → q.server ≡ h.server → (offset len : ℕ) → q.asked ≡ Reading h.share offset len → other ≡ holding
+  pub others : (other : ℕ) (h : Holding) (q : Request) → IsHolding s.table other h → slice_get s.requests.entries position ≡ Some q → q.server ≡ h.server → (offset len : ℕ) → q.asked ≡ Reading h.share offset len → other ≡ holding
 
 -- it is the share of its owner alone
-pub only_owner : (s : HoldingsState) → IsRight s → (place holding : ℕ) → s.servers ≤ place → slice_get s.owners (place - s.servers) ≡ Some holding → IsOnly s place holding
-only_owner s right place holding le own =
-    let o = right.owned (place - s.servers) holding own in
-    let same-place : s.servers + (place - s.servers) ≡ place = omega (arith, le) in
+pub only_owner : (s : HoldingsState) → IsRight s → (position holding : ℕ) → s.servers ≤ position → slice_get s.owners (position - s.servers) ≡ Some holding → IsOnly s position holding
+only_owner s right position holding le own =
+    let o = right.owned (position - s.servers) holding own in
+    let same-position : s.servers + (position - s.servers) ≡ position = omega (arith, le) in
     record {
       held = o.held;
       is = o.is;
       others = λ other h q is there server offset len asked.
-          let at : slice_get s.requests.entries place ≡ Some o.request = ap (slice_get s.requests.entries) (sym same-place) ∙ o.there in
+          let at : slice_get s.requests.entries position ≡ Some o.request = ap (slice_get s.requests.entries) (sym same-position) ∙ o.there in
           let one : q ≡ o.request = let two : Some q ≡ Some o.request = sym there ∙ at in cc in
           let servers : h.server ≡ o.held.server = sym server ∙ ap (λ (x : Request). x.server) one ∙ o.read.of_server in
           let reads : Reading h.share offset len ≡ Reading o.held.share o.read.offset o.read.len = sym asked ∙ ap (λ (x : Request). x.asked) one ∙ o.read.asked in
@@ -216,33 +216,33 @@ only_owner s right place holding le own =
 
 module _ (s : HoldingsState) (right : IsRight s) where
   -- by a message that tells of no share that is gone
-  pub right_message : (from : ℕ) (m : Message) (now : ℕ) → ((place : ℕ) → counts_at from m s.requests ≡ Some place → m.body ≡ NoShare → ⊥) → IsRight (record s { requests = after_message from m now s.requests })
+  pub right_message : (from : ℕ) (m : Message) (now : ℕ) → ((position : ℕ) → counts_at from m s.requests ≡ Some position → m.body ≡ NoShare → ⊥) → IsRight (record s { requests = after_message from m now s.requests })
   right_message from m now harmless = right_goes s right (after_message from m now s.requests) s.table (message_goes from m now s.requests) (same_pairs s.table) (once_answered from now m s.requests right.once)
-      (λ place g is left. let l = right.left place g is left in ((λ gone. elim (gone_message from m now s.requests g.server g.share gone) [ inl old ↦ l.0 old | inr new ↦ harmless new.0 new.1 new.2 ]), l.1))
-      (λ place g is left. elim (right.others place g is left) [ inl gone ↦ inl (gone_stays s.requests.entries (after_message from m now s.requests).entries g.server g.share (stays_message from m now s.requests) gone) | inr blamed ↦ inr blamed ])
+      (λ position g is left. let l = right.left position g is left in ((λ gone. elim (gone_message from m now s.requests g.server g.share gone) [ inl old ↦ l.0 old | inr new ↦ harmless new.0 new.1 new.2 ]), l.1))
+      (λ position g is left. elim (right.others position g is left) [ inl gone ↦ inl (gone_stays s.requests.entries (after_message from m now s.requests).entries g.server g.share (stays_message from m now s.requests) gone) | inr blamed ↦ inr blamed ])
 
   -- a holding is not left any more: the others are the same
   retired_pairs : (holding : ℕ) (u : TableState) → Retires holding s.table u → HaveSamePairs s.table u
   retired_pairs holding u r = record {
-    forth = λ place h is. elim (cases_eq place holding) [
+    forth = λ position h is. elim (cases_eq position holding) [
       | inl e ↦
           let same : h ≡ r.0 = let two : Some h ≡ Some r.0 = sym is ∙ ap (slice_get s.table.holdings) e ∙ r.1.is in cc in
-          (record r.0 { left = false }, ap (λ (l : List Holding). slice_get l place) r.1.holdings ∙ ap (slice_get (slice_set s.table.holdings holding (record r.0 { left = false }))) e ∙ get_set s.table.holdings holding (record r.0 { left = false }) r.0 r.1.is, ap (λ (x : Holding). x.server) (sym same), ap (λ (x : Holding). x.share) (sym same))
-      | inr ne ↦ (h, ap (λ (l : List Holding). slice_get l place) r.1.holdings ∙ get_other s.table.holdings holding place (record r.0 { left = false }) ne ∙ is, refl, refl)
+          (record r.0 { left = false }, ap (λ (l : List Holding). slice_get l position) r.1.holdings ∙ ap (slice_get (slice_set s.table.holdings holding (record r.0 { left = false }))) e ∙ get_set s.table.holdings holding (record r.0 { left = false }) r.0 r.1.is, ap (λ (x : Holding). x.server) (sym same), ap (λ (x : Holding). x.share) (sym same))
+      | inr ne ↦ (h, ap (λ (l : List Holding). slice_get l position) r.1.holdings ∙ get_other s.table.holdings holding position (record r.0 { left = false }) ne ∙ is, refl, refl)
     ];
-    back = λ place g is. elim (set_cases s.table.holdings holding place (record r.0 { left = false }) g (sym (ap (λ (l : List Holding). slice_get l place) r.1.holdings) ∙ is)) [
+    back = λ position g is. elim (set_cases s.table.holdings holding position (record r.0 { left = false }) g (sym (ap (λ (l : List Holding). slice_get l position) r.1.holdings) ∙ is)) [
       | inl k ↦ (r.0, ap (slice_get s.table.holdings) k.0 ∙ r.1.is, ap (λ (x : Holding). x.server) (sym k.1), ap (λ (x : Holding). x.share) (sym k.1))
       | inr k ↦ (g, k.1, refl, refl)
     ];
   }
 
   -- what is there after one is retired: that one, or an old one
-  retired_cases : (holding : ℕ) (u : TableState) → (r : Retires holding s.table u) → (place : ℕ) (g : Holding) → IsHolding u place g → ((place ≡ holding) × (record r.0 { left = false } ≡ g)) ⊎ ((place ≡ holding → ⊥) × IsHolding s.table place g)
-  retired_cases holding u r place g is = set_cases s.table.holdings holding place (record r.0 { left = false }) g (sym (ap (λ (l : List Holding). slice_get l place) r.1.holdings) ∙ is)
+  retired_cases : (holding : ℕ) (u : TableState) → (r : Retires holding s.table u) → (position : ℕ) (g : Holding) → IsHolding u position g → ((position ≡ holding) × (record r.0 { left = false } ≡ g)) ⊎ ((position ≡ holding → ⊥) × IsHolding s.table position g)
+  retired_cases holding u r position g is = set_cases s.table.holdings holding position (record r.0 { left = false }) g (sym (ap (λ (l : List Holding). slice_get l position) r.1.holdings) ∙ is)
 
   -- by a message that tells that a share is gone, which is retired
-  pub right_gone : (from : ℕ) (m : Message) (now place holding : ℕ) (u : TableState) → counts_at from m s.requests ≡ Some place → m.body ≡ NoShare → s.servers ≤ place → slice_get s.owners (place - s.servers) ≡ Some holding → Retires holding s.table u → IsRight (record s { requests = after_message from m now s.requests; table = u })
-  right_gone from m now place holding u counts none le own r = right_goes s right (after_message from m now s.requests) u (message_goes from m now s.requests) (retired_pairs holding u r) (once_answered from now m s.requests right.once)
+  pub right_gone : (from : ℕ) (m : Message) (now position holding : ℕ) (u : TableState) → counts_at from m s.requests ≡ Some position → m.body ≡ NoShare → s.servers ≤ position → slice_get s.owners (position - s.servers) ≡ Some holding → Retires holding s.table u → IsRight (record s { requests = after_message from m now s.requests; table = u })
+  right_gone from m now position holding u counts none le own r = right_goes s right (after_message from m now s.requests) u (message_goes from m now s.requests) (retired_pairs holding u r) (once_answered from now m s.requests right.once)
       (λ q g is left. elim (retired_cases holding u r q g is) [
         | inl k ↦ absurd (true≢false (sym left ∙ sym (ap (λ (x : Holding). x.left) k.1)))
         | inr k ↦
@@ -250,8 +250,8 @@ module _ (s : HoldingsState) (right : IsRight s) where
               (λ gone. elim (gone_message from m now s.requests g.server g.share gone) [
                 | inl old ↦ l.0 old
                 | inr new ↦
-                    let is-place : new.0 ≡ place = let two : Some new.0 ≡ Some place = sym new.1 ∙ counts in cc in
-                    k.0 ((only_owner s right place holding le own).others q g new.3.0 k.1 (ap (slice_get s.requests.entries) (sym is-place) ∙ new.3.1) new.3.2 new.3.3.0 new.3.3.1.0 new.3.3.1.1)
+                    let is-position : new.0 ≡ position = let two : Some new.0 ≡ Some position = sym new.1 ∙ counts in cc in
+                    k.0 ((only_owner s right position holding le own).others q g new.3.0 k.1 (ap (slice_get s.requests.entries) (sym is-position) ∙ new.3.1) new.3.2 new.3.3.0 new.3.3.1.0 new.3.3.1.1)
               ]),
               l.1,
             )
@@ -266,14 +266,14 @@ module _ (s : HoldingsState) (right : IsRight s) where
     where
       gone_now : {server share : ℕ} → r.0.server ≡ server → r.0.share ≡ share → IsGone (after_message from m now s.requests).entries server share
       gone_now servers shares =
-          let o = right.owned (place - s.servers) holding own in
-          let same-place : s.servers + (place - s.servers) ≡ place = omega (arith, le) in
-          let there : slice_get s.requests.entries place ≡ Some o.request = ap (slice_get s.requests.entries) (sym same-place) ∙ o.there in
+          let o = right.owned (position - s.servers) holding own in
+          let same-position : s.servers + (position - s.servers) ≡ position = omega (arith, le) in
+          let there : slice_get s.requests.entries position ≡ Some o.request = ap (slice_get s.requests.entries) (sym same-position) ∙ o.there in
           let held : o.held ≡ r.0 = let two : Some o.held ≡ Some r.0 = sym o.is ∙ r.1.is in cc in
           record {
-            place = place;
+            position = position;
             request = with_outcome o.request (Answered m.body);
-            there = answered_at from m now s.requests place o.request counts there;
+            there = answered_at from m now s.requests position o.request counts there;
             of_server = o.read.of_server ∙ ap (λ (x : Holding). x.server) held ∙ servers;
             offset = o.read.offset;
             len = o.read.len;
@@ -305,10 +305,10 @@ module _ (s : HoldingsState) (right : IsRight s) where
           let at : s.servers + i ≡ length s.requests.entries = omega (arith, c, last) in
           record { held = h; is = ap (slice_get s.table.holdings) (sym one) ∙ is; request = new; there = ap (slice_get (s.requests.entries ++ new ∷ [])) at ∙ get_last s.requests.entries new; read = record { of_server = refl; offset = offset; len = len; asked = refl } }
     ];
-    offered = λ place g e. offered_stays s.requests.entries (s.requests.entries ++ new ∷ []) g.server g.share stays (right.offered place g e);
+    offered = λ position g e. offered_stays s.requests.entries (s.requests.entries ++ new ∷ []) g.server g.share stays (right.offered position g e);
     distinct = right.distinct;
-    left = λ place g e left. (let l = right.left place g e left in ((λ gone. l.0 (gone_before g.server g.share gone)), l.1));
-    others = λ place g e left. elim (right.others place g e left) [ inl gone ↦ inl (gone_stays s.requests.entries (s.requests.entries ++ new ∷ []) g.server g.share stays gone) | inr blamed ↦ inr blamed ];
+    left = λ position g e left. (let l = right.left position g e left in ((λ gone. l.0 (gone_before g.server g.share gone)), l.1));
+    others = λ position g e left. elim (right.others position g e left) [ inl gone ↦ inl (gone_stays s.requests.entries (s.requests.entries ++ new ∷ []) g.server g.share stays gone) | inr blamed ↦ inr blamed ];
     blamed = right.blamed;
   }
     where
@@ -323,12 +323,12 @@ module _ (s : HoldingsState) (right : IsRight s) where
       waits e (inr f) = let two : Outstanding ≡ Answered NoShare = sym e ∙ f in absurd cc
 
       gone_before : (server share : ℕ) → IsGone (s.requests.entries ++ new ∷ []) server share → IsGone s.requests.entries server share
-      gone_before server share g = elim (cases_lt g.place (length s.requests.entries)) [
-        | inl lt ↦ record { place = g.place; request = g.request; there = sym (get_push s.requests.entries new g.place lt) ∙ g.there; of_server = g.of_server; offset = g.offset; len = g.len; asked = g.asked; gone = g.gone }
+      gone_before server share g = elim (cases_lt g.position (length s.requests.entries)) [
+        | inl lt ↦ record { position = g.position; request = g.request; there = sym (get_push s.requests.entries new g.position lt) ∙ g.there; of_server = g.of_server; offset = g.offset; len = g.len; asked = g.asked; gone = g.gone }
         | inr le ↦
-            let within = slice_get_within (s.requests.entries ++ new ∷ []) g.place g.request g.there in
+            let within = slice_get_within (s.requests.entries ++ new ∷ []) g.position g.request g.there in
             let long = length-append s.requests.entries (new ∷ []) in
-            let last : g.place ≡ length s.requests.entries = omega (arith, le, within, long) in
+            let last : g.position ≡ length s.requests.entries = omega (arith, le, within, long) in
             let two : Some new ≡ Some g.request = sym (get_last s.requests.entries new) ∙ ap (slice_get (s.requests.entries ++ new ∷ [])) (sym last) ∙ g.there in
             let one : new ≡ g.request = cc in
             absurd (waits (ap (λ (x : Request). x.outcome) (sym one)) g.gone)
@@ -345,10 +345,10 @@ module _ (s : HoldingsState) (right : IsRight s) where
         let o = right.owned i other e in
         let g = (retired_pairs holding u r).forth other o.held o.is in
         record { held = g.0; is = g.1; request = o.request; there = o.there; read = record { of_server = o.read.of_server ∙ sym g.2; offset = o.read.offset; len = o.read.len; asked = o.read.asked ∙ ap (λ (n : ℕ). Reading n o.read.offset o.read.len) (sym g.3) } };
-    offered = λ place g e.
-        let h = (retired_pairs holding u r).back place g e in
+    offered = λ position g e.
+        let h = (retired_pairs holding u r).back position g e in
         subst (λ (server : ℕ). IsOffered s.requests.entries server g.share) (sym h.2)
-        (subst (λ (share : ℕ). IsOffered s.requests.entries h.0.server share) (sym h.3) (right.offered place h.0 h.1));
+        (subst (λ (share : ℕ). IsOffered s.requests.entries h.0.server share) (sym h.3) (right.offered position h.0 h.1));
     distinct = λ i j x y lt e f same-server same-share.
         let a = (retired_pairs holding u r).back i x e in
         let c = (retired_pairs holding u r).back j y f in
@@ -358,10 +358,10 @@ module _ (s : HoldingsState) (right : IsRight s) where
       | inr k ↦ (let l = right.left q g k.1 left in (l.0, λ blamed. not_blamed q g k.0 k.1 l.1 blamed))
     ];
     others = λ q g is left. elim (retired_cases holding u r q g is) [
-      | inl k ↦ inr (record { place = length s.blamed; blame = b; there = get_last s.blamed b; of_server = servers ∙ ap (λ (x : Holding). x.server) k.1; of_share = shares ∙ ap (λ (x : Holding). x.share) k.1 })
+      | inl k ↦ inr (record { position = length s.blamed; blame = b; there = get_last s.blamed b; of_server = servers ∙ ap (λ (x : Holding). x.server) k.1; of_share = shares ∙ ap (λ (x : Holding). x.share) k.1 })
       | inr k ↦ elim (right.others q g k.1 left) [
         | inl gone ↦ inl gone
-        | inr blamed ↦ inr (record { place = blamed.place; blame = blamed.blame; there = get_push s.blamed b blamed.place (slice_get_within s.blamed blamed.place blamed.blame blamed.there) ∙ blamed.there; of_server = blamed.of_server; of_share = blamed.of_share })
+        | inr blamed ↦ inr (record { position = blamed.position; blame = blamed.blame; there = get_push s.blamed b blamed.position (slice_get_within s.blamed blamed.position blamed.blame blamed.there) ∙ blamed.there; of_server = blamed.of_server; of_share = blamed.of_share })
       ]
     ];
     blamed = λ i x e. elim (cases_lt i (length s.blamed)) [
@@ -381,12 +381,12 @@ module _ (s : HoldingsState) (right : IsRight s) where
   }
     where
       not_blamed : (q : ℕ) (g : Holding) → (q ≡ holding → ⊥) → IsHolding s.table q g → (IsBlamed s.blamed g.server g.share → ⊥) → IsBlamed (s.blamed ++ b ∷ []) g.server g.share → ⊥
-      not_blamed q g other is before now = elim (cases_lt now.place (length s.blamed)) [
-        | inl lt ↦ before (record { place = now.place; blame = now.blame; there = sym (get_push s.blamed b now.place lt) ∙ now.there; of_server = now.of_server; of_share = now.of_share })
+      not_blamed q g other is before now = elim (cases_lt now.position (length s.blamed)) [
+        | inl lt ↦ before (record { position = now.position; blame = now.blame; there = sym (get_push s.blamed b now.position lt) ∙ now.there; of_server = now.of_server; of_share = now.of_share })
         | inr le ↦
-            let within = slice_get_within (s.blamed ++ b ∷ []) now.place now.blame now.there in
+            let within = slice_get_within (s.blamed ++ b ∷ []) now.position now.blame now.there in
             let long = length-append s.blamed (b ∷ []) in
-            let last : now.place ≡ length s.blamed = omega (arith, le, within, long) in
+            let last : now.position ≡ length s.blamed = omega (arith, le, within, long) in
             let two : Some b ≡ Some now.blame = sym (get_last s.blamed b) ∙ ap (slice_get (s.blamed ++ b ∷ [])) (sym last) ∙ now.there in
             let one : b ≡ now.blame = cc in
             let same-server : r.0.server ≡ g.server = sym servers ∙ ap (λ (x : Blame). x.server) one ∙ now.of_server in
@@ -404,18 +404,18 @@ module _ (s : HoldingsState) (right : IsRight s) where
 
   -- the holdings are the same, but for what may be chosen
   pub record SameHoldings (u : TableState) : Type 0 where
-    pub forth : (place : ℕ) (h : Holding) → IsHolding s.table place h → (g : Holding) × IsHolding u place g × (g.server ≡ h.server) × (g.share ≡ h.share) × (g.left ≡ h.left)
-    pub back : (place : ℕ) (g : Holding) → IsHolding u place g → (h : Holding) × IsHolding s.table place h × (g.server ≡ h.server) × (g.share ≡ h.share) × (g.left ≡ h.left)
+    pub forth : (position : ℕ) (h : Holding) → IsHolding s.table position h → (g : Holding) × IsHolding u position g × (g.server ≡ h.server) × (g.share ≡ h.share) × (g.left ≡ h.left)
+    pub back : (position : ℕ) (g : Holding) → IsHolding u position g → (h : Holding) × IsHolding s.table position h × (g.server ≡ h.server) × (g.share ≡ h.share) × (g.left ≡ h.left)
 
   pub right_same : (u : TableState) → SameHoldings u → IsRight (record s { table = u })
   right_same u k = right_goes s right s.requests u (record { stays = λ i r e quiet. e; alike = λ i n e. record { request = n; there = e; same = refl; of_server = refl }; long = refl })
-      (record { forth = λ place h e. (let g = k.forth place h e in (g.0, g.1, g.2, g.3)); back = λ place g e. (let h = k.back place g e in (h.0, h.1, h.2, h.3)) })
+      (record { forth = λ position h e. (let g = k.forth position h e in (g.0, g.1, g.2, g.3)); back = λ position g e. (let h = k.back position g e in (h.0, h.1, h.2, h.3)) })
       right.once
-      (λ place g is left. let h = k.back place g is in
-      let l = right.left place h.0 h.1 (sym h.4 ∙ left) in
+      (λ position g is left. let h = k.back position g is in
+      let l = right.left position h.0 h.1 (sym h.4 ∙ left) in
       subst (λ (server : ℕ). IsLeft s.requests.entries s.blamed server g.share) (sym h.2) (subst (λ (share : ℕ). IsLeft s.requests.entries s.blamed h.0.server share) (sym h.3) l))
-      (λ place g is left. let h = k.back place g is in
-      let l = right.others place h.0 h.1 (sym h.4 ∙ left) in
+      (λ position g is left. let h = k.back position g is in
+      let l = right.others position h.0 h.1 (sym h.4 ∙ left) in
       subst (λ (server : ℕ). IsGone s.requests.entries server g.share ⊎ IsBlamed s.blamed server g.share) (sym h.2) (subst (λ (share : ℕ). IsGone s.requests.entries h.0.server share ⊎ IsBlamed s.blamed h.0.server share) (sym h.3) l))
 
   -- the record goes on, and each request is as it was
@@ -423,34 +423,34 @@ module _ (s : HoldingsState) (right : IsRight s) where
   right_sent r e = right_goes s right r s.table
       (subst (GoesAlike s.requests.entries) (sym e) (record { stays = λ i q f quiet. f; alike = λ i n f. record { request = n; there = f; same = refl; of_server = refl }; long = refl }))
       (same_pairs s.table) (subst AsksOnce (sym e) right.once)
-      (λ place g is left. subst (λ (es : List Request). IsLeft es s.blamed g.server g.share) (sym e) (right.left place g is left))
-      (λ place g is left. subst (λ (es : List Request). IsGone es g.server g.share ⊎ IsBlamed s.blamed g.server g.share) (sym e) (right.others place g is left))
+      (λ position g is left. subst (λ (es : List Request). IsLeft es s.blamed g.server g.share) (sym e) (right.left position g is left))
+      (λ position g is left. subst (λ (es : List Request). IsGone es g.server g.share ⊎ IsBlamed s.blamed g.server g.share) (sym e) (right.others position g is left))
 
   pub right_unmoved : (u : TableState) → u.holdings ≡ s.table.holdings → IsRight (record s { table = u })
   right_unmoved u e = right_same u (record {
-    forth = λ place h is. (h, ap (λ (l : List Holding). slice_get l place) e ∙ is, refl, refl, refl);
-    back = λ place g is. (g, sym (ap (λ (l : List Holding). slice_get l place) e) ∙ is, refl, refl, refl);
+    forth = λ position h is. (h, ap (λ (l : List Holding). slice_get l position) e ∙ is, refl, refl, refl);
+    back = λ position g is. (g, sym (ap (λ (l : List Holding). slice_get l position) e) ∙ is, refl, refl, refl);
   })
 
-  pub right_suspended : (place : ℕ) (suspended : Bool) (u : TableState) → Suspends suspended place s.table u → IsRight (record s { table = u })
-  right_suspended place suspended u k = right_same u (record {
-    forth = λ q h is. elim (cases_eq q place) [
+  pub right_suspended : (position : ℕ) (suspended : Bool) (u : TableState) → Suspends suspended position s.table u → IsRight (record s { table = u })
+  right_suspended position suspended u k = right_same u (record {
+    forth = λ q h is. elim (cases_eq q position) [
       | inl e ↦
           let same : h ≡ k.1.0 = let two : Some h ≡ Some k.1.0 = sym is ∙ ap (slice_get s.table.holdings) e ∙ k.1.1.is in cc in
-          (record k.1.0 { suspended = suspended }, ap (λ (l : List Holding). slice_get l q) k.1.1.holdings ∙ ap (slice_get (slice_set s.table.holdings place (record k.1.0 { suspended = suspended }))) e ∙ get_set s.table.holdings place (record k.1.0 { suspended = suspended }) k.1.0 k.1.1.is, ap (λ (x : Holding). x.server) (sym same), ap (λ (x : Holding). x.share) (sym same), ap (λ (x : Holding). x.left) (sym same))
-      | inr ne ↦ (h, ap (λ (l : List Holding). slice_get l q) k.1.1.holdings ∙ get_other s.table.holdings place q (record k.1.0 { suspended = suspended }) ne ∙ is, refl, refl, refl)
+          (record k.1.0 { suspended = suspended }, ap (λ (l : List Holding). slice_get l q) k.1.1.holdings ∙ ap (slice_get (slice_set s.table.holdings position (record k.1.0 { suspended = suspended }))) e ∙ get_set s.table.holdings position (record k.1.0 { suspended = suspended }) k.1.0 k.1.1.is, ap (λ (x : Holding). x.server) (sym same), ap (λ (x : Holding). x.share) (sym same), ap (λ (x : Holding). x.left) (sym same))
+      | inr ne ↦ (h, ap (λ (l : List Holding). slice_get l q) k.1.1.holdings ∙ get_other s.table.holdings position q (record k.1.0 { suspended = suspended }) ne ∙ is, refl, refl, refl)
     ];
-    back = λ q g is. elim (set_cases s.table.holdings place q (record k.1.0 { suspended = suspended }) g (sym (ap (λ (l : List Holding). slice_get l q) k.1.1.holdings) ∙ is)) [
+    back = λ q g is. elim (set_cases s.table.holdings position q (record k.1.0 { suspended = suspended }) g (sym (ap (λ (l : List Holding). slice_get l q) k.1.1.holdings) ∙ is)) [
       | inl e ↦ (k.1.0, ap (slice_get s.table.holdings) e.0 ∙ k.1.1.is, ap (λ (x : Holding). x.server) (sym e.1), ap (λ (x : Holding). x.share) (sym e.1), ap (λ (x : Holding). x.left) (sym e.1))
       | inr e ↦ (g, e.1, refl, refl, refl)
     ];
   })
 
-  pub right_taken : (place : ℕ) (u : TableState) → TakesUp place s.table u → IsRight (record s { table = u })
-  right_taken place u k = right_unmoved u k.2
+  pub right_taken : (position : ℕ) (u : TableState) → TakesUp position s.table u → IsRight (record s { table = u })
+  right_taken position u k = right_unmoved u k.2
 
-  pub right_released : (place : ℕ) (u : TableState) → Releases place s.table u → IsRight (record s { table = u })
-  right_released place u k = right_unmoved u k.2
+  pub right_released : (position : ℕ) (u : TableState) → Releases position s.table u → IsRight (record s { table = u })
+  right_released position u k = right_unmoved u k.2
 
 -- ---- as the code does it
 

@@ -4,10 +4,10 @@ use Rattle.std.specs.Prelude.{slice_get, slice_set}
 use Rattle.std.proofs.lemmas.Bool.{cases_eq}
 use Rattle.std.proofs.lemmas.List.{length-set}
 use Rattle.std.proofs.lemmas.Option.{slice_get_within}
-use Rattle.lemmas.proofs.Places.{get_set}
+use Rattle.lemmas.proofs.Positions.{get_set}
 use Rattle.lemmas.proofs.Options.{one_there}
 use Rattle.cap_text.specs.Cap.{VerifyCapValue}
-use Rattle.share_reading.specs.Opening.{Advances, next_length, next_place}
+use Rattle.share_reading.specs.Opening.{Advances, next_length, next_offset}
 use Rattle.share_reading.specs.OpeningReads.{IsLedToBy}
 use Rattle.share_reading.specs.declared.block.Opened.{Opened}
 use Rattle.share_reading.specs.declared.opening.Opening.{Opening}
@@ -17,7 +17,7 @@ use Rattle.share_reading.proofs.ReadLemmas.{lead_on}
 use Rattle.request_record.specs.declared.requests.Request.{Request}
 use Rattle.request_record.specs.Record.{RequestsState}
 use Rattle.download_shares.specs.HoldingMoves.{Blames, IsUnasked}
-use Rattle.download_shares.specs.Numbers.{released, without_place}
+use Rattle.download_shares.specs.Numbers.{released, without_position}
 use Rattle.download_shares.specs.Right.{IsRight}
 use Rattle.download_shares.specs.HoldingState.{HoldingsState, NumberState, TableState}
 use Rattle.download_shares.specs.Table.{IsHolding, IsNumber, IsTable, Retires}
@@ -43,11 +43,11 @@ pub retired_none : (holding share : ℕ) (t u : TableState) (m : NumberState) �
 retired_none holding share t u m right r is reads =
     let falls = falls_one holding t u r in
     let n = falls.reading share holding m is reads in
-    let p = right.places share holding n.0 n.1 (right.reading share holding n.0 n.1 n.2) in
+    let p = right.positions share holding n.0 n.1 (right.reading share holding n.0 n.1 n.2) in
     let one : p.0 ≡ r.0 = one_there (slice_get t.holdings holding) p.0 r.0 p.1 r.1.is in
     let at : share ≡ r.0.share = sym p.2 ∙ ap (λ (h : Holding). h.share) one in
-    let now = ap (λ (l : List NumberState). slice_get l share) r.2.numbers ∙ ap (slice_get (slice_set t.numbers r.0.share (without_place holding r.2.number))) at ∙ get_set t.numbers r.0.share (without_place holding r.2.number) r.2.number r.2.is in
-    let same : without_place holding r.2.number ≡ m = one_there (slice_get u.numbers share) (without_place holding r.2.number) m now is in
+    let now = ap (λ (l : List NumberState). slice_get l share) r.2.numbers ∙ ap (slice_get (slice_set t.numbers r.0.share (without_position holding r.2.number))) at ∙ get_set t.numbers r.0.share (without_position holding r.2.number) r.2.number r.2.is in
+    let same : without_position holding r.2.number ≡ m = one_there (slice_get u.numbers share) (without_position holding r.2.number) m now is in
     let gone : released holding r.2.number.reading ≡ Some holding = ap (λ (x : NumberState). x.reading) same ∙ reads in
     by r.2.number.reading gone
   where
@@ -83,7 +83,7 @@ module _ (s w : BeginningsState) (holding : ℕ) (known : AreBegun s) (rests : R
     pub gone_opening : (h : Holding) → IsTable w.holdings.table → IsHolding w.holdings.table holding h → h.left ≡ false → AreOpening nobody w
     gone_opening h table is gone = narrowed w holding rested_opening
         (λ share m at reads. (
-        let p = table.places share holding m at (table.reading share holding m at reads) in
+        let p = table.positions share holding m at (table.reading share holding m at reads) in
         true≢false (sym p.3 ∙ ap (λ (x : Holding). x.left) (one_there (slice_get w.holdings.table.holdings holding) p.0 h p.1 is) ∙ gone)))
 
     pub blamed_known : (u : BeginningsState) (check : Check) → Blames holding check w.holdings u.holdings → IsRight u.holdings → u.begun ≡ w.begun → AreBegun u
@@ -102,10 +102,10 @@ module _ (s w : BeginningsState) (holding : ℕ) (known : AreBegun s) (rests : R
           ap (λ (x : Begun). x.waiting) (one_there (slice_get w.begun holding) b (rested rests.begun) is now));
     }
 
-    module _ (o : Opening) (place : ℕ) (awaits : Awaits s holding place o) (bytes : List ℕ) (answered : IsAnsweredBy s.holdings.requests.entries place bytes) (verify : VerifyCapValue) where
-      next_at : IsReadAt s.holdings.requests.entries awaits.held place (next_place o) (next_length o)
-      next_at = subst (λ (q : Option Opening). IsNextAt s.holdings.requests.entries awaits.held q place) awaits.of_opening
-          ((known.each holding awaits.held awaits.begun awaits.is awaits.there).waits place awaits.waiting)
+    module _ (o : Opening) (position : ℕ) (awaits : Awaits s holding position o) (bytes : List ℕ) (answered : IsAnsweredBy s.holdings.requests.entries position bytes) (verify : VerifyCapValue) where
+      next_at : IsReadAt s.holdings.requests.entries awaits.held position (next_offset o) (next_length o)
+      next_at = subst (λ (q : Option Opening). IsNextAt s.holdings.requests.entries awaits.held q position) awaits.of_opening
+          ((known.each holding awaits.held awaits.begun awaits.is awaits.there).waits position awaits.waiting)
 
       held_now : (h : Holding) → IsHolding w.holdings.table holding h → awaits.held ≡ h
       held_now h is = one_there (slice_get s.holdings.table.holdings holding) awaits.held h awaits.is (sym (ap (λ (x : HoldingsState). slice_get x.table.holdings holding) holdings_are) ∙ is)
@@ -117,7 +117,7 @@ module _ (s w : BeginningsState) (holding : ℕ) (known : AreBegun s) (rests : R
           (subst (λ (x : Holding). IsReadAt s.holdings.requests.entries x i offset len) (sym (held_now h is))
           (subst (λ (r : RequestsState). IsReadAt r.entries h i offset len) rested_requests read)))
 
-      pub next_unasked : (next : Opening) → Advances verify o bytes (Next next) → IsUnasked w.holdings holding (next_place next) (next_length next)
+      pub next_unasked : (next : Opening) → Advances verify o bytes (Next next) → IsUnasked w.holdings holding (next_offset next) (next_length next)
       next_unasked next a = unasked_next w verify holding awaits.begun o next bytes a (λ h i offset len is read. reads_up_to h i offset len is read)
 
       pub led_now : (next : Opening) → Advances verify o bytes (Next next) → (h : Holding) → IsHolding w.holdings.table holding h → IsLedToBy (brought_of w.holdings.requests.entries h.server h.share) next
@@ -126,15 +126,15 @@ module _ (s w : BeginningsState) (holding : ℕ) (known : AreBegun s) (rests : R
           (subst (λ (x : Holding). IsLedToBy (brought_of s.holdings.requests.entries x.server x.share) next) (held_now h is)
           (lead_on verify (brought_of s.holdings.requests.entries awaits.held.server awaits.held.share) (brought_of s.holdings.requests.entries awaits.held.server awaits.held.share) o next bytes
           ((known.each holding awaits.held awaits.begun awaits.is awaits.there).led o awaits.of_opening) a (λ read h. h)
-          (brought_has s.holdings.requests.entries awaits.held.server awaits.held.share (next_place o, bytes)
+          (brought_has s.holdings.requests.entries awaits.held.server awaits.held.share (next_offset o, bytes)
           (record {
-            place = place;
+            position = position;
             request = next_at.request;
             there = next_at.there;
             of_server = next_at.of_server;
             len = next_length o;
             asked = next_at.asked;
-            answer = ap (λ (r : Request). r.outcome) (one_there (slice_get s.holdings.requests.entries place) next_at.request answered.request next_at.there answered.there) ∙ answered.answer;
+            answer = ap (λ (r : Request). r.outcome) (one_there (slice_get s.holdings.requests.entries position) next_at.request answered.request next_at.there answered.there) ∙ answered.answer;
           }))))
 
       pub nexts_known : (u : BeginningsState) (next : Opening) → Advances verify o bytes (Next next) → AsksNext holding next w u → IsRight u.holdings → AreBegun u
@@ -153,10 +153,10 @@ module _ (s w : BeginningsState) (holding : ℕ) (known : AreBegun s) (rests : R
           let two : rests.begun ≡ awaits.begun = one_there (slice_get s.begun holding) rests.begun awaits.begun rests.there awaits.there in
           (ap (λ (x : Holding). x.suspended) (sym (held_now h is)) ∙ old.choosable, ap (λ (x : Begun). x.reader) one ∙ ap (λ (x : Begun). x.reader) two ∙ old.unread)))
 
-      pub block_at : (done : Opened) → Advances verify o bytes (Done done) → IsBlockAt verify w.holdings.requests.entries place done
-      block_at done a = subst (λ (r : RequestsState). IsBlockAt verify r.entries place done) (sym rested_requests) (by o a next_at)
+      pub block_at : (done : Opened) → Advances verify o bytes (Done done) → IsBlockAt verify w.holdings.requests.entries position done
+      block_at done a = subst (λ (r : RequestsState). IsBlockAt verify r.entries position done) (sym rested_requests) (by o a next_at)
         where
-          by : (q : Opening) → Advances verify q bytes (Done done) → IsReadAt s.holdings.requests.entries awaits.held place (next_place q) (next_length q) → IsBlockAt verify s.holdings.requests.entries place done
+          by : (q : Opening) → Advances verify q bytes (Done done) → IsReadAt s.holdings.requests.entries awaits.held position (next_offset q) (next_length q) → IsBlockAt verify s.holdings.requests.entries position done
           by Start a at = absurd a
           by (Second p) a at = absurd a
           by (Header p) a at = absurd a
@@ -164,11 +164,11 @@ module _ (s w : BeginningsState) (holding : ℕ) (known : AreBegun s) (rests : R
             request = at.request;
             there = at.there;
             share = awaits.held.share;
-            offset = next_place (Block b);
+            offset = next_offset (Block b);
             len = b.block_length;
             asked = at.asked;
             text = bytes;
-            answer = ap (λ (r : Request). r.outcome) (one_there (slice_get s.holdings.requests.entries place) at.request answered.request at.there answered.there) ∙ answered.answer;
+            answer = ap (λ (r : Request). r.outcome) (one_there (slice_get s.holdings.requests.entries position) at.request answered.request at.there answered.there) ∙ answered.answer;
             whole = a.0;
             block = a.1.ueb;
             geometry = a.1.geometry;

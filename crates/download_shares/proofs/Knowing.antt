@@ -3,9 +3,9 @@ use Rattle.std.proofs.Common.{◌≡◌, ℕ, ◌⊎◌, inl, inr, Bool, List, l
 use Rattle.std.specs.Prelude.{slice_get, slice_index_or, slice_set}
 use Rattle.std.proofs.lemmas.Bool.{cases_eq}
 use Rattle.std.proofs.lemmas.List.{length-set}
-use Rattle.lemmas.proofs.Places.{get_set, get_other, set_cases}
+use Rattle.lemmas.proofs.Positions.{get_set, get_other, set_cases}
 use Rattle.lemmas.proofs.Options.{one_there}
-use Rattle.share_reading.specs.Opening.{next_length, next_place}
+use Rattle.share_reading.specs.Opening.{next_length, next_offset}
 use Rattle.share_reading.specs.OpeningReads.{IsLedToBy}
 use Rattle.share_reading.specs.declared.opening.Opening.{Opening}
 use Rattle.share_reading.proofs.ReadLemmas.{more_led}
@@ -26,7 +26,7 @@ use Rattle.download_shares.specs.Reads.{brought_of}
 use Rattle.download_shares.specs.BeginningState.{BeginningsState, IsBegun, unbegun}
 use Rattle.download_shares.specs.declared.begun.Begun.{Begun}
 use Rattle.download_shares.proofs.Entries.{Grows, brought_grows, grows_none, grows_push, offered_pushed, read_grows}
-use Rattle.download_shares.proofs.Falling.{Falls, at_place}
+use Rattle.download_shares.proofs.Falling.{Falls, at_position}
 
 -- ---- one holding
 
@@ -36,24 +36,24 @@ led_grows es ns h g o stays servers shares led =
     (subst (λ n. IsLedToBy (brought_of ns h.server n) o) (sym shares)
     (more_led (brought_of es h.server h.share) (brought_of ns h.server h.share) (λ read. brought_grows es ns h.server h.share read stays) o led))
 
-next_grows : (es ns : List Request) (h g : Holding) (o : Option Opening) (place : ℕ) → Grows es ns → g.server ≡ h.server → g.share ≡ h.share → IsNextAt es h o place → IsNextAt ns g o place
-next_grows es ns h g None place grows servers shares k = k
-next_grows es ns h g (Some o) place grows servers shares k = read_grows es ns h g place (next_place o) (next_length o) grows servers shares k
+next_grows : (es ns : List Request) (h g : Holding) (o : Option Opening) (position : ℕ) → Grows es ns → g.server ≡ h.server → g.share ≡ h.share → IsNextAt es h o position → IsNextAt ns g o position
+next_grows es ns h g None position grows servers shares k = k
+next_grows es ns h g (Some o) position grows servers shares k = read_grows es ns h g position (next_offset o) (next_length o) grows servers shares k
 
 -- what is kept of a holding was kept of it
-pub record WasBegun (s : BeginningsState) (place : ℕ) (g : Holding) (b : Begun) : Type 0 where
+pub record WasBegun (s : BeginningsState) (position : ℕ) (g : Holding) (b : Begun) : Type 0 where
   pub held : Holding
-  pub is : IsHolding s.holdings.table place held
+  pub is : IsHolding s.holdings.table position held
   pub of_server : g.server ≡ held.server
   pub of_share : g.share ≡ held.share
   pub begun : Begun
-  pub there : IsBegun s place begun
+  pub there : IsBegun s position begun
   pub opening : b.opening ≡ begun.opening
   pub waiting : (request : ℕ) → b.waiting ≡ Some request → begun.waiting ≡ Some request
 
-pub begun_by : (s : BeginningsState) (ns : List Request) (place : ℕ) (g : Holding) (b : Begun) → AreBegun s → Grows s.holdings.requests.entries ns → WasBegun s place g b → IsBegunBy ns g b
-begun_by s ns place g b known grows w =
-    let k = known.each place w.held w.begun w.is w.there in
+pub begun_by : (s : BeginningsState) (ns : List Request) (position : ℕ) (g : Holding) (b : Begun) → AreBegun s → Grows s.holdings.requests.entries ns → WasBegun s position g b → IsBegunBy ns g b
+begun_by s ns position g b known grows w =
+    let k = known.each position w.held w.begun w.is w.there in
     record {
       led = λ o e. led_grows s.holdings.requests.entries ns w.held g o grows.stays w.of_server w.of_share (k.led o (sym w.opening ∙ e));
       waits = λ request e. subst (λ (o : Option Opening). IsNextAt ns g o request) (sym w.opening)
@@ -71,7 +71,7 @@ new_by ns g b e = record {
 -- each share that was offered is held, where none is offered more, and none is gone from the table
 pub held_follows : (s u : HoldingsState) → AreAllHeld s → ((server share : ℕ) → IsOffered u.requests.entries server share → IsOffered s.requests.entries server share)
     → length u.table.numbers ≡ length s.table.numbers
-    → ((place : ℕ) (h : Holding) → IsHolding s.table place h → (g : Holding) × IsHolding u.table place g × (g.server ≡ h.server) × (g.share ≡ h.share)) → AreAllHeld u
+    → ((position : ℕ) (h : Holding) → IsHolding s.table position h → (g : Holding) × IsHolding u.table position g × (g.server ≡ h.server) × (g.share ≡ h.share)) → AreAllHeld u
 held_follows s u held offered count forth server share o below =
     let k = held server share (offered server share o) (omega (arith, below, count)) in
     let g = forth k.0 k.1 k.2 in
@@ -79,13 +79,13 @@ held_follows s u held offered count forth server share o below =
 
 pub known_follows : (s u : BeginningsState) → AreBegun s → Grows s.holdings.requests.entries u.holdings.requests.entries → IsRight u.holdings → AreAllHeld u.holdings
     → length u.begun ≡ length u.holdings.table.holdings
-    → ((place : ℕ) (g : Holding) (b : Begun) → IsHolding u.holdings.table place g → IsBegun u place b → (b ≡ unbegun) ⊎ WasBegun s place g b) → AreBegun u
+    → ((position : ℕ) (g : Holding) (b : Begun) → IsHolding u.holdings.table position g → IsBegun u position b → (b ≡ unbegun) ⊎ WasBegun s position g b) → AreBegun u
 known_follows s u known grows right held counted was = record {
   right = right;
   counted = counted;
-  each = λ place g b is there. elim (was place g b is there) [
+  each = λ position g b is there. elim (was position g b is there) [
     | inl new ↦ new_by u.holdings.requests.entries g b new
-    | inr old ↦ begun_by s u.holdings.requests.entries place g b known grows old
+    | inr old ↦ begun_by s u.holdings.requests.entries position g b known grows old
   ];
   held = held;
 }
@@ -102,12 +102,12 @@ shares_fall t u f = record {
   long = f.long;
   count = f.count;
   pairs = record {
-    forth = λ place h e. (
-        let is = at_place u.holdings t.holdings place h (sym f.long) e in
-        let w = f.back place (slice_index_or u.holdings place h) is in
-        let same : w.held ≡ h = one_there (slice_get t.holdings place) w.held h w.is e in
-        (slice_index_or u.holdings place h, is, w.of_server ∙ ap (λ (x : Holding). x.server) same, w.of_share ∙ ap (λ (x : Holding). x.share) same));
-    back = λ place g e. (let w = f.back place g e in (w.held, w.is, w.of_server, w.of_share));
+    forth = λ position h e. (
+        let is = at_position u.holdings t.holdings position h (sym f.long) e in
+        let w = f.back position (slice_index_or u.holdings position h) is in
+        let same : w.held ≡ h = one_there (slice_get t.holdings position) w.held h w.is e in
+        (slice_index_or u.holdings position h, is, w.of_server ∙ ap (λ (x : Holding). x.server) same, w.of_share ∙ ap (λ (x : Holding). x.share) same));
+    back = λ position g e. (let w = f.back position g e in (w.held, w.is, w.of_server, w.of_share));
   };
 }
 
@@ -116,8 +116,8 @@ shares_same t u e count = record {
   long = ap length e;
   count = count;
   pairs = record {
-    forth = λ place h is. (h, ap (λ (l : List Holding). slice_get l place) e ∙ is, refl, refl);
-    back = λ place g is. (g, sym (ap (λ (l : List Holding). slice_get l place) e) ∙ is, refl, refl);
+    forth = λ position h is. (h, ap (λ (l : List Holding). slice_get l position) e ∙ is, refl, refl);
+    back = λ position g is. (g, sym (ap (λ (l : List Holding). slice_get l position) e) ∙ is, refl, refl);
   };
 }
 
@@ -132,36 +132,36 @@ shares_suspended suspended holding t u k = record {
   long = ap length k.1.1.holdings ∙ length-set t.holdings holding (record k.1.0 { suspended = suspended });
   count = ap length k.0;
   pairs = record {
-    forth = λ place h e. elim (cases place) [
+    forth = λ position h e. elim (cases position) [
       | inl same ↦ (
-          let is : h ≡ k.1.0 = one_there (slice_get t.holdings place) h k.1.0 e (ap (slice_get t.holdings) same ∙ k.1.1.is) in (
+          let is : h ≡ k.1.0 = one_there (slice_get t.holdings position) h k.1.0 e (ap (slice_get t.holdings) same ∙ k.1.1.is) in (
             record k.1.0 { suspended = suspended },
-            ap (λ (l : List Holding). slice_get l place) k.1.1.holdings ∙ ap (slice_get (slice_set t.holdings holding (record k.1.0 { suspended = suspended }))) same ∙ get_set t.holdings holding (record k.1.0 { suspended = suspended }) k.1.0 k.1.1.is,
+            ap (λ (l : List Holding). slice_get l position) k.1.1.holdings ∙ ap (slice_get (slice_set t.holdings holding (record k.1.0 { suspended = suspended }))) same ∙ get_set t.holdings holding (record k.1.0 { suspended = suspended }) k.1.0 k.1.1.is,
             ap (λ (x : Holding). x.server) (sym is),
             ap (λ (x : Holding). x.share) (sym is),
           ))
-      | inr other ↦ (h, ap (λ (l : List Holding). slice_get l place) k.1.1.holdings ∙ get_other t.holdings holding place (record k.1.0 { suspended = suspended }) other ∙ e, refl, refl)
+      | inr other ↦ (h, ap (λ (l : List Holding). slice_get l position) k.1.1.holdings ∙ get_other t.holdings holding position (record k.1.0 { suspended = suspended }) other ∙ e, refl, refl)
     ];
-    back = λ place g e. elim (set_cases t.holdings holding place (record k.1.0 { suspended = suspended }) g (sym (ap (λ (l : List Holding). slice_get l place) k.1.1.holdings) ∙ e)) [
+    back = λ position g e. elim (set_cases t.holdings holding position (record k.1.0 { suspended = suspended }) g (sym (ap (λ (l : List Holding). slice_get l position) k.1.1.holdings) ∙ e)) [
       | inl k2 ↦ (k.1.0, ap (slice_get t.holdings) k2.0 ∙ k.1.1.is, ap (λ (x : Holding). x.server) (sym k2.1), ap (λ (x : Holding). x.share) (sym k2.1))
       | inr k2 ↦ (g, k2.1, refl, refl)
     ];
   };
 }
   where
-    cases : (place : ℕ) → (place ≡ holding) ⊎ (place ≡ holding → ⊥)
-    cases place = cases_eq place holding
+    cases : (position : ℕ) → (position ≡ holding) ⊎ (position ≡ holding → ⊥)
+    cases position = cases_eq position holding
 
 -- what is kept of each is as it was, but for what it waits for
 abbrev pub KeepsBegun : List Begun → List Begun → Type 0
-KeepsBegun old new = (place : ℕ) (b : Begun) → slice_get new place ≡ Some b
-    → (a : Begun) × (slice_get old place ≡ Some a) × (b.opening ≡ a.opening) × ((request : ℕ) → b.waiting ≡ Some request → a.waiting ≡ Some request)
+KeepsBegun old new = (position : ℕ) (b : Begun) → slice_get new position ≡ Some b
+    → (a : Begun) × (slice_get old position ≡ Some a) × (b.opening ≡ a.opening) × ((request : ℕ) → b.waiting ≡ Some request → a.waiting ≡ Some request)
 
 pub keeps_same : (old new : List Begun) → new ≡ old → KeepsBegun old new
-keeps_same old new e place b is = (b, sym (ap (λ (l : List Begun). slice_get l place) e) ∙ is, refl, λ request f. f)
+keeps_same old new e position b is = (b, sym (ap (λ (l : List Begun). slice_get l position) e) ∙ is, refl, λ request f. f)
 
-pub keeps_set : (old new : List Begun) (place : ℕ) (a b : Begun) → slice_get old place ≡ Some a → new ≡ slice_set old place b → b.opening ≡ a.opening → ((request : ℕ) → b.waiting ≡ Some request → a.waiting ≡ Some request) → KeepsBegun old new
-keeps_set old new place a b at e opening waiting other c is = elim (set_cases old place other b c (sym (ap (λ (l : List Begun). slice_get l other) e) ∙ is)) [
+pub keeps_set : (old new : List Begun) (position : ℕ) (a b : Begun) → slice_get old position ≡ Some a → new ≡ slice_set old position b → b.opening ≡ a.opening → ((request : ℕ) → b.waiting ≡ Some request → a.waiting ≡ Some request) → KeepsBegun old new
+keeps_set old new position a b at e opening waiting other c is = elim (set_cases old position other b c (sym (ap (λ (l : List Begun). slice_get l other) e) ∙ is)) [
   | inl k ↦ (a, ap (slice_get old) k.0 ∙ at, sym (ap (λ (x : Begun). x.opening) k.1) ∙ opening, λ request f. waiting request (ap (λ (x : Begun). x.waiting) k.1 ∙ f))
   | inr k ↦ (c, k.1, refl, λ request f. f)
 ]
@@ -173,9 +173,9 @@ pub known_goes : (s u : BeginningsState) → AreBegun s → Grows s.holdings.req
 known_goes s u known grows offered shares right long keeps =
     known_follows s u known grows right (held_follows s.holdings u.holdings known.held offered shares.count shares.pairs.forth)
     (long ∙ known.counted ∙ sym shares.long)
-    (λ place g b is there. inr (
-    let h = shares.pairs.back place g is in
-    let a = keeps place b there in
+    (λ position g b is there. inr (
+    let h = shares.pairs.back position g is in
+    let a = keeps position b there in
     record { held = h.0; is = h.1; of_server = h.2; of_share = h.3; begun = a.0; there = a.1; opening = a.2; waiting = a.3 }))
 
 -- the record stays

@@ -1,31 +1,31 @@
--- What stands at a place of a list, and what a list contains.
+-- What stands at a position of a list, and what a list contains.
 use Rattle.std.proofs.Common.{◌≡◌, ℕ, Bool, true, false, cond, not, List, Contains, Some, None, refl, sym, ◌∙◌, true≢false}
 use Rattle.std.specs.Prelude.{◌==◌}
 use Rattle.std.proofs.lemmas.Bool.{eq-eqb, eqb-true}
-pub use Rattle.lemmas.proofs.Places.{got, get_set, get_other, set_cases}
+pub use Rattle.lemmas.proofs.Positions.{got, get_set, get_other, set_cases}
 use Rattle.placement.proofs.Members.{Contains-filter, from_filter}
 use Rattle.request_record.specs.Record.{without}
 use Rattle.download_shares.specs.Numbers.{released}
 
--- ---- one place is changed
+-- ---- one position is changed
 
--- ---- a place is not listed any more
+-- ---- a position is not listed any more
 
-pub without_keeps : (place q : ℕ) (xs : List ℕ) → Contains xs q → (q ≡ place → ⊥) → Contains (without place xs) q
-without_keeps place q xs h other = Contains-filter (λ (p : ℕ). not (p == place)) xs q h (by (q == place) refl)
+pub without_keeps : (position q : ℕ) (xs : List ℕ) → Contains xs q → (q ≡ position → ⊥) → Contains (without position xs) q
+without_keeps position q xs h other = Contains-filter (λ (p : ℕ). not (p == position)) xs q h (by (q == position) refl)
   where
-    by : (b : Bool) → (q == place) ≡ b → not b ≡ true
-    by true e = absurd (other (eqb-true q place e))
+    by : (b : Bool) → (q == position) ≡ b → not b ≡ true
+    by true e = absurd (other (eqb-true q position e))
     by false e = refl
 
-pub from_without : (place q : ℕ) (xs : List ℕ) → Contains (without place xs) q → Contains xs q × (q ≡ place → ⊥)
-from_without place q xs h =
-    let k = from_filter (λ (p : ℕ). not (p == place)) xs q h in
-    (k.0, (λ e. by (q == place) refl k.1 e))
+pub from_without : (position q : ℕ) (xs : List ℕ) → Contains (without position xs) q → Contains xs q × (q ≡ position → ⊥)
+from_without position q xs h =
+    let k = from_filter (λ (p : ℕ). not (p == position)) xs q h in
+    (k.0, (λ e. by (q == position) refl k.1 e))
   where
-    by : (b : Bool) → (q == place) ≡ b → not b ≡ true → q ≡ place → ⊥
+    by : (b : Bool) → (q == position) ≡ b → not b ≡ true → q ≡ position → ⊥
     by true e f g = absurd (true≢false (sym f))
-    by false e f g = true≢false (sym (eq-eqb q place g) ∙ e)
+    by false e f g = true≢false (sym (eq-eqb q position g) ∙ e)
 
 -- ---- the one that is read
 

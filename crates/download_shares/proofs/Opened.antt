@@ -3,10 +3,10 @@ use Rattle.std.proofs.Common.{◌≡◌, ℕ, zero, suc, ◌+◌, ◌<◌, inr, 
 use Rattle.std.specs.Prelude.{slice_get, slice_set}
 use Rattle.std.proofs.lemmas.List.{append-nil, append_assoc}
 use Rattle.std.proofs.lemmas.Option.{slice_get_within}
-use Rattle.lemmas.proofs.Places.{get_set}
+use Rattle.lemmas.proofs.Positions.{get_set}
 use Rattle.request_record.proofs.StepLaws.{asked_joined}
 use Rattle.lemmas.proofs.Options.{one_there}
-use Rattle.share_reading.specs.Opening.{next_length, next_place}
+use Rattle.share_reading.specs.Opening.{next_length, next_offset}
 use Rattle.share_reading.specs.declared.opening.Opening.{Opening}
 use Rattle.share_reading.specs.declared.opening.Opening.TheVariants.{Start}
 use Rattle.request_record.specs.declared.requests.Asked.TheVariants.{Reading}
@@ -67,7 +67,7 @@ goes_trans s t u f g = record {
 }
 
 pub goes_next : (s u : BeginningsState) (holding : ℕ) (o : Opening) → AsksNext holding o s u → GoesOn s u
-goes_next s u holding o a = goes_asked s u holding (next_place o) (next_length o) a.asks
+goes_next s u holding o a = goes_asked s u holding (next_offset o) (next_length o) a.asks
 
 -- ---- it is taken up, and asked for its first bytes
 
@@ -105,7 +105,7 @@ module _ (s t : BeginningsState) (holding : ℕ) (h : Holding) (known : AreBegun
   pub taken_known : AreBegun t
   taken_known = known_same s t known requests_are (shares_taken holding s.holdings.table t.holdings.table takes) right (ap length same) (keeps_same s.begun t.begun same)
 
-  pub taken_unasked : IsUnasked t.holdings holding (next_place Start) (next_length Start)
+  pub taken_unasked : IsUnasked t.holdings holding (next_offset Start) (next_length Start)
   taken_unasked = unasked_first t.holdings holding (λ g i offset len e read. none_read g i offset len e read)
 
   pub opened_known : (u : BeginningsState) → AsksNext holding Start t u → IsRight u.holdings → AreBegun u
@@ -113,7 +113,7 @@ module _ (s t : BeginningsState) (holding : ℕ) (h : Holding) (known : AreBegun
 
   pub opened_opening : (u : BeginningsState) → AsksNext holding Start t u → AreOpening nobody u
   opened_opening u a = opening_next t u holding Start taken_known a (λ other. other ≡ holding)
-      (opening_taken s t holding h opening is free takes requests_are same) (λ place b. b)
+      (opening_taken s t holding h opening is free takes requests_are same) (λ position b. b)
       (λ g i offset len e read. absurd (none_read g i offset len e read))
       (λ g e. inr (record { number = now; there = number_there g e; reading = ap (taken_up holding) unread }))
       (λ g e. (

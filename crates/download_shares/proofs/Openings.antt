@@ -1,7 +1,7 @@
 -- Shares are begun to be read still, as the holdings go on.
 use Rattle.std.proofs.Common.{◌≡◌, ℕ, ◌+◌, ◌⊎◌, inl, inr, Bool, true, false, List, Option, Some, None, refl, sym, ap, subst, ◌∙◌, true≢false}
 use Rattle.std.specs.Prelude.{slice_get, slice_set}
-use Rattle.lemmas.proofs.Places.{get_other, set_cases}
+use Rattle.lemmas.proofs.Positions.{get_other, set_cases}
 use Rattle.lemmas.proofs.Options.{one_there}
 use Rattle.request_record.specs.declared.requests.Request.{Request}
 use Rattle.request_record.specs.Record.{RequestsState}
@@ -27,21 +27,21 @@ pub not_left : (b : Bool) → (b ≡ true → ⊥) → b ≡ false
 not_left true none = absurd (none refl)
 not_left false none = refl
 
-still_taken : (t u : TableState) (place : ℕ) (h g : Holding) → g.share ≡ h.share → (g.left ≡ true → h.left ≡ true) → IsHolding u place g
-    → ((share place : ℕ) (n : NumberState) → IsNumber t share n → n.reading ≡ Some place → IsReadOn u share place)
-    → (h.left ≡ false) ⊎ IsTaken t place h → (g.left ≡ false) ⊎ IsTaken u place g
-still_taken t u place h g share left is kept (inl gone) = inl (not_left g.left (λ e. true≢false (sym (left e) ∙ gone)))
-still_taken t u place h g share left is kept (inr taken) = elim (kept h.share place taken.number taken.there taken.reading) [
+still_taken : (t u : TableState) (position : ℕ) (h g : Holding) → g.share ≡ h.share → (g.left ≡ true → h.left ≡ true) → IsHolding u position g
+    → ((share position : ℕ) (n : NumberState) → IsNumber t share n → n.reading ≡ Some position → IsReadOn u share position)
+    → (h.left ≡ false) ⊎ IsTaken t position h → (g.left ≡ false) ⊎ IsTaken u position g
+still_taken t u position h g share left is kept (inl gone) = inl (not_left g.left (λ e. true≢false (sym (left e) ∙ gone)))
+still_taken t u position h g share left is kept (inr taken) = elim (kept h.share position taken.number taken.there taken.reading) [
   | inl on ↦ inr (record { number = on.0; there = subst (λ n. IsNumber u n on.0) (sym share) on.1; reading = on.2 })
   | inr none ↦ inl (not_left g.left (none g is))
 ]
 
-pub opening_was : (s : BeginningsState) (ns : List Request) (u : TableState) (place : ℕ) (g : Holding) (b : Begun) (w : WasHolding s.holdings.table place g) → IsOpening s place w.held b → AskedAlike s.holdings.requests.entries ns
-    → IsHolding u place g → ((share place : ℕ) (n : NumberState) → IsNumber s.holdings.table share n → n.reading ≡ Some place → IsReadOn u share place)
-    → (x : BeginningsState) → x.holdings.requests.entries ≡ ns → x.holdings.table ≡ u → IsOpening x place g b
-opening_was s ns u place g b w old alike is kept x entries table = record {
+pub opening_was : (s : BeginningsState) (ns : List Request) (u : TableState) (position : ℕ) (g : Holding) (b : Begun) (w : WasHolding s.holdings.table position g) → IsOpening s position w.held b → AskedAlike s.holdings.requests.entries ns
+    → IsHolding u position g → ((share position : ℕ) (n : NumberState) → IsNumber s.holdings.table share n → n.reading ≡ Some position → IsReadOn u share position)
+    → (x : BeginningsState) → x.holdings.requests.entries ≡ ns → x.holdings.table ≡ u → IsOpening x position g b
+opening_was s ns u position g b w old alike is kept x entries table = record {
   reads = λ i offset len read. old.reads i offset len (read_alike s.holdings.requests.entries ns w.held g i offset len alike w.of_server w.of_share (subst (λ (es : List Request). IsReadAt es g i offset len) entries read));
-  taken = λ some. subst (λ (t : TableState). (g.left ≡ false) ⊎ IsTaken t place g) (sym table) (still_taken s.holdings.table u place w.held g w.of_share w.left is kept (old.taken some));
+  taken = λ some. subst (λ (t : TableState). (g.left ≡ false) ⊎ IsTaken t position g) (sym table) (still_taken s.holdings.table u position w.held g w.of_share w.left is kept (old.taken some));
   unread = old.unread;
   choosable = w.suspended ∙ old.choosable;
 }
@@ -50,22 +50,22 @@ alike_none : (es : List Request) → AskedAlike es es
 alike_none es i n e = record { request = n; there = e; same = refl; of_server = refl }
 
 pub opening_falls : (s u : BeginningsState) (but more : ℕ → Type 0) → AreOpening but s → AskedAlike s.holdings.requests.entries u.holdings.requests.entries → Falls s.holdings.table u.holdings.table
-    → u.begun ≡ s.begun → ((place : ℕ) → but place → more place)
-    → ((share place : ℕ) (m : NumberState) → IsNumber u.holdings.table share m → m.reading ≡ Some place → ¬ more place → IsOut s place → IsOut u place) → AreOpening more u
+    → u.begun ≡ s.begun → ((position : ℕ) → but position → more position)
+    → ((share position : ℕ) (m : NumberState) → IsNumber u.holdings.table share m → m.reading ≡ Some position → ¬ more position → IsOut s position → IsOut u position) → AreOpening more u
 opening_falls s u but more opening alike falls same wider stay = record {
-  each = λ place g b is there. (
-      let w = falls.back place g is in
-      opening_was s u.holdings.requests.entries u.holdings.table place g b w (opening.each place w.held b w.is (sym (ap (λ (l : List Begun). slice_get l place) same) ∙ there)) alike is falls.kept u refl refl);
-  works = λ share place m e reading none. (
-      let n = falls.reading share place m e reading in
-      stay share place m e reading none (opening.works share place n.0 n.1 n.2 (λ b. none (wider place b))));
+  each = λ position g b is there. (
+      let w = falls.back position g is in
+      opening_was s u.holdings.requests.entries u.holdings.table position g b w (opening.each position w.held b w.is (sym (ap (λ (l : List Begun). slice_get l position) same) ∙ there)) alike is falls.kept u refl refl);
+  works = λ share position m e reading none. (
+      let n = falls.reading share position m e reading in
+      stay share position m e reading none (opening.works share position n.0 n.1 n.2 (λ b. none (wider position b))));
 }
 
 -- the one that is not at it is not read
 pub narrowed : (s : BeginningsState) (holding : ℕ) → AreOpening (λ other. other ≡ holding) s → ((share : ℕ) (m : NumberState) → IsNumber s.holdings.table share m → m.reading ≡ Some holding → ⊥) → AreOpening nobody s
 narrowed s holding opening gone = record {
   each = opening.each;
-  works = λ share place m is reading none. opening.works share place m is reading (λ e. gone share m is (reading ∙ ap Some e));
+  works = λ share position m is reading none. opening.works share position m is reading (λ e. gone share m is (reading ∙ ap Some e));
 }
 
 -- one is blamed, and nothing is asked
@@ -73,10 +73,10 @@ pub opening_blamed : (s u : BeginningsState) (holding : ℕ) → AreOpening (λ 
     → ((share : ℕ) (m : NumberState) → IsNumber u.holdings.table share m → m.reading ≡ Some holding → ⊥) → AreOpening nobody u
 opening_blamed s u holding opening e falls same gone =
     let wide = opening_falls s u (λ other. other ≡ holding) (λ other. other ≡ holding) opening
-    (subst (λ (r : RequestsState). AskedAlike s.holdings.requests.entries r.entries) (sym e) (alike_none s.holdings.requests.entries)) falls same (λ place b. b)
-    (λ share place m is reading none out. record {
+    (subst (λ (r : RequestsState). AskedAlike s.holdings.requests.entries r.entries) (sym e) (alike_none s.holdings.requests.entries)) falls same (λ position b. b)
+    (λ share position m is reading none out. record {
       begun = out.begun;
-      is = ap (λ (l : List Begun). slice_get l place) same ∙ out.is;
+      is = ap (λ (l : List Begun). slice_get l position) same ∙ out.is;
       request = out.request;
       waiting = out.waiting;
       out = subst (λ (r : RequestsState). IsOutAt r.entries out.request) (sym e) out.out;
@@ -86,18 +86,18 @@ opening_blamed s u holding opening e falls same gone =
 -- an answer is taken
 pub opening_rests : (s u : BeginningsState) (holding : ℕ) → AreOpening (λ other. other ≡ holding) s → Rests holding s u → AreOpening (λ other. other ≡ holding) u
 opening_rests s u holding opening r = subst (AreOpening (λ other. other ≡ holding)) (sym r.is) (record {
-  each = λ place h b is there. elim (set_cases s.begun holding place (rested r.begun) b there) [
+  each = λ position h b is there. elim (set_cases s.begun holding position (rested r.begun) b there) [
     | inl k ↦ (
-        let old = opening.each place h r.begun is (ap (slice_get s.begun) k.0 ∙ r.there) in
-        subst (IsOpening (record s { begun = slice_set s.begun holding (rested r.begun) }) place h) k.1
+        let old = opening.each position h r.begun is (ap (slice_get s.begun) k.0 ∙ r.there) in
+        subst (IsOpening (record s { begun = slice_set s.begun holding (rested r.begun) }) position h) k.1
         (record { reads = old.reads; taken = old.taken; unread = old.unread; choosable = old.choosable }))
     | inr k ↦ (
-        let old = opening.each place h b is k.1 in
+        let old = opening.each position h b is k.1 in
         record { reads = old.reads; taken = old.taken; unread = old.unread; choosable = old.choosable })
   ];
-  works = λ share place n is reading none. (
-      let out = opening.works share place n is reading none in
-      record { begun = out.begun; is = get_other s.begun holding place (rested r.begun) none ∙ out.is; request = out.request; waiting = out.waiting; out = out.out });
+  works = λ share position n is reading none. (
+      let out = opening.works share position n is reading none in
+      record { begun = out.begun; is = get_other s.begun holding position (rested r.begun) none ∙ out.is; request = out.request; waiting = out.waiting; out = out.out });
 })
 
 -- ---- one is taken up
@@ -112,15 +112,15 @@ count_one t u holding h is free k =
 pub opening_taken : (s u : BeginningsState) (holding : ℕ) (h : Holding) → AreOpening nobody s → IsHolding s.holdings.table holding h → IsFree s.holdings.table h → TakesUp holding s.holdings.table u.holdings.table
     → u.holdings.requests ≡ s.holdings.requests → u.begun ≡ s.begun → AreOpening (λ other. other ≡ holding) u
 opening_taken s u holding h opening is free k e same = record {
-  each = λ place g b held there. (
-      let old = opening.each place g b (sym (ap (λ (l : List Holding). slice_get l place) k.2) ∙ held) (sym (ap (λ (l : List Begun). slice_get l place) same) ∙ there) in
+  each = λ position g b held there. (
+      let old = opening.each position g b (sym (ap (λ (l : List Holding). slice_get l position) k.2) ∙ held) (sym (ap (λ (l : List Begun). slice_get l position) same) ∙ there) in
       record {
         reads = λ i offset len. subst (λ (r : RequestsState). IsReadAt r.entries g i offset len → IsBeginning b.opening offset len) (sym e) (old.reads i offset len);
-        taken = λ some. taken place g (old.taken some);
+        taken = λ some. taken position g (old.taken some);
         unread = old.unread;
         choosable = old.choosable;
       });
-  works = λ share place n there reading none. works share place n reading none (set_cases s.holdings.table.numbers k.0.share share (record k.3.number { reading = taken_up holding k.3.number.reading }) n (sym (ap (λ (l : List NumberState). slice_get l share) k.3.numbers) ∙ there));
+  works = λ share position n there reading none. works share position n reading none (set_cases s.holdings.table.numbers k.0.share share (record k.3.number { reading = taken_up holding k.3.number.reading }) n (sym (ap (λ (l : List NumberState). slice_get l share) k.3.numbers) ∙ there));
 }
   where
     unread : k.3.number.reading ≡ None
@@ -129,29 +129,29 @@ opening_taken s u holding h opening is free k e same = record {
         let number : free.number ≡ k.3.number = one_there (slice_get s.holdings.table.numbers h.share) free.number k.3.number free.there (ap (λ (x : Holding). slice_get s.holdings.table.numbers x.share) one ∙ k.3.is) in
         sym (ap (λ (n : NumberState). n.reading) number) ∙ free.unread
 
-    taken : (place : ℕ) (g : Holding) → (g.left ≡ false) ⊎ IsTaken s.holdings.table place g → (g.left ≡ false) ⊎ IsTaken u.holdings.table place g
-    taken place g (inl gone) = inl gone
-    taken place g (inr t) = inr (record {
+    taken : (position : ℕ) (g : Holding) → (g.left ≡ false) ⊎ IsTaken s.holdings.table position g → (g.left ≡ false) ⊎ IsTaken u.holdings.table position g
+    taken position g (inl gone) = inl gone
+    taken position g (inr t) = inr (record {
       number = t.number;
       there = ap (λ (l : List NumberState). slice_get l g.share) k.3.numbers ∙ get_other s.holdings.table.numbers k.0.share g.share (record k.3.number { reading = taken_up holding k.3.number.reading })
           (λ here.
           let one : t.number ≡ k.3.number = one_there (slice_get s.holdings.table.numbers g.share) t.number k.3.number t.there (ap (slice_get s.holdings.table.numbers) here ∙ k.3.is) in
-          let two : Some place ≡ None = sym t.reading ∙ ap (λ (n : NumberState). n.reading) one ∙ unread in
+          let two : Some position ≡ None = sym t.reading ∙ ap (λ (n : NumberState). n.reading) one ∙ unread in
           absurd cc) ∙ t.there;
       reading = t.reading;
     })
 
-    works : (share place : ℕ) (n : NumberState) → n.reading ≡ Some place → (place ≡ holding → ⊥)
-        → ((share ≡ k.0.share) × (record k.3.number { reading = taken_up holding k.3.number.reading } ≡ n)) ⊎ ((share ≡ k.0.share → ⊥) × (slice_get s.holdings.table.numbers share ≡ Some n)) → IsOut u place
-    works share place n reading none (inl here) =
+    works : (share position : ℕ) (n : NumberState) → n.reading ≡ Some position → (position ≡ holding → ⊥)
+        → ((share ≡ k.0.share) × (record k.3.number { reading = taken_up holding k.3.number.reading } ≡ n)) ⊎ ((share ≡ k.0.share → ⊥) × (slice_get s.holdings.table.numbers share ≡ Some n)) → IsOut u position
+    works share position n reading none (inl here) =
         let now : taken_up holding k.3.number.reading ≡ Some holding = ap (taken_up holding) unread in
-        let two : Some holding ≡ Some place = sym now ∙ ap (λ (x : NumberState). x.reading) here.1 ∙ reading in
-        absurd (none (let one : holding ≡ place = cc in sym one))
-    works share place n reading none (inr old) =
-        let out = opening.works share place n old.1 reading (λ x. x) in
+        let two : Some holding ≡ Some position = sym now ∙ ap (λ (x : NumberState). x.reading) here.1 ∙ reading in
+        absurd (none (let one : holding ≡ position = cc in sym one))
+    works share position n reading none (inr old) =
+        let out = opening.works share position n old.1 reading (λ x. x) in
         record {
           begun = out.begun;
-          is = ap (λ (l : List Begun). slice_get l place) same ∙ out.is;
+          is = ap (λ (l : List Begun). slice_get l position) same ∙ out.is;
           request = out.request;
           waiting = out.waiting;
           out = subst (λ (r : RequestsState). IsOutAt r.entries out.request) (sym e) out.out;

@@ -4,14 +4,14 @@ use Rattle.std.proofs.lemmas.List.{take_all}
 use Rattle.cap_text.specs.Cap.{VerifyCapValue}
 use Rattle.share_layout.specs.Geometry.{Geometry, IsGeometry}
 use Rattle.share_layout.specs.declared.layout.Layout.TheVariants.{Two}
-use Rattle.share_layout.specs.declared.places.Places.{Places}
-use Rattle.share_layout.specs.Layout.{header, header_size, layout_of, places_of}
-use Rattle.share_layout.specs.Places.{layout_in}
+use Rattle.share_layout.specs.declared.offsets.Offsets.{Offsets}
+use Rattle.share_layout.specs.Layout.{header, header_size, layout_of, offsets_of}
+use Rattle.share_layout.specs.Offsets.{layout_in}
 use Rattle.share_layout.specs.Reading.{HasHeader}
-use Rattle.share_layout.proofs.LawLemmas.{tells_places}
+use Rattle.share_layout.proofs.LawLemmas.{tells_offsets}
 use Rattle.share_layout.proofs.LayoutLemmas.{length-header}
 use Rattle.share_reading.specs.Header.{IsSecond}
-use Rattle.share_reading.specs.Opening.{Advances, Agrees, next_length, next_place, text_of}
+use Rattle.share_reading.specs.Opening.{Advances, Agrees, next_length, next_offset, text_of}
 use Rattle.share_reading.specs.OpeningReads.{end_of}
 use Rattle.share_reading.specs.declared.header.ShareHeader.{ShareHeader}
 use Rattle.share_reading.specs.declared.opening.Opening.{Opening}
@@ -23,34 +23,34 @@ use Rattle.share_reading.proofs.ListLemmas.{header_long}
 use Rattle.download_shares.specs.Reads.{IsBeside, IsReadUpTo}
 
 -- the next read is one
-pub next_is : (o : Opening) → IsReadUpTo o (next_place o) (next_length o)
+pub next_is : (o : Opening) → IsReadUpTo o (next_offset o) (next_length o)
 next_is Start = omega arith
 next_is (Second s) = omega arith
 next_is (Header h) = inr (omega arith, omega arith)
 next_is (Block b) = inr (omega arith, omega arith)
 
 -- all end with the next read
-pub ends : (o : Opening) (place len : ℕ) → IsReadUpTo o place len → place + len ≤ next_place o + next_length o
-ends Start place len r = r
-ends (Second s) place len r = r
-ends (Header h) place len (inl low) = let b = behind h in omega (arith, low, b)
-ends (Header h) place len (inr high) = high.1
-ends (Block b) place len (inl low) = let k = behind b.header in omega (arith, low, k)
-ends (Block b) place len (inr high) = high.1
+pub ends : (o : Opening) (position len : ℕ) → IsReadUpTo o position len → position + len ≤ next_offset o + next_length o
+ends Start position len r = r
+ends (Second s) position len r = r
+ends (Header h) position len (inl low) = let b = behind h in omega (arith, low, b)
+ends (Header h) position len (inr high) = high.1
+ends (Block b) position len (inl low) = let k = behind b.header in omega (arith, low, k)
+ends (Block b) position len (inr high) = high.1
 
 -- they stay reads of the opening that goes on
-pub goes_on : (verify : VerifyCapValue) (old new : Opening) (bytes : List ℕ) (place len : ℕ) → Advances verify old bytes (Next new) → IsReadUpTo old place len → IsReadUpTo new place len
-goes_on verify old new bytes place len a r =
+pub goes_on : (verify : VerifyCapValue) (old new : Opening) (bytes : List ℕ) (position len : ℕ) → Advances verify old bytes (Next new) → IsReadUpTo old position len → IsReadUpTo new position len
+goes_on verify old new bytes position len a r =
     let k = rise verify old new bytes a in
-    by old new (let e = ends old place len r in let f = k.0 in omega (arith, e, f)) a r
+    by old new (let e = ends old position len r in let f = k.0 in omega (arith, e, f)) a r
   where
-    by : (old new : Opening) → place + len ≤ end_of new → Advances verify old bytes (Next new) → IsReadUpTo old place len → IsReadUpTo new place len
+    by : (old new : Opening) → position + len ≤ end_of new → Advances verify old bytes (Next new) → IsReadUpTo old position len → IsReadUpTo new position len
     by old Start low a r = omega (arith, low)
     by old (Second s) low a r = omega (arith, low)
     by old (Header h) low a r = inl low
     by Start (Block b) low a r = absurd a.1
     by (Second s) (Block b) low a r = absurd a.1
-    by (Header h) (Block b) low a r = elim (subst (λ (k : ShareHeader). IsReadUpTo (Header k) place len) (sym a.1.0) r) [
+    by (Header h) (Block b) low a r = elim (subst (λ (k : ShareHeader). IsReadUpTo (Header k) position len) (sym a.1.0) r) [
       | inl in_header ↦ inl in_header
       | inr high ↦ (let e = high.1 in inr (high.0, omega (arith, e)))
     ]
@@ -61,19 +61,19 @@ goes_on verify old new bytes place len a r =
 own_layout : (g : Geometry) → IsGeometry g → layout_in (header g) ≡ layout_of g
 own_layout g valid =
     let own : HasHeader g (header g) = take_all (header_size (layout_of g)) (header g) (let e = length-header (layout_of g) g in omega (arith, e)) in
-    ap (λ (p : Places). p.layout) (tells_places g (header g) valid own).2
+    ap (λ (p : Offsets). p.layout) (tells_offsets g (header g) valid own).2
 
 second_layout : (g : Geometry) (start : List ℕ) → IsGeometry g → IsSecond start → take 36 (header g) ≡ start → layout_of g ≡ Two
 second_layout g start valid second agrees =
     sym (own_layout g valid) ∙ sym (layout_take 36 (header g) (omega arith)) ∙ ap layout_in agrees ∙ second
 
-own_places : (g : Geometry) (h : ShareHeader) → IsGeometry g → HasHeader g (text_of h) → h.places ≡ places_of g
-own_places g h valid has = h.right.places ∙ (tells_places g (text_of h) valid has).2
+own_offsets : (g : Geometry) (h : ShareHeader) → IsGeometry g → HasHeader g (text_of h) → h.offsets ≡ offsets_of g
+own_offsets g h valid has = h.right.offsets ∙ (tells_offsets g (text_of h) valid has).2
 
-pub beside : (g : Geometry) (o : Opening) (place len : ℕ) → IsGeometry g → Agrees g o → IsReadUpTo o place len → IsBeside g place len
-beside g Start place len valid agrees r = inl (let l = header_long (layout_of g) in omega (arith, l, r))
-beside g (Second s) place len valid agrees r = inl (let l = ap header_size (second_layout g s.bytes valid s.second agrees) in omega (arith, l, r))
-beside g (Header h) place len valid agrees (inl in_header) = inl (let l = ap (λ (p : Places). header_size p.layout) (own_places g h valid agrees) in omega (arith, l, in_header))
-beside g (Header h) place len valid agrees (inr high) = inr (let l = ap (λ (p : Places). p.extension_block) (own_places g h valid agrees) in let e = high.0 in omega (arith, l, e))
-beside g (Block b) place len valid agrees (inl in_header) = inl (let l = ap (λ (p : Places). header_size p.layout) (own_places g b.header valid agrees) in omega (arith, l, in_header))
-beside g (Block b) place len valid agrees (inr high) = inr (let l = ap (λ (p : Places). p.extension_block) (own_places g b.header valid agrees) in let e = high.0 in omega (arith, l, e))
+pub beside : (g : Geometry) (o : Opening) (offset len : ℕ) → IsGeometry g → Agrees g o → IsReadUpTo o offset len → IsBeside g offset len
+beside g Start offset len valid agrees r = inl (let l = header_long (layout_of g) in omega (arith, l, r))
+beside g (Second s) offset len valid agrees r = inl (let l = ap header_size (second_layout g s.bytes valid s.second agrees) in omega (arith, l, r))
+beside g (Header h) offset len valid agrees (inl in_header) = inl (let l = ap (λ (p : Offsets). header_size p.layout) (own_offsets g h valid agrees) in omega (arith, l, in_header))
+beside g (Header h) offset len valid agrees (inr high) = inr (let l = ap (λ (p : Offsets). p.extension_block) (own_offsets g h valid agrees) in let e = high.0 in omega (arith, l, e))
+beside g (Block b) offset len valid agrees (inl in_header) = inl (let l = ap (λ (p : Offsets). header_size p.layout) (own_offsets g b.header valid agrees) in omega (arith, l, in_header))
+beside g (Block b) offset len valid agrees (inr high) = inr (let l = ap (λ (p : Offsets). p.extension_block) (own_offsets g b.header valid agrees) in let e = high.0 in omega (arith, l, e))

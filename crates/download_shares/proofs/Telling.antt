@@ -5,8 +5,8 @@ use Rattle.std.proofs.lemmas.Bool.{and_parts, cases_lt, le-ltb, leb-true, lt-ltb
 use Rattle.std.proofs.lemmas.List.Elements.{filter-append}
 use Rattle.std.proofs.lemmas.List.{append_assoc, append-nil, length-set, take_more}
 use Rattle.std.proofs.lemmas.Option.{get_or_from_slice_get, slice_get-get_or, slice_get_within}
-pub use Rattle.lemmas.proofs.Places.{get_left as append_front}
-use Rattle.lemmas.proofs.Places.{set_cases, get_left}
+pub use Rattle.lemmas.proofs.Positions.{get_left as append_front}
+use Rattle.lemmas.proofs.Positions.{set_cases, get_left}
 use Rattle.wire.specs.declared.message.Body.{Body}
 use Rattle.wire.specs.declared.message.Body.TheVariants.{Have}
 use Rattle.wire.specs.declared.message.HeldShare.{HeldShare}
@@ -18,7 +18,7 @@ use Rattle.request_record.specs.declared.requests.Outcome.TheVariants.{Answered}
 use Rattle.request_record.specs.declared.requests.Request.{Request}
 use Rattle.request_record.specs.Written.{IsKeptAt}
 use Rattle.request_record.proofs.EntrySteps.{holdings_kept}
-use Rattle.lemmas.proofs.Places.{get_of}
+use Rattle.lemmas.proofs.Positions.{get_of}
 use Rattle.request_record.specs.Record.{RequestsState, counts_at, is_outstanding, with_outcome}
 use Rattle.request_record.specs.Asking.{AreApart, after_message}
 use Rattle.request_record.proofs.AskingLaws.{once_answered}
@@ -27,7 +27,7 @@ use Rattle.download_shares.specs.Left.{IsBlamed, IsGone, IsOffered}
 use Rattle.download_shares.specs.HoldingState.{HoldingsState, NumberState, TableState}
 use Rattle.download_shares.specs.Table.{ChangesNumber, IsHolding, told, told_one}
 use Rattle.download_shares.specs.HoldingMoves.{Tells, TellsHeld, held_by}
-use Rattle.download_shares.specs.Numbers.{with_place}
+use Rattle.download_shares.specs.Numbers.{with_position}
 use Rattle.download_shares.specs.Right.{IsRight}
 use Rattle.download_shares.specs.declared.holding.Holding.{Holding}
 use Rattle.download_shares.proofs.Goes.{alike_forth, answered_at, gone_message, gone_stays, message_goes, offered_stays}
@@ -35,7 +35,7 @@ use Rattle.download_shares.proofs.Records.{alike_message, stays_message}
 
 -- ---- what stands in the joined list
 
--- a place in two lists, one after another: in the first, or in the second
+-- a position in two lists, one after another: in the first, or in the second
 pub append_cases : {X : Type 0} (xs ys : List X) (i : ℕ) (x : X) → slice_get (xs ++ ys) i ≡ Some x → (slice_get xs i ≡ Some x) ⊎ ((length xs ≤ i) × (slice_get ys (i - length xs) ≡ Some x))
 append_cases [] ys i x e = (let at : i - 0 ≡ i = omega arith in inr (omega arith, ap (slice_get ys) at ∙ e))
 append_cases (z ∷ zs) ys zero x e = inl e
@@ -139,9 +139,9 @@ have_of b i x e = absurd cc
 
 -- ---- so the holdings are right
 
-module _ (s : HoldingsState) (right : IsRight s) (from : ℕ) (m : Message) (now place : ℕ) (counts : counts_at from m s.requests ≡ Some place) (low : place < s.servers)
+module _ (s : HoldingsState) (right : IsRight s) (from : ℕ) (m : Message) (now position : ℕ) (counts : counts_at from m s.requests ≡ Some position) (low : position < s.servers)
     (held : List HeldShare) (body : held ≡ held_by (Answered m.body)) (rising : rises_from 0 held ≡ true) (count : ℕ)
-    (q : Request) (there : slice_get s.requests.entries place ≡ Some q)
+    (q : Request) (there : slice_get s.requests.entries position ≡ Some q)
     (u : TableState) (long : length u.numbers ≡ length s.table.numbers)
     (holdings : u.holdings ≡ s.table.holdings ++ told (length s.table.numbers) q.server (take count held)) where
   abbrev new-ones : List Holding
@@ -157,19 +157,19 @@ module _ (s : HoldingsState) (right : IsRight s) (from : ℕ) (m : Message) (now
   front_after : (k : ℕ) (h : Holding) → IsHolding s.table k h → IsHolding u k h
   front_after k h e = ap (λ (l : List Holding). slice_get l k) holdings ∙ get_left s.table.holdings new-ones k h e
 
-  answered-at : slice_get entries-after place ≡ Some (with_outcome q (Answered m.body))
-  answered-at = answered_at from m now s.requests place q counts there
+  answered-at : slice_get entries-after position ≡ Some (with_outcome q (Answered m.body))
+  answered-at = answered_at from m now s.requests position q counts there
 
   -- what is told is offered
   offered_new : (i : ℕ) (h : Holding) → slice_get new-ones i ≡ Some h → IsOffered entries-after h.server h.share
   offered_new i h e =
       let t = told_is (length s.table.numbers) q.server (take count held) i h e in
       record {
-        place = place;
+        position = position;
         request = with_outcome q (Answered m.body);
         there = answered-at;
         of_server = sym t.of_server;
-        asked = right.first place q there low;
+        asked = right.first position q there low;
         readonly = (have t).readonly;
         held = (have t).held;
         answer = ap Answered (have t).is;
@@ -186,15 +186,15 @@ module _ (s : HoldingsState) (right : IsRight s) (from : ℕ) (m : Message) (now
   none_old : (k : ℕ) (h : Holding) → IsHolding s.table k h → h.server ≡ q.server → ⊥
   none_old k h e server =
       let o = right.offered k h e in
-      let waits = counts_is from m s.requests place counts in
+      let waits = counts_is from m s.requests position counts in
       let one : waits.request ≡ q = let two : Some waits.request ≡ Some q = sym waits.there ∙ there in cc in
-      let other : o.place ≡ place → ⊥ = λ e. (let two : Some o.request ≡ Some q = sym o.there ∙ ap (slice_get s.requests.entries) e ∙ there in let same : o.request ≡ q = cc in
+      let other : o.position ≡ position → ⊥ = λ e. (let two : Some o.request ≡ Some q = sym o.there ∙ ap (slice_get s.requests.entries) e ∙ there in let same : o.request ≡ q = cc in
       true≢false (sym waits.waits ∙ ap (λ (x : Request). is_outstanding x.outcome) (one ∙ sym same) ∙ ap is_outstanding o.answer)) in
-      let asked : q.asked ≡ Holdings = right.first place q there low in
-      elim (cases_lt o.place place) [
-        | inl lt ↦ apart_not o.request.asked q.asked (right.once o.place place o.request q lt o.there there (o.of_server ∙ server)) o.asked asked
-        | inr le ↦ elim (cases_lt place o.place) [
-          | inl lt ↦ apart_not q.asked o.request.asked (right.once place o.place q o.request lt there o.there (sym (o.of_server ∙ server))) asked o.asked
+      let asked : q.asked ≡ Holdings = right.first position q there low in
+      elim (cases_lt o.position position) [
+        | inl lt ↦ apart_not o.request.asked q.asked (right.once o.position position o.request q lt o.there there (o.of_server ∙ server)) o.asked asked
+        | inr le ↦ elim (cases_lt position o.position) [
+          | inl lt ↦ apart_not q.asked o.request.asked (right.once position o.position q o.request lt there o.there (sym (o.of_server ∙ server))) asked o.asked
           | inr le' ↦ other (omega (arith, le, le'))
         ]
       ]
@@ -209,29 +209,29 @@ module _ (s : HoldingsState) (right : IsRight s) (from : ℕ) (m : Message) (now
   gone_old server share g = elim (gone_message from m now s.requests server share g) [
     | inl old ↦ old
     | inr new ↦
-        let is : new.0 ≡ place = let two : Some new.0 ≡ Some place = sym new.1 ∙ counts in cc in
+        let is : new.0 ≡ position = let two : Some new.0 ≡ Some position = sym new.1 ∙ counts in cc in
         let low-one : new.0 < s.servers = subst (λ (n : ℕ). n < s.servers) (sym is) low in
         let two : Reading share new.3.3.0 new.3.3.1.0 ≡ Holdings = sym new.3.3.1.1 ∙ right.first new.0 new.3.0 new.3.1 low-one in absurd cc
   ]
 
   -- nothing was asked of one that is told
   none_asked : (server share : ℕ) → server ≡ q.server → IsGone s.requests.entries server share → ⊥
-  none_asked server share e g = elim (cases_lt g.place s.servers) [
-    | inl lt ↦ (let two : Reading share g.offset g.len ≡ Holdings = sym g.asked ∙ right.first g.place g.request g.there lt in absurd cc)
+  none_asked server share e g = elim (cases_lt g.position s.servers) [
+    | inl lt ↦ (let two : Reading share g.offset g.len ≡ Holdings = sym g.asked ∙ right.first g.position g.request g.there lt in absurd cc)
     | inr le ↦
         let c = right.counted in
-        let within = slice_get_within s.requests.entries g.place g.request g.there in
-        let inside : g.place - s.servers < length s.owners = omega (arith, le, c, within) in
-        let own = slice_get-get_or s.owners (g.place - s.servers) 0 inside in
-        let o = right.owned (g.place - s.servers) _ own in
-        let at : s.servers + (g.place - s.servers) ≡ g.place = omega (arith, le) in
+        let within = slice_get_within s.requests.entries g.position g.request g.there in
+        let inside : g.position - s.servers < length s.owners = omega (arith, le, c, within) in
+        let own = slice_get-get_or s.owners (g.position - s.servers) 0 inside in
+        let o = right.owned (g.position - s.servers) _ own in
+        let at : s.servers + (g.position - s.servers) ≡ g.position = omega (arith, le) in
         let one : o.request ≡ g.request = let two : Some o.request ≡ Some g.request = sym o.there ∙ ap (slice_get s.requests.entries) at ∙ g.there in cc in
         none_old _ o.held o.is (sym o.read.of_server ∙ ap (λ (x : Request). x.server) one ∙ g.of_server ∙ e)
   ]
 
   not_blamed : (server share : ℕ) → server ≡ q.server → IsBlamed s.blamed server share → ⊥
   not_blamed server share e b =
-      let k = right.blamed b.place b.blame b.there in
+      let k = right.blamed b.position b.blame b.there in
       none_old k.0 k.1.0 k.1.1 (sym k.1.2 ∙ b.of_server ∙ e)
 
   pub right_told : IsRight (record s { requests = after_message from m now s.requests; table = u })
@@ -314,14 +314,14 @@ tells_skip server held i x t u lt e high k =
     }
 
 pub tells_next : (server : ℕ) (held : List HeldShare) (i : ℕ) (x : HeldShare) (t u v : TableState) → i < length held → x ≡ slice_index_or held i x → x.share < length u.numbers → Tells server held i t u
-    → v.holdings ≡ u.holdings ++ told_one server x.share ∷ [] → ChangesNumber x.share (with_place (length u.holdings)) u v → Tells server held (i + 1) t v
+    → v.holdings ≡ u.holdings ++ told_one server x.share ∷ [] → ChangesNumber x.share (with_position (length u.holdings)) u v → Tells server held (i + 1) t v
 tells_next server held i x t u v lt e inside k more change =
     let below : x.share < length t.numbers = let l = k.long in omega (arith, inside, l) in
     record {
       holdings = more ∙ ap (λ (l : List Holding). l ++ told_one server x.share ∷ []) k.holdings ∙ append_assoc t.holdings (told (length t.numbers) server (take i held)) (told_one server x.share ∷ [])
           ∙ ap (λ (l : List Holding). t.holdings ++ l) (sym (told_more (length t.numbers) server held i x lt e ∙ ap (λ (l : List Holding). told (length t.numbers) server (take i held) ++ l) (told_counts (length t.numbers) server x below)));
-      long = ap length change.numbers ∙ length-set u.numbers x.share (with_place (length u.holdings) change.number) ∙ k.long;
-      reading = λ share n m e f. elim (set_cases u.numbers x.share share (with_place (length u.holdings) change.number) m (sym (ap (λ (l : List NumberState). slice_get l share) change.numbers) ∙ f)) [
+      long = ap length change.numbers ∙ length-set u.numbers x.share (with_position (length u.holdings) change.number) ∙ k.long;
+      reading = λ share n m e f. elim (set_cases u.numbers x.share share (with_position (length u.holdings) change.number) m (sym (ap (λ (l : List NumberState). slice_get l share) change.numbers) ∙ f)) [
         | inl w ↦ ap (λ (y : NumberState). y.reading) (sym w.1) ∙ k.reading share n change.number e (ap (slice_get u.numbers) w.0 ∙ change.is)
         | inr w ↦ k.reading share n m e w.1
       ];
@@ -329,7 +329,7 @@ tells_next server held i x t u v lt e inside k more change =
 
 -- the same, by what an index gives
 pub tells_by : (server : ℕ) (held : List HeldShare) (i : ℕ) (d : HeldShare) (t u v : TableState) → i < length held → (slice_index_or held i d).share < length u.numbers → Tells server held i t u
-    → v.holdings ≡ u.holdings ++ told_one server (slice_index_or held i d).share ∷ [] → ChangesNumber (slice_index_or held i d).share (with_place (length u.holdings)) u v → Tells server held (i + 1) t v
+    → v.holdings ≡ u.holdings ++ told_one server (slice_index_or held i d).share ∷ [] → ChangesNumber (slice_index_or held i d).share (with_position (length u.holdings)) u v → Tells server held (i + 1) t v
 tells_by server held i d t u v lt inside k more change =
     tells_next server held i (slice_index_or held i d) t u v lt (sym (get_or_from_slice_get held i (slice_index_or held i d) (slice_index_or held i d) (slice_get-get_or held i d lt))) inside k more change
 
@@ -339,33 +339,33 @@ tells_not server held i d t u lt high k =
 
 -- ---- as the code does it
 
-pub record ToldNow (s : HoldingsState) (from : ℕ) (m : Message) (now place count : ℕ) (held : List HeldShare) (r : RequestsState) (u : TableState) : Type 0 where
+pub record ToldNow (s : HoldingsState) (from : ℕ) (m : Message) (now position count : ℕ) (held : List HeldShare) (r : RequestsState) (u : TableState) : Type 0 where
   pub right : IsRight (record s { requests = r; table = u })
-  pub tells : TellsHeld place m s (record s { requests = r; table = u }) count
+  pub tells : TellsHeld position m s (record s { requests = r; table = u }) count
   pub same-held : held ≡ held_by (Answered m.body)
 
 -- The request that a server's telling answers is in memory.
-pub told_kept : (s : HoldingsState) → IsRight s → (from : ℕ) (m : Message) (now place : ℕ) → counts_at from m s.requests ≡ Some place → place < s.servers → place < length s.requests.entries
-    → (r : RequestsState) → r ≡ after_message from m now s.requests → IsKeptAt r.entries place
-told_kept s right from m now place counts low inside r re =
-    let q : (x : Request) × (slice_get s.requests.entries place ≡ Some x) = get_of s.requests.entries place inside in
-    let answered = answered_at from m now s.requests place q.0 counts q.1 in
-    subst (λ (x : RequestsState). IsKeptAt x.entries place) (sym re) (holdings_kept (after_message from m now s.requests).entries place (with_outcome q.0 (Answered m.body)) answered (right.first place q.0 q.1 low))
+pub told_kept : (s : HoldingsState) → IsRight s → (from : ℕ) (m : Message) (now position : ℕ) → counts_at from m s.requests ≡ Some position → position < s.servers → position < length s.requests.entries
+    → (r : RequestsState) → r ≡ after_message from m now s.requests → IsKeptAt r.entries position
+told_kept s right from m now position counts low inside r re =
+    let q : (x : Request) × (slice_get s.requests.entries position ≡ Some x) = get_of s.requests.entries position inside in
+    let answered = answered_at from m now s.requests position q.0 counts q.1 in
+    subst (λ (x : RequestsState). IsKeptAt x.entries position) (sym re) (holdings_kept (after_message from m now s.requests).entries position (with_outcome q.0 (Answered m.body)) answered (right.first position q.0 q.1 low))
 
-pub told_by : (s : HoldingsState) → IsRight s → (from : ℕ) (m : Message) (now place : ℕ) → counts_at from m s.requests ≡ Some place → place < s.servers → place < length s.requests.entries
-    → (r : RequestsState) → r ≡ after_message from m now s.requests → (e : Request) → slice_get r.entries place ≡ Some e → (held : List HeldShare) → held ≡ held_by e.outcome → IsTrue (rises_from 0 held)
-    → (count : ℕ) (u : TableState) → Tells e.server held count s.table u → ToldNow s from m now place count held r u
-told_by s right from m now place counts low inside r re e stands held he rising count u tells =
-    let q-there = slice_get-get_or s.requests.entries place e inside in
-    let answered = answered_at from m now s.requests place _ counts q-there in
-    let e-is : e ≡ with_outcome (slice_index_or s.requests.entries place e) (Answered m.body) = let two : Some e ≡ Some (with_outcome (slice_index_or s.requests.entries place e) (Answered m.body)) = sym stands ∙ ap (λ (x : RequestsState). slice_get x.entries place) re ∙ answered in cc in
+pub told_by : (s : HoldingsState) → IsRight s → (from : ℕ) (m : Message) (now position : ℕ) → counts_at from m s.requests ≡ Some position → position < s.servers → position < length s.requests.entries
+    → (r : RequestsState) → r ≡ after_message from m now s.requests → (e : Request) → slice_get r.entries position ≡ Some e → (held : List HeldShare) → held ≡ held_by e.outcome → IsTrue (rises_from 0 held)
+    → (count : ℕ) (u : TableState) → Tells e.server held count s.table u → ToldNow s from m now position count held r u
+told_by s right from m now position counts low inside r re e stands held he rising count u tells =
+    let q-there = slice_get-get_or s.requests.entries position e inside in
+    let answered = answered_at from m now s.requests position _ counts q-there in
+    let e-is : e ≡ with_outcome (slice_index_or s.requests.entries position e) (Answered m.body) = let two : Some e ≡ Some (with_outcome (slice_index_or s.requests.entries position e) (Answered m.body)) = sym stands ∙ ap (λ (x : RequestsState). slice_get x.entries position) re ∙ answered in cc in
     let held-is : held ≡ held_by (Answered m.body) = he ∙ ap (λ (x : Request). held_by x.outcome) e-is in
-    let server-is : e.server ≡ (slice_index_or s.requests.entries place e).server = ap (λ (x : Request). x.server) e-is in
-    let tells-q : Tells (slice_index_or s.requests.entries place e).server held count s.table u = subst (λ (n : ℕ). Tells n held count s.table u) server-is tells in
+    let server-is : e.server ≡ (slice_index_or s.requests.entries position e).server = ap (λ (x : Request). x.server) e-is in
+    let tells-q : Tells (slice_index_or s.requests.entries position e).server held count s.table u = subst (λ (n : ℕ). Tells n held count s.table u) server-is tells in
     record {
       right = subst (λ (x : RequestsState). IsRight (record s { requests = x; table = u })) (sym re)
-          (right_told s right from m now place counts low held held-is (true_is (rises_from 0 held) rising) count (slice_index_or s.requests.entries place e) q-there u tells-q.long tells-q.holdings);
-      tells = record { request = slice_index_or s.requests.entries place e; there = q-there; tells = subst (λ (l : List HeldShare). Tells (slice_index_or s.requests.entries place e).server l count s.table u) held-is tells-q };
+          (right_told s right from m now position counts low held held-is (true_is (rises_from 0 held) rising) count (slice_index_or s.requests.entries position e) q-there u tells-q.long tells-q.holdings);
+      tells = record { request = slice_index_or s.requests.entries position e; there = q-there; tells = subst (λ (l : List HeldShare). Tells (slice_index_or s.requests.entries position e).server l count s.table u) held-is tells-q };
       same-held = held-is;
     }
   where

@@ -4,7 +4,7 @@ use Rattle.std.specs.Prelude.{length, replicate, slice_get, slice_set}
 use Rattle.cap_text.specs.Cap.{VerifyCapValue}
 use Rattle.share_verify.specs.CapBlock.{IsUebFor, geometry_by}
 use Rattle.share_verify.specs.declared.check.Check.{Check}
-use Rattle.share_reading.specs.Opening.{next_length, next_place}
+use Rattle.share_reading.specs.Opening.{next_length, next_offset}
 use Rattle.share_reading.specs.declared.block.Opened.{Opened}
 use Rattle.share_reading.specs.declared.opening.Opening.{Opening}
 use Rattle.wire.specs.declared.message.Body.TheVariants.{Data}
@@ -38,21 +38,21 @@ pub record GoesOn (old new : BeginningsState) : Type 0 where
 abbrev pub CountsAsMany : BeginningsState → BeginningsState → Type 0
 CountsAsMany old new = length new.holdings.table.numbers ≡ length old.holdings.table.numbers
 
--- the opening whose answer the holding waits for, at this place
-pub record Awaits (s : BeginningsState) (holding place : ℕ) (opening : Opening) : Type 0 where
+-- the opening whose answer the holding waits for, at this position
+pub record Awaits (s : BeginningsState) (holding position : ℕ) (opening : Opening) : Type 0 where
   pub held : Holding
   pub is : IsHolding s.holdings.table holding held
   pub begun : Begun
   pub there : IsBegun s holding begun
   pub of_opening : begun.opening ≡ Some opening
-  pub waiting : begun.waiting ≡ Some place
+  pub waiting : begun.waiting ≡ Some position
 
--- The answer to the request at this place, which asked for a share's bytes, is the extension block
--- of the cap's file.
-pub record IsBlockAt (cap : VerifyCapValue) (entries : List Request) (place : ℕ) (o : Opened)
+-- The answer to the request at this position, which asked for a share's bytes, is the extension
+-- block of the cap's file.
+pub record IsBlockAt (cap : VerifyCapValue) (entries : List Request) (position : ℕ) (o : Opened)
     : Type 0 where
   pub request : Request
-  pub there : slice_get entries place ≡ Some request
+  pub there : slice_get entries position ≡ Some request
   pub share : ℕ
   pub offset : ℕ
   pub len : ℕ
@@ -67,7 +67,7 @@ pub record IsBlockAt (cap : VerifyCapValue) (entries : List Request) (place : �
 pub record AsksNext (holding : ℕ) (opening : Opening) (old new : BeginningsState) : Type 0 where
   pub begun : Begun
   pub there : IsBegun old holding begun
-  pub asks : holdings.Asks holding (next_place opening) (next_length opening)
+  pub asks : holdings.Asks holding (next_offset opening) (next_length opening)
       old.holdings new.holdings
   pub is : new.begun ≡ slice_set old.begun holding (record begun {
     opening = Some opening;
@@ -111,18 +111,18 @@ pub record IsReaderOf (holding reader : ℕ) (old new : BeginningsState) : Type 
 
 -- ---- what a message brings
 
--- the holding's beginning waits for the answer to the request at this place
+-- the holding's beginning waits for the answer to the request at this position
 abbrev pub WaitsAt : BeginningsState → ℕ → ℕ → Type 0
-WaitsAt s holding place = (b : Begun) × IsBegun s holding b × (b.waiting ≡ Some place)
+WaitsAt s holding position = (b : Begun) × IsBegun s holding b × (b.waiting ≡ Some position)
 
 -- what is told of it
 abbrev pub IsNewsOf : BeginningsState → Heard → News → Type 0
 IsNewsOf s heard.Nothing told = told ≡ news.Nothing
 IsNewsOf s heard.Held told = told ≡ news.Nothing
 IsNewsOf s (heard.Gone holding) told = told ≡ news.Gone holding
-IsNewsOf s (heard.Bytes holding place) told =
-    ((told ≡ news.Beginning holding place) × WaitsAt s holding place)
-    ⊎ ((told ≡ news.Bytes holding place) × ¬ WaitsAt s holding place)
+IsNewsOf s (heard.Bytes holding position) told =
+    ((told ≡ news.Beginning holding position) × WaitsAt s holding position)
+    ⊎ ((told ≡ news.Bytes holding position) × ¬ WaitsAt s holding position)
 
 pub record HearsNews (from : ℕ) (m : Message) (now : ℕ) (old new : BeginningsState) (told : News)
     : Type 0 where
@@ -134,10 +134,10 @@ pub record HearsNews (from : ℕ) (m : Message) (now : ℕ) (old new : Beginning
 
 -- the bytes that it brings are there
 abbrev pub BringsBytes : List Request → News → Type 0
-BringsBytes entries (news.Beginning holding place) =
-    (bytes : List ℕ) × IsAnsweredBy entries place bytes
-BringsBytes entries (news.Bytes holding place) =
-    (bytes : List ℕ) × IsAnsweredBy entries place bytes
+BringsBytes entries (news.Beginning holding position) =
+    (bytes : List ℕ) × IsAnsweredBy entries position bytes
+BringsBytes entries (news.Bytes holding position) =
+    (bytes : List ℕ) × IsAnsweredBy entries position bytes
 BringsBytes entries told = Unit {0}
 
 -- more that are not begun come behind these, until they are so many

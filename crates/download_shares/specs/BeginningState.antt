@@ -12,9 +12,9 @@ pub record BeginningsState : Type 0 where
 abbrev pub beginnings_state : HoldingsState → List Begun → BeginningsState
 beginnings_state holdings begun = record { holdings = holdings; begun = begun }
 
--- how far the share of the holding at this place is read
+-- how far the share of the holding at this position is read
 abbrev pub IsBegun : BeginningsState → ℕ → Begun → Type 0
-IsBegun s place b = slice_get s.begun place ≡ Some b
+IsBegun s position b = slice_get s.begun position ≡ Some b
 
 -- nothing of it is read
 abbrev pub unbegun : Begun

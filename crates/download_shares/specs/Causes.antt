@@ -8,7 +8,7 @@ use Rattle.request_record.specs.declared.requests.Request.{Request}
 use Rattle.share_layout.specs.Geometry.{Geometry}
 use Rattle.share_verify.specs.declared.check.Check.{Check}
 use Rattle.share_verify.specs.declared.check.Check.TheVariants as checks
-use Rattle.share_reading.specs.Opening.{Advances, Agrees, next_length, next_place}
+use Rattle.share_reading.specs.Opening.{Advances, Agrees, next_length, next_offset}
 use Rattle.share_reading.specs.OpeningReads.{IsLedToBy}
 use Rattle.share_reading.specs.Refusal.{IsRefused, check_of}
 use Rattle.share_reading.specs.declared.block.Opened.{Opened}
@@ -49,11 +49,11 @@ pub record IsOpeningFault (cap : VerifyCapValue) (entries : List Request) (b : B
     : Type 0 where
   pub opening : Opening
   pub led : IsLedToBy (brought_of entries b.server b.share) opening
-  pub place : ℕ
+  pub position : ℕ
   pub request : Request
-  pub there : slice_get entries place ≡ Some request
+  pub there : slice_get entries position ≡ Some request
   pub of_server : request.server ≡ b.server
-  pub asked : request.asked ≡ Reading b.share (next_place opening) (next_length opening)
+  pub asked : request.asked ≡ Reading b.share (next_offset opening) (next_length opening)
   pub bytes : List ℕ
   pub answer : request.outcome ≡ Answered (Data bytes)
   pub error : OpeningError

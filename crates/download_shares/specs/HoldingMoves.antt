@@ -55,30 +55,30 @@ abbrev pub held_by : Outcome → List HeldShare
 held_by (Answered (Have readonly held)) = held
 held_by outcome = []
 
--- the first shares of which the message tells, as the answer to the request at this place, so many,
--- are holdings now
-pub record TellsHeld (place : ℕ) (m : Message) (old new : HoldingsState) (count : ℕ)
+-- the first shares of which the message tells, as the answer to the request at this position, so
+-- many, are holdings now
+pub record TellsHeld (position : ℕ) (m : Message) (old new : HoldingsState) (count : ℕ)
     : Type 0 where
   pub request : Request
-  pub there : slice_get old.requests.entries place ≡ Some request
+  pub there : slice_get old.requests.entries position ≡ Some request
   pub tells : Tells request.server (held_by (Answered m.body)) count old.table new.table
 
--- what an answer that counts, to the request at this place, brings
+-- what an answer that counts, to the request at this position, brings
 abbrev pub Brings : ℕ → Message → HoldingsState → HoldingsState → Heard → Type 0
-Brings place m old new heard.Nothing = ⊥
-Brings place m old new heard.Held = (place < old.servers)
-    × TellsHeld place m old new (length (held_by (Answered m.body)))
-Brings place m old new (heard.Gone holding) = (old.servers ≤ place)
-    × (slice_get old.owners (place - old.servers) ≡ Some holding)
+Brings position m old new heard.Nothing = ⊥
+Brings position m old new heard.Held = (position < old.servers)
+    × TellsHeld position m old new (length (held_by (Answered m.body)))
+Brings position m old new (heard.Gone holding) = (old.servers ≤ position)
+    × (slice_get old.owners (position - old.servers) ≡ Some holding)
     × (m.body ≡ NoShare) × Retires holding old.table new.table
-Brings place m old new (heard.Bytes holding at) = (old.servers ≤ place) × (at ≡ place)
-    × (slice_get old.owners (place - old.servers) ≡ Some holding) × (m.body ≢ NoShare)
+Brings position m old new (heard.Bytes holding at) = (old.servers ≤ position) × (at ≡ position)
+    × (slice_get old.owners (position - old.servers) ≡ Some holding) × (m.body ≢ NoShare)
     × (new.table ≡ old.table)
 
 -- a message counts for nothing, or brings something
 abbrev pub HearsAt : Option ℕ → Message → HoldingsState → HoldingsState → Heard → Type 0
 HearsAt None m old new what = (what ≡ heard.Nothing) × (new.table ≡ old.table)
-HearsAt (Some place) m old new what = Brings place m old new what
+HearsAt (Some position) m old new what = Brings position m old new what
 
 pub record Hears (from : ℕ) (m : Message) (now : ℕ) (old new : HoldingsState) (what : Heard)
     : Type 0 where
@@ -109,30 +109,32 @@ pub record Blames (holding : ℕ) (check : Check) (old new : HoldingsState) : Ty
   pub retired : Retires holding old.table new.table
   pub others : new ≡ record old { table = new.table; blamed = new.blamed }
 
--- Holdings are retired, those at places that pass this: they are not left any more. The others are
--- as they were.
+-- Holdings are retired, those at positions that pass this: they are not left any more. The others
+-- are as they were.
 abbrev pub IsAfter : (ℕ → Type 0) → ℕ → Holding → Holding → Type 0
-IsAfter retired place h g = (g.server ≡ h.server) × (g.share ≡ h.share)
-    × (g.suspended ≡ h.suspended) × (g.left ≡ true → (h.left ≡ true) × ¬ retired place)
-    × (g.left ≡ false → (h.left ≡ false) ⊎ retired place)
+IsAfter retired position h g = (g.server ≡ h.server) × (g.share ≡ h.share)
+    × (g.suspended ≡ h.suspended) × (g.left ≡ true → (h.left ≡ true) × ¬ retired position)
+    × (g.left ≡ false → (h.left ≡ false) ⊎ retired position)
 
 -- of a number the one that is read stays so, where it is not retired
 abbrev pub StaysRead : (ℕ → Type 0) → NumberState → NumberState → Type 0
-StaysRead retired n m = (m.reading ≡ n.reading) ⊎ ((place : ℕ) × (n.reading ≡ Some place)
-    × retired place × (m.reading ≡ None))
+StaysRead retired n m = (m.reading ≡ n.reading) ⊎ ((position : ℕ) × (n.reading ≡ Some position)
+    × retired position × (m.reading ≡ None))
 
 pub record RetiresAll (retired : ℕ → Type 0) (old new : TableState) : Type 0 where
   pub long : length new.holdings ≡ length old.holdings
-  pub holdings : (place : ℕ) (h g : Holding) → IsHolding old place h → IsHolding new place g
-      → IsAfter retired place h g
+  pub holdings : (position : ℕ) (h g : Holding) → IsHolding old position h
+      → IsHolding new position g
+      → IsAfter retired position h g
   pub count : length new.numbers ≡ length old.numbers
   pub numbers : (share : ℕ) (n m : NumberState) → IsNumber old share n → IsNumber new share m
       → StaysRead retired n m
 
--- one of the requests at these places asks for bytes of the holding's share
+-- one of the requests at these positions asks for bytes of the holding's share
 abbrev pub IsAmong : ℕ → List ℕ → List ℕ → ℕ → Type 0
-IsAmong servers owners places holding = (place : ℕ) × Contains places place × (servers ≤ place)
-    × (slice_get owners (place - servers) ≡ Some holding)
+IsAmong servers owners positions holding = (position : ℕ) × Contains positions position
+    × (servers ≤ position)
+    × (slice_get owners (position - servers) ≡ Some holding)
 
 -- A tick: the holdings of which it finds a request lost are retired.
 pub record Ticks (now : ℕ) (old new : HoldingsState) : Type 0 where

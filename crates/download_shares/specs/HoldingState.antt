@@ -4,7 +4,7 @@ use Rattle.request_record.specs.Record.{RequestsState}
 use Rattle.download_shares.specs.declared.holding.Blame.{Blame}
 use Rattle.download_shares.specs.declared.holding.Holding.{Holding}
 
--- the places of the holdings of a share number that are left, and of the one that is read
+-- the positions of the holdings of a share number that are left, and of the one that is read
 pub record NumberState : Type 0 where
   pub left : List ℕ
   pub reading : Option ℕ
@@ -19,7 +19,7 @@ abbrev pub table_state : List Holding → List NumberState → TableState
 table_state holdings numbers = record { holdings = holdings; numbers = numbers }
 
 -- The first requests, `servers` of them, ask which shares a server holds, and each further one asks
--- for bytes of a share: `owners` has its place among the holdings.
+-- for bytes of a share: `owners` has its position among the holdings.
 pub record HoldingsState : Type 0 where
   pub requests : RequestsState
   pub servers : ℕ

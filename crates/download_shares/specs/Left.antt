@@ -9,9 +9,9 @@ use Rattle.download_shares.specs.declared.holding.Blame.{Blame}
 
 -- the server told that it holds the share
 pub record IsOffered (entries : List Request) (server share : ℕ) : Type 0 where
-  pub place : ℕ
+  pub position : ℕ
   pub request : Request
-  pub there : slice_get entries place ≡ Some request
+  pub there : slice_get entries position ≡ Some request
   pub of_server : request.server ≡ server
   pub asked : request.asked ≡ Holdings
   pub readonly : Bool
@@ -24,9 +24,9 @@ pub record IsOffered (entries : List Request) (server share : ℕ) : Type 0 wher
 
 -- a read of the share found no answer, or no share
 pub record IsGone (entries : List Request) (server share : ℕ) : Type 0 where
-  pub place : ℕ
+  pub position : ℕ
   pub request : Request
-  pub there : slice_get entries place ≡ Some request
+  pub there : slice_get entries position ≡ Some request
   pub of_server : request.server ≡ server
   pub offset : ℕ
   pub len : ℕ
@@ -35,9 +35,9 @@ pub record IsGone (entries : List Request) (server share : ℕ) : Type 0 where
 
 -- the share failed a check
 pub record IsBlamed (blamed : List Blame) (server share : ℕ) : Type 0 where
-  pub place : ℕ
+  pub position : ℕ
   pub blame : Blame
-  pub there : slice_get blamed place ≡ Some blame
+  pub there : slice_get blamed position ≡ Some blame
   pub of_server : blame.server ≡ server
   pub of_share : blame.share ≡ share
 

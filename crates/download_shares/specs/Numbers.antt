@@ -9,24 +9,24 @@ no_holding = record { left = []; reading = None }
 
 -- is it the one that is read?
 abbrev pub is_at : ℕ → Option ℕ → Bool
-is_at place None = false
-is_at place (Some other) = other == place
+is_at position None = false
+is_at position (Some other) = other == position
 
 abbrev pub released : ℕ → Option ℕ → Option ℕ
-released place reading = if is_at place reading then None else reading
+released position reading = if is_at position reading then None else reading
 
 abbrev pub taken_up : ℕ → Option ℕ → Option ℕ
-taken_up place None = Some place
-taken_up place (Some other) = Some other
+taken_up position None = Some position
+taken_up position (Some other) = Some other
 
 -- one more holding, and one less
-abbrev pub with_place : ℕ → NumberState → NumberState
-with_place place n = record n { left = n.left ++ place ∷ [] }
+abbrev pub with_position : ℕ → NumberState → NumberState
+with_position position n = record n { left = n.left ++ position ∷ [] }
 
-abbrev pub without_place : ℕ → NumberState → NumberState
-without_place place n = record {
-  left = without place n.left;
-  reading = released place n.reading;
+abbrev pub without_position : ℕ → NumberState → NumberState
+without_position position n = record {
+  left = without position n.left;
+  reading = released position n.reading;
 }
 
 -- of how many numbers a holding is read

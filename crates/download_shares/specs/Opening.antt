@@ -11,15 +11,15 @@ use Rattle.download_shares.specs.declared.beginnings.News.{News}
 use Rattle.download_shares.specs.declared.beginnings.News.TheVariants as news
 
 -- the holding is the one of its number that is read
-pub record IsTaken (t : TableState) (place : ℕ) (h : Holding) : Type 0 where
+pub record IsTaken (t : TableState) (position : ℕ) (h : Holding) : Type 0 where
   pub number : NumberState
   pub there : IsNumber t h.share number
-  pub reading : number.reading ≡ Some place
+  pub reading : number.reading ≡ Some position
 
 -- the next read of the share's beginning waits for its answer
-pub record IsOut (s : BeginningsState) (place : ℕ) : Type 0 where
+pub record IsOut (s : BeginningsState) (position : ℕ) : Type 0 where
   pub begun : Begun
-  pub is : IsBegun s place begun
+  pub is : IsBegun s position begun
   pub request : ℕ
   pub waiting : begun.waiting ≡ Some request
   pub out : IsOutAt s.holdings.requests.entries request
@@ -27,43 +27,43 @@ pub record IsOut (s : BeginningsState) (place : ℕ) : Type 0 where
 -- ---- before
 
 -- of this holding's share nothing was read but its beginning, and not that before it was taken
-pub record IsOpening (s : BeginningsState) (place : ℕ) (h : Holding) (b : Begun) : Type 0 where
+pub record IsOpening (s : BeginningsState) (position : ℕ) (h : Holding) (b : Begun) : Type 0 where
   pub reads : (i offset len : ℕ) → IsReadAt s.holdings.requests.entries h i offset len
       → IsBeginning b.opening offset len
-  pub taken : b.opening ≢ None → (h.left ≡ false) ⊎ IsTaken s.holdings.table place h
+  pub taken : b.opening ≢ None → (h.left ≡ false) ⊎ IsTaken s.holdings.table position h
   pub unread : b.reader ≡ None
   pub choosable : h.suspended ≡ false
 
 -- So it is of each. Each holding that is read waits for the answer to its next read, but for these.
 pub record AreOpening (but : ℕ → Type 0) (s : BeginningsState) : Type 0 where
-  pub each : (place : ℕ) (h : Holding) (b : Begun) → IsHolding s.holdings.table place h
-      → IsBegun s place b → IsOpening s place h b
-  pub works : (share place : ℕ) (n : NumberState) → IsNumber s.holdings.table share n
-      → n.reading ≡ Some place → ¬ but place → IsOut s place
+  pub each : (position : ℕ) (h : Holding) (b : Begun) → IsHolding s.holdings.table position h
+      → IsBegun s position b → IsOpening s position h b
+  pub works : (share position : ℕ) (n : NumberState) → IsNumber s.holdings.table share n
+      → n.reading ≡ Some position → ¬ but position → IsOut s position
 
 abbrev pub nobody : ℕ → Type 0
-nobody place = ⊥
+nobody position = ⊥
 
 -- the holding to whose next read an answer came
 abbrev pub IsToldOf : News → ℕ → Type 0
-IsToldOf (news.Beginning holding at) place = place ≡ holding
-IsToldOf told place = ⊥
+IsToldOf (news.Beginning holding at) position = position ≡ holding
+IsToldOf told position = ⊥
 
 -- ---- after
 
 -- What was read of this holding's share lies beside the plans of a file with this geometry. Where
 -- it is not to be chosen yet, its header is still out.
-pub record IsCompared (g : Geometry) (s : BeginningsState) (place : ℕ) (h : Holding) (b : Begun)
+pub record IsCompared (g : Geometry) (s : BeginningsState) (position : ℕ) (h : Holding) (b : Begun)
     : Type 0 where
   pub beside : h.left ≡ true → (i offset len : ℕ)
       → IsReadAt s.holdings.requests.entries h i offset len → IsBeside g offset len
   pub unread : b.reader ≡ None
-  pub out : h.left ≡ true → h.suspended ≡ true → IsOut s place
+  pub out : h.left ≡ true → h.suspended ≡ true → IsOut s position
 
 -- so it is of each, and none is read
 pub record AreCompared (g : Geometry) (s : BeginningsState) : Type 0 where
-  pub each : (place : ℕ) (h : Holding) (b : Begun) → IsHolding s.holdings.table place h
-      → IsBegun s place b → IsCompared g s place h b
+  pub each : (position : ℕ) (h : Holding) (b : Begun) → IsHolding s.holdings.table position h
+      → IsBegun s position b → IsCompared g s position h b
   pub unread : (share : ℕ) (n : NumberState) → IsNumber s.holdings.table share n
       → n.reading ≡ None
 
@@ -73,12 +73,12 @@ pub record IsFound (s : BeginningsState) (holding : ℕ) : Type 0 where
   pub others : AreOpening (λ other. other ≡ holding) s
   pub quiet : (b : Begun) → IsBegun s holding b → b.waiting ≡ None
 
--- the holdings before this place are compared, and those from it on not yet
+-- the holdings before this position are compared, and those from it on not yet
 pub record AreComparedUpTo (g : Geometry) (found end : ℕ) (s : BeginningsState) : Type 0 where
-  pub compared : (place : ℕ) (h : Holding) (b : Begun) → IsHolding s.holdings.table place h
-      → IsBegun s place b → place < end → IsCompared g s place h b
-  pub opening : (place : ℕ) (h : Holding) (b : Begun) → IsHolding s.holdings.table place h
-      → IsBegun s place b → end ≤ place → IsOpening s place h b
-  pub works : (share place : ℕ) (n : NumberState) → IsNumber s.holdings.table share n
-      → n.reading ≡ Some place → (end ≤ place) × ((place ≡ found) ⊎ IsOut s place)
+  pub compared : (position : ℕ) (h : Holding) (b : Begun) → IsHolding s.holdings.table position h
+      → IsBegun s position b → position < end → IsCompared g s position h b
+  pub opening : (position : ℕ) (h : Holding) (b : Begun) → IsHolding s.holdings.table position h
+      → IsBegun s position b → end ≤ position → IsOpening s position h b
+  pub works : (share position : ℕ) (n : NumberState) → IsNumber s.holdings.table share n
+      → n.reading ≡ Some position → (end ≤ position) × ((position ≡ found) ⊎ IsOut s position)
   pub quiet : (b : Begun) → IsBegun s found b → b.waiting ≡ None

@@ -3,8 +3,8 @@ use Rattle.std.specs.Prelude.{◌≡◌, ◌⊎◌, ℕ, ◌+◌, ◌≤◌, ◌
 use Rattle.std.specs.Prelude.{Option, Some, None, if◌then◌else◌, length, slice_get}
 use Rattle.std.specs.List.{flat_map}
 use Rattle.share_layout.specs.Geometry.{Geometry}
-use Rattle.share_layout.specs.Layout.{header_size, layout_of, places_of}
-use Rattle.share_reading.specs.Opening.{next_length, next_place}
+use Rattle.share_layout.specs.Layout.{header_size, layout_of, offsets_of}
+use Rattle.share_reading.specs.Opening.{next_length, next_offset}
 use Rattle.share_reading.specs.OpeningReads.{Brought, IsLedToBy}
 use Rattle.share_reading.specs.declared.opening.Opening.{Opening}
 use Rattle.share_reading.specs.declared.opening.Opening.TheVariants.{Start, Second, Header, Block}
@@ -20,46 +20,46 @@ use Rattle.download_shares.specs.declared.holding.Holding.{Holding}
 -- ---- where they lie
 
 -- some bytes are read before an opening, or by its next read: they lie in the header, or from the
--- extension block's place on
+-- extension block's offset on
 abbrev pub IsReadUpTo : Opening → ℕ → ℕ → Type 0
-IsReadUpTo Start place len = place + len ≤ 36
-IsReadUpTo (Second start) place len = place + len ≤ 68
-IsReadUpTo (Header h) place len = (place + len ≤ header_size h.places.layout)
-    ⊎ ((h.places.extension_block ≤ place)
-    × (place + len ≤ next_place (Header h) + next_length (Header h)))
-IsReadUpTo (Block b) place len = (place + len ≤ header_size b.header.places.layout)
-    ⊎ ((b.header.places.extension_block ≤ place)
-    × (place + len ≤ next_place (Block b) + next_length (Block b)))
+IsReadUpTo Start offset len = offset + len ≤ 36
+IsReadUpTo (Second start) offset len = offset + len ≤ 68
+IsReadUpTo (Header h) offset len = (offset + len ≤ header_size h.offsets.layout)
+    ⊎ ((h.offsets.extension_block ≤ offset)
+    × (offset + len ≤ next_offset (Header h) + next_length (Header h)))
+IsReadUpTo (Block b) offset len = (offset + len ≤ header_size b.header.offsets.layout)
+    ⊎ ((b.header.offsets.extension_block ≤ offset)
+    × (offset + len ≤ next_offset (Block b) + next_length (Block b)))
 
 abbrev pub IsBeginning : Option Opening → ℕ → ℕ → Type 0
-IsBeginning None place len = ⊥
-IsBeginning (Some opening) place len = IsReadUpTo opening place len
+IsBeginning None offset len = ⊥
+IsBeginning (Some opening) offset len = IsReadUpTo opening offset len
 
 -- Some bytes lie beside all that is read of a share by a plan: in the header, or behind the share
 -- hashes.
 abbrev pub IsBeside : Geometry → ℕ → ℕ → Type 0
-IsBeside g place len = (place + len ≤ header_size (layout_of g))
-    ⊎ ((places_of g).extension_block ≤ place)
+IsBeside g offset len = (offset + len ≤ header_size (layout_of g))
+    ⊎ ((offsets_of g).extension_block ≤ offset)
 
 -- ---- what the record has of them
 
--- the request at this place asks for these bytes of the holding's share
-pub record IsReadAt (entries : List Request) (h : Holding) (place offset len : ℕ) : Type 0 where
+-- the request at this position asks for these bytes of the holding's share
+pub record IsReadAt (entries : List Request) (h : Holding) (position offset len : ℕ) : Type 0 where
   pub request : Request
-  pub there : slice_get entries place ≡ Some request
+  pub there : slice_get entries position ≡ Some request
   pub of_server : request.server ≡ h.server
   pub asked : request.asked ≡ Reading h.share offset len
 
 -- it waits for its answer
-pub record IsOutAt (entries : List Request) (place : ℕ) : Type 0 where
+pub record IsOutAt (entries : List Request) (position : ℕ) : Type 0 where
   pub request : Request
-  pub there : slice_get entries place ≡ Some request
+  pub there : slice_get entries position ≡ Some request
   pub waits : is_outstanding request.outcome ≡ true
 
 -- it was answered with these bytes
-pub record IsAnsweredBy (entries : List Request) (place : ℕ) (bytes : List ℕ) : Type 0 where
+pub record IsAnsweredBy (entries : List Request) (position : ℕ) (bytes : List ℕ) : Type 0 where
   pub request : Request
-  pub there : slice_get entries place ≡ Some request
+  pub there : slice_get entries position ≡ Some request
   pub answer : request.outcome ≡ Answered (Data bytes)
 
 -- does it ask for bytes of this share?
@@ -88,6 +88,6 @@ pub record IsInBeginning (entries : List Request) (server share offset len : ℕ
 
 -- each read of a share at a server that was asked for more is of such bytes
 abbrev pub AddsReads : (ℕ → ℕ → ℕ → ℕ → Type 0) → List Request → List Request → Type 0
-AddsReads may old new = (place : ℕ) (r : Request) (share offset len : ℕ)
-    → slice_get new place ≡ Some r → length old ≤ place → r.asked ≡ Reading share offset len
+AddsReads may old new = (position : ℕ) (r : Request) (share offset len : ℕ)
+    → slice_get new position ≡ Some r → length old ≤ position → r.asked ≡ Reading share offset len
     → may r.server share offset len

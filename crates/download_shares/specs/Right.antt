@@ -16,12 +16,12 @@ pub record IsReadOf (h : Holding) (r : Request) : Type 0 where
   pub len : ℕ
   pub asked : r.asked ≡ Reading h.share offset len
 
--- the request at this place asks for bytes of the share of this holding
-pub record IsOwned (s : HoldingsState) (place holding : ℕ) : Type 0 where
+-- the request at this position asks for bytes of the share of this holding
+pub record IsOwned (s : HoldingsState) (position holding : ℕ) : Type 0 where
   pub held : Holding
   pub is : IsHolding s.table holding held
   pub request : Request
-  pub there : slice_get s.requests.entries place ≡ Some request
+  pub there : slice_get s.requests.entries position ≡ Some request
   pub read : IsReadOf held request
 
 -- No server is asked the same thing twice. The holdings are shares that servers offered, each once,
@@ -33,19 +33,19 @@ pub record IsRight (s : HoldingsState) : Type 0 where
   pub counted : length s.requests.entries ≡ s.servers + length s.owners
   pub owned : (i holding : ℕ) → slice_get s.owners i ≡ Some holding
       → IsOwned s (s.servers + i) holding
-  pub offered : (place : ℕ) (h : Holding) → IsHolding s.table place h
+  pub offered : (position : ℕ) (h : Holding) → IsHolding s.table position h
       → IsOffered s.requests.entries h.server h.share
   pub distinct : (i j : ℕ) (a b : Holding) → i < j → IsHolding s.table i a
       → IsHolding s.table j b → a.server ≡ b.server → a.share ≡ b.share → ⊥
-  pub left : (place : ℕ) (h : Holding) → IsHolding s.table place h → h.left ≡ true
+  pub left : (position : ℕ) (h : Holding) → IsHolding s.table position h → h.left ≡ true
       → IsLeft s.requests.entries s.blamed h.server h.share
-  pub others : (place : ℕ) (h : Holding) → IsHolding s.table place h → h.left ≡ false
+  pub others : (position : ℕ) (h : Holding) → IsHolding s.table position h → h.left ≡ false
       → IsGone s.requests.entries h.server h.share ⊎ IsBlamed s.blamed h.server h.share
-  pub blamed : (i : ℕ) (b : Blame) → slice_get s.blamed i ≡ Some b → (place : ℕ) × ((h : Holding)
-      × IsHolding s.table place h × (b.server ≡ h.server) × (b.share ≡ h.share))
+  pub blamed : (i : ℕ) (b : Blame) → slice_get s.blamed i ≡ Some b → (position : ℕ) × ((h : Holding)
+      × IsHolding s.table position h × (b.server ≡ h.server) × (b.share ≡ h.share))
 
 -- each share that a server offered, and whose number counts, is among the holdings
 abbrev pub AreAllHeld : HoldingsState → Type 0
 AreAllHeld s = (server share : ℕ) → IsOffered s.requests.entries server share
-    → share < length s.table.numbers → (place : ℕ) × (h : Holding) × IsHolding s.table place h
+    → share < length s.table.numbers → (position : ℕ) × (h : Holding) × IsHolding s.table position h
     × (h.server ≡ server) × (h.share ≡ share)

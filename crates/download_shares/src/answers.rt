@@ -17,32 +17,32 @@ pub(crate) fn news_of(begun: &[Begun], heard: Heard) -> News
     match heard {
         Heard::Nothing | Heard::Held => News::Nothing,
         Heard::Gone(holding) => News::Gone(holding),
-        Heard::Bytes(holding, place) => {
-            if waits_at(begun, holding, place) {
-                News::Beginning(holding, place)
+        Heard::Bytes(holding, position) => {
+            if waits_at(begun, holding, position) {
+                News::Beginning(holding, position)
             } else {
-                News::Bytes(holding, place)
+                News::Bytes(holding, position)
             }
         }
     }
 }
 
-// Whether the beginning of a holding waits for the answer to the request at this place.
-fn waits_at(begun: &[Begun], holding: usize, place: usize) -> bool
+// Whether the beginning of a holding waits for the answer to the request at this position.
+fn waits_at(begun: &[Begun], holding: usize, position: usize) -> bool
     ensures { (s : BeginningsState) → s.begun ≡ begun.now
-        → IsTrue result ↔ WaitsAt s holding place }
+        → IsTrue result ↔ WaitsAt s holding position }
 {
     match begun.get(holding) {
-        Some(begun) => begun.waiting == Some(place),
+        Some(begun) => begun.waiting == Some(position),
         None => false,
     }
 }
 
-/// The bytes that answered the request at a place.
-pub fn bytes_at(requests: &Requests, place: usize) -> Option<&[u8]>
-    ensures some { IfSome result (λ bytes. IsAnsweredBy requests.now.entries place bytes.now) }
+/// The bytes that answered the request at a position.
+pub fn bytes_at(requests: &Requests, position: usize) -> Option<&[u8]>
+    ensures some { IfSome result (λ bytes. IsAnsweredBy requests.now.entries position bytes.now) }
     ensures none { IfNone result ((bytes : List ℕ)
-        → IsAnsweredBy requests.now.entries place bytes → ⊥) }
+        → IsAnsweredBy requests.now.entries position bytes → ⊥) }
 {
-    requests.bytes_at(place)
+    requests.bytes_at(position)
 }

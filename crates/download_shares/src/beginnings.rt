@@ -4,7 +4,7 @@ ghost use Rattle.std.specs.Prelude.{◌≡◌, ◌⊎◌, ◌<◌, ◌+◌, ℕ,
 ghost use Rattle.std.specs.Prelude.{None, OnErr, OnOk, false, length, nat_eq, true};
 ghost use Rattle.std.specs.List.{IsDistinct};
 ghost use Rattle.share_layout.specs.Geometry.{IsGeometry};
-ghost use Rattle.share_reading.specs.Opening.{Advances, Agrees, next_length, next_place};
+ghost use Rattle.share_reading.specs.Opening.{Advances, Agrees, next_length, next_offset};
 ghost use Rattle.share_reading.specs.Refusal.{IsRefused};
 ghost use Rattle.share_reading.specs.declared.opening.Opening.{Opening};
 ghost use Rattle.request_record.specs.Asking.{SendsFirst, after_message};
@@ -54,13 +54,13 @@ pub struct Beginnings {
 pub enum News {
     /// It counts for nothing, or tells which shares a server holds.
     Nothing,
-    /// That a server has no such share: the holding at this place is gone.
+    /// That a server has no such share: the holding at this position is gone.
     Gone(usize),
-    /// The next bytes of the beginning of the share of the holding at this place, as the answer to
-    /// the request at this place.
+    /// The next bytes of the beginning of the share of the holding at this position, as the answer
+    /// to the request at this position.
     Beginning(usize, usize),
-    /// Other bytes of the share of the holding at this place, as the answer to the request at this
-    /// place.
+    /// Other bytes of the share of the holding at this position, as the answer to the request at
+    /// this position.
     Bytes(usize, usize),
 }
 
@@ -177,25 +177,25 @@ impl Beginnings {
         self.ask_next(holding, &Opening::start())
     }
 
-    /// Takes the next bytes of the beginning of a share, which answered the request at this place,
-    /// where no extension block is accepted. Asks for the next ones, or blames the share; or the
-    /// bytes are the extension block of the cap's file.
+    /// Takes the next bytes of the beginning of a share, which answered the request at this
+    /// position, where no extension block is accepted. Asks for the next ones, or blames the share;
+    /// or the bytes are the extension block of the cap's file.
     pub fn go_on(
         &mut self,
         cap: &VerifyCap,
         holding: usize,
-        place: usize,
+        position: usize,
     ) -> Result<Option<Opened>, AllocError>
-        requires awaits { (o : Opening) × Awaits self.old holding place o }
+        requires awaits { (o : Opening) × Awaits self.old holding position o }
         requires answered { (bytes : List ℕ)
-            × IsAnsweredBy self.old.holdings.requests.entries place bytes }
+            × IsAnsweredBy self.old.holdings.requests.entries position bytes }
         requires known { AreBegun self.old }
         requires opening { AreOpening (λ other. other ≡ holding) self.old }
         ensures known { IfOk result (λ _. AreBegun self.new) }
         ensures opening { IfOk result (λ o. IfNone o (AreOpening nobody self.new)) }
         ensures found { IfOk result (λ o. IfSome o (λ _. IsFound self.new holding)) }
         ensures block { IfOk result (λ o. IfSome o
-            (IsBlockAt cap.now self.new.holdings.requests.entries place)) }
+            (IsBlockAt cap.now self.new.holdings.requests.entries position)) }
         // Where the extension block is found, nothing is asked.
         ensures found_asks { IfOk result (λ o. IfSome o
             (λ _. self.new.holdings.requests ≡ self.old.holdings.requests)) }
@@ -214,7 +214,7 @@ impl Beginnings {
         if !self.holdings.holdings()[holding].left {
             return Ok(None);
         }
-        match self.read_on(cap, &opening, place) {
+        match self.read_on(cap, &opening, position) {
             Err(error) => {
                 self.holdings.blame(holding, error.check())?;
                 Ok(None)
@@ -280,26 +280,26 @@ impl Beginnings {
         Ok(())
     }
 
-    /// Takes the next bytes of the beginning of a share, which answered the request at this place,
-    /// where an extension block is accepted. The share is blamed where they are refused, or its
-    /// header is not the one of a file with this geometry, and else it may be chosen.
+    /// Takes the next bytes of the beginning of a share, which answered the request at this
+    /// position, where an extension block is accepted. The share is blamed where they are refused,
+    /// or its header is not the one of a file with this geometry, and else it may be chosen.
     pub fn compare(
         &mut self,
         cap: &VerifyCap,
         geometry: &Geometry,
         holding: usize,
-        place: usize,
+        position: usize,
     ) -> Result<(), AllocError>
-        requires awaits { (o : Opening) × Awaits self.old holding place o }
+        requires awaits { (o : Opening) × Awaits self.old holding position o }
         requires answered { (bytes : List ℕ)
-            × IsAnsweredBy self.old.holdings.requests.entries place bytes }
+            × IsAnsweredBy self.old.holdings.requests.entries position bytes }
         requires known { AreBegun self.old }
         ensures known { OnOk result (AreBegun self.new) }
         ensures compares { OnOk result (Compares holding self.old self.new) }
         // It is left only where its header is the one of such a file, as far as it is read.
         ensures agrees { OnOk result ((opening : Opening) (bytes : List ℕ)
-            → Awaits self.old holding place opening
-            → IsAnsweredBy self.old.holdings.requests.entries place bytes
+            → Awaits self.old holding position opening
+            → IsAnsweredBy self.old.holdings.requests.entries position bytes
             → IsGone holding self.new ⊎ LeadsOn cap.now geometry.now opening bytes) }
         ensures causes { AddsBlames (IsBeginningFault cap.now geometry.now
             self.old.holdings.requests.entries) self.old.holdings.blamed self.new.holdings.blamed }
@@ -314,7 +314,7 @@ impl Beginnings {
         if !self.holdings.holdings()[holding].left {
             return Ok(());
         }
-        match self.compared(cap, geometry, &opening, place) {
+        match self.compared(cap, geometry, &opening, position) {
             Some(check) => self.holdings.blame(holding, check),
             None => {
                 self.holdings.suspend(holding, false);
@@ -329,18 +329,18 @@ impl Beginnings {
         cap: &VerifyCap,
         geometry: &Geometry,
         opening: &Opening,
-        place: usize,
+        position: usize,
     ) -> Option<Check>
         requires answered { (bytes : List ℕ)
-            × IsAnsweredBy self.now.holdings.requests.entries place bytes }
+            × IsAnsweredBy self.now.holdings.requests.entries position bytes }
         ensures fails { IfSome result (λ check. (bytes : List ℕ)
-            → IsAnsweredBy self.now.holdings.requests.entries place bytes
+            → IsAnsweredBy self.now.holdings.requests.entries position bytes
             → FailsAs cap.now geometry.now opening.now bytes check) }
         ensures leads { IfNone result ((bytes : List ℕ)
-            → IsAnsweredBy self.now.holdings.requests.entries place bytes
+            → IsAnsweredBy self.now.holdings.requests.entries position bytes
             → LeadsOn cap.now geometry.now opening.now bytes) }
     {
-        match self.read_on(cap, opening, place) {
+        match self.read_on(cap, opening, position) {
             Err(error) => Some(error.check()),
             Ok(Progress::Next(next)) => {
                 if next.agrees(geometry) {
@@ -366,12 +366,12 @@ impl Beginnings {
     }
 
     /// Asks for bytes of the share of a holding, from an offset on, that were not asked for. Gives
-    /// the place of the request.
+    /// the position of the request.
     pub fn ask(&mut self, holding: usize, offset: u64, len: ReadLength) -> Result<usize, AllocError>
         requires there { holding < length self.old.holdings.table.holdings }
         requires unasked { IsUnasked self.old.holdings holding offset len }
-        ensures place { IfOk result (λ place.
-            place ≡ length self.old.holdings.requests.entries) }
+        ensures position { IfOk result (λ position.
+            position ≡ length self.old.holdings.requests.entries) }
         ensures asks { OnOk result (Asks holding offset len self.old.holdings self.new.holdings) }
         ensures begun { self.new.begun ≡ self.old.begun }
         ensures err { OnErr result (self.new ≡ self.old) }
@@ -406,38 +406,38 @@ impl Beginnings {
     fn ask_next(&mut self, holding: usize, opening: &Opening) -> Result<(), AllocError>
         requires held { holding < length self.old.holdings.table.holdings }
         requires begun { holding < length self.old.begun }
-        requires unasked { IsUnasked self.old.holdings holding (next_place opening.now)
+        requires unasked { IsUnasked self.old.holdings holding (next_offset opening.now)
             (next_length opening.now) }
         ensures asks { OnOk result (AsksNext holding opening.now self.old self.new) }
         ensures err { OnErr result (self.new ≡ self.old) }
         ensures right { IsRight self.new.holdings }
     {
-        let place = self
+        let position = self
             .holdings
-            .ask(holding, opening.next_place(), length_of(opening))?;
+            .ask(holding, opening.next_offset(), length_of(opening))?;
         let begun = &mut self.begun[holding];
         begun.opening = Some(*opening);
-        begun.waiting = Some(place);
+        begun.waiting = Some(position);
         Ok(())
     }
 
-    // What comes of the bytes that answered the request at a place.
+    // What comes of the bytes that answered the request at a position.
     fn read_on(
         &self,
         cap: &VerifyCap,
         opening: &Opening,
-        place: usize,
+        position: usize,
     ) -> Result<Progress, OpeningError>
         requires answered { (bytes : List ℕ)
-            × IsAnsweredBy self.now.holdings.requests.entries place bytes }
+            × IsAnsweredBy self.now.holdings.requests.entries position bytes }
         ensures taken { IfOk result (λ progress. (bytes : List ℕ)
-            → IsAnsweredBy self.now.holdings.requests.entries place bytes
+            → IsAnsweredBy self.now.holdings.requests.entries position bytes
             → Advances cap.now opening.now bytes progress) }
         ensures refused { IfErr result (λ error. (bytes : List ℕ)
-            → IsAnsweredBy self.now.holdings.requests.entries place bytes
+            → IsAnsweredBy self.now.holdings.requests.entries position bytes
             → IsRefused cap.now opening.now bytes error) }
     {
-        let Some(bytes) = bytes_at(self.holdings.requests(), place) else {
+        let Some(bytes) = bytes_at(self.holdings.requests(), position) else {
             unreachable!();
         };
         opening.take(cap, bytes)

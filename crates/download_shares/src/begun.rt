@@ -10,7 +10,7 @@ use share_reading::Opening;
 pub struct Begun {
     /// The opening of which the next read was asked last.
     pub opening: Option<Opening>,
-    /// The place of the request for that, while its answer is not taken.
+    /// The position of the request for that, while its answer is not taken.
     pub waiting: Option<usize>,
     /// The number of the reader of the share, once an extension block is accepted.
     pub reader: Option<usize>,

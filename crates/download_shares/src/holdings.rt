@@ -47,9 +47,10 @@ pub enum Heard {
     Nothing,
     /// Shares that a server holds.
     Held,
-    /// That a server has no such share: the holding at this place is gone.
+    /// That a server has no such share: the holding at this position is gone.
     Gone(usize),
-    /// Bytes of the share of the holding at this place, as the answer to the request at this place.
+    /// Bytes of the share of the holding at this position, as the answer to the request at this
+    /// position.
     Bytes(usize, usize),
 }
 
@@ -173,22 +174,22 @@ impl Holdings {
     }
 
     /// Asks for bytes of the share of a holding, from an offset on, that were not asked for. Gives
-    /// the place of the request.
+    /// the position of the request.
     pub fn ask(&mut self, holding: usize, offset: u64, len: ReadLength) -> Result<usize, AllocError>
         requires there { holding < length self.old.table.holdings }
         requires unasked { IsUnasked self.old holding offset len }
-        ensures place { IfOk result (λ place. place ≡ length self.old.requests.entries) }
+        ensures position { IfOk result (λ position. position ≡ length self.old.requests.entries) }
         ensures ok { OnOk result (Asks holding offset len self.old self.new) }
         ensures err { OnErr result (self.new ≡ self.old) }
         ensures right { IsRight self.new }
     {
-        let place = self.requests.len();
+        let position = self.requests.len();
         let held = self.table.holdings()[holding];
         self.owners.reserve(1)?;
         self.requests
             .ask(held.server, Asked::Reading(held.share, offset, len))?;
         self.owners.push_reserved(holding);
-        Ok(place)
+        Ok(position)
     }
 
     /// A holding's share failed a check: it is not left any more.
@@ -224,20 +225,20 @@ impl Holdings {
         let counted = self.requests.counts_at(from, &message);
         let gone = is_missing(&message.body);
         self.requests.take_answer(from, message, now);
-        let Some(place) = counted else {
+        let Some(position) = counted else {
             return Ok(Heard::Nothing);
         };
-        if place < self.servers {
-            let request = self.requests.request(place);
+        if position < self.servers {
+            let request = self.requests.request(position);
             tell_all(&mut self.table, request.server, held_by(&request.outcome))?;
             return Ok(Heard::Held);
         }
-        let holding = self.owners[place - self.servers];
+        let holding = self.owners[position - self.servers];
         if gone {
             self.table.retire(holding);
             return Ok(Heard::Gone(holding));
         }
-        Ok(Heard::Bytes(holding, place))
+        Ok(Heard::Bytes(holding, position))
     }
 
     /// Takes note of a second: a holding of which a request is lost then is not left any more.
@@ -252,15 +253,15 @@ impl Holdings {
     }
 }
 
-// The holdings of which the requests at these places ask for bytes are not left any more.
-fn retire_owners(table: &mut Table, servers: usize, owners: &[usize], places: &[usize])
-    requires asked { All (λ place. place < servers + length owners.now) places.now }
+// The holdings of which the requests at these positions ask for bytes are not left any more.
+fn retire_owners(table: &mut Table, servers: usize, owners: &[usize], positions: &[usize])
+    requires asked { All (λ position. position < servers + length owners.now) positions.now }
     requires held { All (λ holding. holding < length table.old.holdings) owners.now }
-    ensures { RetiresAll (IsAmong servers owners.now places.now) table.old table.new }
+    ensures { RetiresAll (IsAmong servers owners.now positions.now) table.old table.new }
 {
-    for place in places {
-        if servers <= *place {
-            table.retire(owners[*place - servers]);
+    for position in positions {
+        if servers <= *position {
+            table.retire(owners[*position - servers]);
         }
     }
 }

@@ -1,14 +1,15 @@
 //! For one share number the holdings of it that are left, and the one that is read.
 
 ghost use Rattle.std.specs.Prelude.{◌≡◌, OnErr, OnOk, is_some};
-ghost use Rattle.download_shares.specs.Numbers.{is_at, no_holding, released, taken_up, with_place};
-ghost use Rattle.download_shares.specs.Numbers.{without_place};
+ghost use Rattle.download_shares.specs.Numbers.{is_at, no_holding, released, taken_up};
+ghost use Rattle.download_shares.specs.Numbers.{with_position};
+ghost use Rattle.download_shares.specs.Numbers.{without_position};
 ghost use Rattle.request_record.specs.Record.{without};
 
 use std::alloc::{AllocError, Global};
 use std::marker::Model;
 
-/// The places of the holdings of a share number that are left, in the order in which they were
+/// The positions of the holdings of a share number that are left, in the order in which they were
 /// told, and of the one that is read.
 #[derive(Drop)]
 pub(crate) struct Number {
@@ -35,7 +36,7 @@ impl Number {
         }
     }
 
-    /// The places of those that are left.
+    /// The positions of those that are left.
     pub(crate) fn left(&self) -> &[usize]
         ensures { result.now ≡ self.now.left }
     {
@@ -49,55 +50,55 @@ impl Number {
         self.reading.is_some()
     }
 
-    /// Whether the one at this place is read.
-    pub(crate) fn reads(&self, place: usize) -> bool
-        ensures { result ≡ is_at place self.now.reading }
+    /// Whether the one at this position is read.
+    pub(crate) fn reads(&self, position: usize) -> bool
+        ensures { result ≡ is_at position self.now.reading }
     {
         match self.reading {
-            Some(other) => other == place,
+            Some(other) => other == position,
             None => false,
         }
     }
 
     /// One more is left.
-    pub(crate) fn add(&mut self, place: usize) -> Result<(), AllocError>
-        ensures ok { OnOk result (self.new ≡ with_place place self.old) }
+    pub(crate) fn add(&mut self, position: usize) -> Result<(), AllocError>
+        ensures ok { OnOk result (self.new ≡ with_position position self.old) }
         ensures err { OnErr result (self.new ≡ self.old) }
     {
-        self.left.push(place)?;
+        self.left.push(position)?;
         Ok(())
     }
 
     /// One is not left any more, and not read.
-    pub(crate) fn remove(&mut self, place: usize)
-        ensures { self.new ≡ without_place place self.old }
+    pub(crate) fn remove(&mut self, position: usize)
+        ensures { self.new ≡ without_position position self.old }
     {
-        drop_place(&mut self.left, place);
-        self.release(place);
+        drop_position(&mut self.left, position);
+        self.release(position);
     }
 
     /// One is read from now on, where none is.
-    pub(crate) fn take_up(&mut self, place: usize)
-        ensures { self.new ≡ record self.old { reading = taken_up place self.old.reading } }
+    pub(crate) fn take_up(&mut self, position: usize)
+        ensures { self.new ≡ record self.old { reading = taken_up position self.old.reading } }
     {
         if self.reading.is_none() {
-            self.reading = Some(place);
+            self.reading = Some(position);
         }
     }
 
     /// One is not read any more.
-    pub(crate) fn release(&mut self, place: usize)
-        ensures { self.new ≡ record self.old { reading = released place self.old.reading } }
+    pub(crate) fn release(&mut self, position: usize)
+        ensures { self.new ≡ record self.old { reading = released position self.old.reading } }
     {
-        if self.reads(place) {
+        if self.reads(position) {
             self.reading = None;
         }
     }
 }
 
-// A place is not listed any more.
-fn drop_place(places: &mut Vec<usize>, place: usize)
-    ensures { places.new.items ≡ without place places.old.items }
+// A position is not listed any more.
+fn drop_position(positions: &mut Vec<usize>, position: usize)
+    ensures { positions.new.items ≡ without position positions.old.items }
 {
-    places.retain(|other| !(*other == place));
+    positions.retain(|other| !(*other == position));
 }

@@ -4,7 +4,7 @@ ghost use Rattle.std.specs.Prelude.{◌≡◌, ◌<◌, ◌++◌, ◌∷◌, [],
 ghost use Rattle.std.specs.Prelude.{length};
 ghost use Rattle.std.specs.Prelude.{All, Contains, Some, true, false, is_some};
 ghost use Rattle.download_shares.specs.Choice.{Chooses, NoneIsFreeBefore};
-ghost use Rattle.download_shares.specs.Numbers.{no_holding, read_count, with_place};
+ghost use Rattle.download_shares.specs.Numbers.{no_holding, read_count, with_position};
 ghost use Rattle.download_shares.specs.Table.{ChangesNumber, IsFree, IsHolding, IsTable};
 ghost use Rattle.download_shares.specs.Table.{NoneIsFree};
 ghost use Rattle.download_shares.specs.Table.{Releases, Retires, Suspends, TakesUp, told_one};
@@ -89,15 +89,15 @@ impl Table {
         requires { share < length self.old.numbers }
         ensures holdings { OnOk result (self.new.holdings
             ≡ self.old.holdings ++ told_one server share ∷ []) }
-        ensures number { OnOk result (ChangesNumber share (with_place (length self.old.holdings))
+        ensures number { OnOk result (ChangesNumber share (with_position (length self.old.holdings))
             self.old self.new) }
         ensures err { OnErr result (self.new ≡ self.old) }
         ensures right { IsTable self.new }
     {
-        let place = self.holdings.len();
+        let position = self.holdings.len();
         self.holdings.reserve(1)?;
         self.loads.join(server)?;
-        self.numbers[usize::from(share)].add(place)?;
+        self.numbers[usize::from(share)].add(position)?;
         self.holdings.push_reserved(Holding {
             server,
             share,
@@ -108,63 +108,63 @@ impl Table {
     }
 
     /// A holding is not left any more, and not read.
-    pub(crate) fn retire(&mut self, place: usize)
-        requires { place < length self.old.holdings }
-        ensures retires { Retires place self.old self.new }
+    pub(crate) fn retire(&mut self, position: usize)
+        requires { position < length self.old.holdings }
+        ensures retires { Retires position self.old self.new }
         ensures right { IsTable self.new }
     {
-        let holding = &mut self.holdings[place];
+        let holding = &mut self.holdings[position];
         holding.left = false;
         let number = &mut self.numbers[usize::from(holding.share)];
-        let ended = usize::from(number.reads(place));
+        let ended = usize::from(number.reads(position));
         self.reading -= ended;
         self.loads.fall(holding.server, ended);
-        number.remove(place);
+        number.remove(position);
     }
 
     /// A holding is read from now on.
-    pub(crate) fn take_up(&mut self, place: usize)
-        requires { (h : Holding) × IsHolding self.old place h × IsFree self.old h }
-        ensures takes { TakesUp place self.old self.new }
+    pub(crate) fn take_up(&mut self, position: usize)
+        requires { (h : Holding) × IsHolding self.old position h × IsFree self.old h }
+        ensures takes { TakesUp position self.old self.new }
         ensures right { IsTable self.new }
     {
-        let holding = self.holdings[place];
-        self.numbers[usize::from(holding.share)].take_up(place);
+        let holding = self.holdings[position];
+        self.numbers[usize::from(holding.share)].take_up(position);
         self.reading += 1;
         self.loads.rise(holding.server);
     }
 
     /// A holding is not read any more, and may be read again.
-    pub(crate) fn release(&mut self, place: usize)
-        requires { place < length self.old.holdings }
-        ensures releases { Releases place self.old self.new }
+    pub(crate) fn release(&mut self, position: usize)
+        requires { position < length self.old.holdings }
+        ensures releases { Releases position self.old self.new }
         ensures right { IsTable self.new }
     {
-        let holding = self.holdings[place];
+        let holding = self.holdings[position];
         let number = &mut self.numbers[usize::from(holding.share)];
-        let ended = usize::from(number.reads(place));
+        let ended = usize::from(number.reads(position));
         self.reading -= ended;
         self.loads.fall(holding.server, ended);
-        number.release(place);
+        number.release(position);
     }
 
     /// Whether a holding may be chosen is changed.
-    pub(crate) fn suspend(&mut self, place: usize, suspended: bool)
-        requires { place < length self.old.holdings }
-        ensures suspends { Suspends suspended place self.old self.new }
+    pub(crate) fn suspend(&mut self, position: usize, suspended: bool)
+        requires { position < length self.old.holdings }
+        ensures suspends { Suspends suspended position self.old self.new }
         ensures right { IsTable self.new }
     {
-        self.holdings[place].suspended = suspended;
+        self.holdings[position].suspended = suspended;
     }
 
     /// The next one to read: of the lowest share number of which none is read and one may be
     /// chosen. Of several it prefers the one at the server of which the fewest are read, and of
     /// these the first that was told.
     pub(crate) fn choose(&self) -> Option<usize>
-        ensures free { IfSome result (λ place.
-            (h : Holding) × IsHolding self.now place h × IsFree self.now h) }
-        ensures lowest { IfSome result (λ place. (h : Holding)
-            → IsHolding self.now place h → NoneIsFreeBefore self.now h.share) }
+        ensures free { IfSome result (λ position.
+            (h : Holding) × IsHolding self.now position h × IsFree self.now h) }
+        ensures lowest { IfSome result (λ position. (h : Holding)
+            → IsHolding self.now position h → NoneIsFreeBefore self.now h.share) }
         ensures none { IfNone result (NoneIsFree self.now) }
     {
         for number in &self.numbers {
@@ -180,19 +180,19 @@ impl Table {
 
     // The next one to read among these.
     #[tactic(auto, using(crate::proofs::Tables::chooses_this, crate::proofs::Tables::chooses_on))]
-    fn choose_among(&self, places: &[usize]) -> Option<usize>
-        requires { All (λ place. place < length self.now.holdings) places.now }
-        ensures { Chooses self.now places.now result }
+    fn choose_among(&self, positions: &[usize]) -> Option<usize>
+        requires { All (λ position. position < length self.now.holdings) positions.now }
+        ensures { Chooses self.now positions.now result }
     {
         let mut chosen = None;
         let mut least = usize::MAX;
-        for place in places {
-            let holding = &self.holdings[*place];
+        for position in positions {
+            let holding = &self.holdings[*position];
             if !holding.suspended {
                 let load = self.loads.at(holding.server);
                 if chosen.is_none() || load < least {
                     least = load;
-                    chosen = Some(*place);
+                    chosen = Some(*position);
                 }
             }
         }

@@ -10,11 +10,11 @@ use Rattle.merkle.specs.Partial.{PartialState, known_at}
 use Rattle.merkle.specs.Tree.{height, node_number}
 use Rattle.merkle.proofs.HeightLemmas.{height_room}
 use Rattle.share_layout.specs.Geometry.{Geometry, IsGeometry, block_size, segment_count}
-use Rattle.share_layout.specs.Layout.{places_of}
+use Rattle.share_layout.specs.Layout.{offsets_of}
 use Rattle.share_layout.specs.Pieces.{block_length}
 use Rattle.download_parts.specs.PlanLaws.{AreApart, LiesIn, section_end, section_start}
 use Rattle.download_parts.specs.Level.{IsAbove, first_node, level_at, level_count, row_of, tree_height}
-use Rattle.download_parts.specs.Plan.{IsAmong, IsNodePiece, IsPart, block_place, data_end, data_place, length_of, max_nodes, nodes_of, place_of}
+use Rattle.download_parts.specs.Plan.{IsAmong, IsNodePiece, IsPart, block_start, data_end, data_offset, length_of, max_nodes, nodes_of, offset_of}
 use Rattle.download_parts.specs.Range.{IsRange}
 use Rattle.download_parts.specs.declared.part.NodePiece.{NodePiece}
 use Rattle.download_parts.specs.declared.part.Part.{Part}
@@ -44,8 +44,8 @@ taken_known = offered_known
 -- ---- parts of two plans
 
 -- what lies in an earlier section is before what lies in a later one
-earlier : (s e place len s' e' place' len' : ℕ) → LiesIn s e place len → LiesIn s' e' place' len' → e ≤ s' → place + len ≤ place'
-earlier s e place len s' e' place' len' one other order = let f = one.ends in let t = other.begins in omega arith
+earlier : (s e position len s' e' position' len' : ℕ) → LiesIn s e position len → LiesIn s' e' position' len' → e ≤ s' → position + len ≤ position'
+earlier s e position len s' e' position' len' one other order = let f = one.ends in let t = other.begins in omega arith
 
 whole_range : (s : SupplyState) → IsSupply s → IsRange s.geometry s.start s.end
 whole_range s is =
@@ -54,12 +54,12 @@ whole_range s is =
     record { valid = is.range.valid; some = omega (arith, begins, some); within = is.range.within }
 
 module _ (g : Geometry) (a b c : ℕ) (r : IsRange g a b) (w : IsRange g c b) (p : NodePiece) (is : IsPart g c b (CiphertextTree p)) where
-  before : (q : Part) → IsPart g a b q → section_end (places_of g) (CiphertextTree p) ≤ section_start (places_of g) q
-      → AreApart (place_of g c b (CiphertextTree p)) (length_of g c b (CiphertextTree p)) (place_of g a b q) (length_of g a b q)
+  before : (q : Part) → IsPart g a b q → section_end (offsets_of g) (CiphertextTree p) ≤ section_start (offsets_of g) q
+      → AreApart (offset_of g c b (CiphertextTree p)) (length_of g c b (CiphertextTree p)) (offset_of g a b q) (length_of g a b q)
   before q also order = inl (earlier _ _ _ _ _ _ _ _ (lie_inside g c b (CiphertextTree p) w is) (lie_inside g a b q r also) order)
 
-  behind : (q : Part) → IsPart g a b q → section_end (places_of g) q ≤ section_start (places_of g) (CiphertextTree p)
-      → AreApart (place_of g c b (CiphertextTree p)) (length_of g c b (CiphertextTree p)) (place_of g a b q) (length_of g a b q)
+  behind : (q : Part) → IsPart g a b q → section_end (offsets_of g) q ≤ section_start (offsets_of g) (CiphertextTree p)
+      → AreApart (offset_of g c b (CiphertextTree p)) (length_of g c b (CiphertextTree p)) (offset_of g a b q) (length_of g a b q)
   behind q also order = inr (earlier _ _ _ _ _ _ _ _ (lie_inside g a b q r also) (lie_inside g c b (CiphertextTree p) w is) order)
 
 turned : (p l q m : ℕ) → AreApart p l q m → AreApart q m p l
@@ -161,16 +161,16 @@ all_ready s segment is within taken =
 
 -- the length of pieces, one after another: each ends where the next begins, or with the whole
 pieces_long : (g : Geometry) (a whole first : ℕ) (pieces : List (List ℕ)) → IsGeometry g
-    → ((k : ℕ) → k < length pieces → length (get_or pieces k []) ≡ min (data_place g a (first + k + 1)) whole - data_place g a (first + k))
-    → length (concat pieces) ≡ min (data_place g a (first + length pieces)) whole - data_place g a first
-pieces_long g a whole first [] valid each = let e : first + 0 ≡ first = omega arith in omega (arith, ap (data_place g a) e)
+    → ((k : ℕ) → k < length pieces → length (get_or pieces k []) ≡ min (data_offset g a (first + k + 1)) whole - data_offset g a (first + k))
+    → length (concat pieces) ≡ min (data_offset g a (first + length pieces)) whole - data_offset g a first
+pieces_long g a whole first [] valid each = let e : first + 0 ≡ first = omega arith in omega (arith, ap (data_offset g a) e)
 pieces_long g a whole first (piece ∷ pieces) valid each =
     let start : first + 0 ≡ first = omega arith in
-    let own = each 0 (omega arith) ∙ ap (λ n. min (data_place g a (n + 1)) whole - data_place g a n) start in
+    let own = each 0 (omega arith) ∙ ap (λ n. min (data_offset g a (n + 1)) whole - data_offset g a n) start in
     let shift : (k : ℕ) → first + suc k ≡ first + 1 + k = λ k. omega arith in
     let rest = pieces_long g a whole (first + 1) pieces valid
-    (λ k low. each (suc k) (omega (arith, low)) ∙ ap (λ n. min (data_place g a (n + 1)) whole - data_place g a n) (shift k)) in
-    let end = ap (data_place g a) (shift (length pieces)) in
+    (λ k low. each (suc k) (omega (arith, low)) ∙ ap (λ n. min (data_offset g a (n + 1)) whole - data_offset g a n) (shift k)) in
+    let end = ap (data_offset g a) (shift (length pieces)) in
     let after = data_rise g valid a (first + 1) (first + 1 + length pieces) (omega arith) in
     omega (arith, own, rest, end, after, data_rises g valid a first, length-append piece (concat pieces))
 
@@ -179,19 +179,19 @@ joined_long g a b segment pieces r from before count each =
     let len = block_length g segment in
     let some = block_some g a b segment r before in
     let valid = r.valid in
-    let place = block_place g segment in
+    let position = block_start g segment in
     let first = block_first g a segment in
     let end = block_end g a segment in
     let low = mul-le-mul_right {m = a} {n = segment} (block_size g) from in
     let high = mul-le-mul_right {m = segment + 1} {n = b} (block_size g) (omega (arith, before)) in
     let whole = data_end g b in
-    let order : first ≤ end = omega (arith, data_more g valid a place (place + len - 1) (omega (arith, some))) in
+    let order : first ≤ end = omega (arith, data_more g valid a position (position + len - 1) (omega (arith, some))) in
     let last : first + length pieces ≡ end = omega (arith, count, order) in
     let long = pieces_long g a whole first pieces valid each in
-    let stop = ap (data_place g a) last in
-    let begins = data_rest g valid a place (omega (arith, low)) in
-    let ends : place + len ≤ whole = omega (arith, high, some) in
-    let more : place + len ≤ data_place g a end = omega (arith, data_before g valid a (place + len - 1), some) in
+    let stop = ap (data_offset g a) last in
+    let begins = data_rest g valid a position (omega (arith, low)) in
+    let ends : position + len ≤ whole = omega (arith, high, some) in
+    let more : position + len ≤ data_offset g a end = omega (arith, data_before g valid a (position + len - 1), some) in
     length-take-le len (drop (block_offset g a segment) (concat pieces))
     (omega (arith, length-drop (block_offset g a segment) (concat pieces), long, stop, begins, ends, more))
 

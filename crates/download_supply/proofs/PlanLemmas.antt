@@ -8,7 +8,7 @@ use Rattle.lemmas.proofs.Numbers.{div_ceil_le}
 use Rattle.share_layout.specs.Geometry.{Geometry, block_size, segment_count}
 use Rattle.download_parts.proofs.PartLemmas.{pieces_grow, pieces_step}
 use Rattle.download_parts.specs.Level.{end_node, group_size, leaves_below, level_at, row_of, tree_height}
-use Rattle.download_parts.specs.Plan.{IsNodePiece, IsPart, block_place, data_end, data_pieces, max_nodes, piece_at, pieces_of}
+use Rattle.download_parts.specs.Plan.{IsNodePiece, IsPart, block_start, data_end, data_pieces, max_nodes, piece_at, pieces_of}
 use Rattle.share_layout.specs.Pieces.{block_length}
 use Rattle.download_supply.specs.Blocks.{block_end, block_first}
 use Rattle.download_parts.specs.declared.part.NodePiece.{NodePiece}
@@ -55,13 +55,13 @@ part_grows g a b c (Data i) le is = let more = data_grows g a b c le in omega (a
 -- the pieces of a block are from one on to one behind it
 pub block_order : (g : Geometry) (a number : ℕ) → block_first g a number ≤ block_end g a number
 block_order g a number =
-    let place = block_place g number in
+    let position = block_start g number in
     elim (cases_lt 0 (block_length g number)) [
-      | inl some ↦ omega (arith, pieces_grow g a place (place + block_length g number - 1) (omega (arith, some)))
-      | inr none ↦ elim (cases_lt 0 place) [
+      | inl some ↦ omega (arith, pieces_grow g a position (position + block_length g number - 1) (omega (arith, some)))
+      | inr none ↦ elim (cases_lt 0 position) [
         | inl more ↦
-            let next : place + block_length g number - 1 + 1 ≡ place = omega (arith, none, more) in
-            omega (arith, pieces_step g a (place + block_length g number - 1), ap (piece_at g a) next)
-        | inr zero ↦ omega (arith, pieces_grow g a place (place + block_length g number - 1) (omega (arith, zero)))
+            let next : position + block_length g number - 1 + 1 ≡ position = omega (arith, none, more) in
+            omega (arith, pieces_step g a (position + block_length g number - 1), ap (piece_at g a) next)
+        | inr zero ↦ omega (arith, pieces_grow g a position (position + block_length g number - 1) (omega (arith, zero)))
       ]
     ]

@@ -28,24 +28,24 @@ kept_known old new offers number takes is =
     ap (is_some {T = List ℕ}) (takes.known.kept number hash.0 hash.1)
 
 -- the nodes that are offered
-offered_at : (row place : ℕ) (hashes : List (List ℕ)) (k : ℕ) → k < length hashes
-    → slice_get (offered_nodes row place hashes) k ≡ Some (node_number row (place + k), get_or hashes k [])
-offered_at row place [] k there = absurd (omega (arith, there))
-offered_at row place (hash ∷ hashes) zero there = let same : place ≡ place + 0 = omega arith in ap (λ n. Some (node_number row n, hash)) same
-offered_at row place (hash ∷ hashes) (suc k) there =
-    let same : place + 1 + k ≡ place + suc k = omega arith in
-    offered_at row (place + 1) hashes k (omega (arith, there)) ∙ ap (λ n. Some (node_number row n, get_or hashes k [])) same
+offered_at : (row position : ℕ) (hashes : List (List ℕ)) (k : ℕ) → k < length hashes
+    → slice_get (offered_nodes row position hashes) k ≡ Some (node_number row (position + k), get_or hashes k [])
+offered_at row position [] k there = absurd (omega (arith, there))
+offered_at row position (hash ∷ hashes) zero there = let same : position ≡ position + 0 = omega arith in ap (λ n. Some (node_number row n, hash)) same
+offered_at row position (hash ∷ hashes) (suc k) there =
+    let same : position + 1 + k ≡ position + suc k = omega arith in
+    offered_at row (position + 1) hashes k (omega (arith, there)) ∙ ap (λ n. Some (node_number row n, get_or hashes k [])) same
 
 -- are known once they are taken
 pub offered_known : (n : Nodes) (bytes : List ℕ) (old new : PartialState) → length bytes ≡ 32 * n.count → Takes old (nodes_offered n bytes) new
-    → (place : ℕ) → IsAmong n place → is_some (known_at new (node_number n.row place)) ≡ true
-offered_known n bytes old new long takes place among =
-    let k = place - n.from in
+    → (position : ℕ) → IsAmong n position → is_some (known_at new (node_number n.row position)) ≡ true
+offered_known n bytes old new long takes position among =
+    let k = position - n.from in
     let count : length (hashes_in bytes) ≡ n.count = length-first_chunks 32 (length bytes / 32) bytes ∙ omega (arith, long) in
     let from = among.0 in
     let before = among.1 in
     let there : k < length (hashes_in bytes) = omega (arith, count, from, before) in
-    let same : n.from + k ≡ place = omega (arith, from) in
+    let same : n.from + k ≡ position = omega (arith, from) in
     let known = takes.known.offered k (node_number n.row (n.from + k)) (get_or (hashes_in bytes) k []) (offered_at n.row n.from (hashes_in bytes) k there) in
     ap (λ p. is_some (known_at new (node_number n.row p))) (sym same) ∙ ap (is_some {T = List ℕ}) known
 
@@ -137,8 +137,8 @@ module _ (s : SupplyState) (p : NodePiece) (bytes : List ℕ) (is : IsSupply s) 
             record {
               tree = after;
               is = refl;
-              known = λ place among. kept_known before after (nodes_offered (nodes_of s.geometry s.first s.end p) bytes) _ takes
-                  (subst (λ (t : PartialState). is_some (known_at t (node_number (nodes_of s.geometry s.first s.end q).row place)) ≡ true) same (knows.known place among));
+              known = λ position among. kept_known before after (nodes_offered (nodes_of s.geometry s.first s.end p) bytes) _ takes
+                  (subst (λ (t : PartialState). is_some (known_at t (node_number (nodes_of s.geometry s.first s.end q).row position)) ≡ true) same (knows.known position among));
             }
         | inr one ↦ let same : p ≡ q = cc in
             subst (λ (r : NodePiece). KnowsNodes then (nodes_of s.geometry s.first s.end r)) same

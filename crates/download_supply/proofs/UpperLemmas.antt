@@ -98,7 +98,7 @@ upper_giving s levels waiting is none leads upper = upper_put s.geometry _ s.tak
 -- ---- what proves a piece
 
 pub over_proves : OverProves
-over_proves g a b p t range piece sound over place among =
+over_proves g a b p t range piece sound over position among =
     let m = tree_height g in
     let n = nodes_of g a b p in
     let there = piece.level in
@@ -107,14 +107,14 @@ over_proves g a b p t range piece sound over place among =
           let rows : n.row ≡ row_of m (p.level - 1) + 7 = omega (arith, some, there) in
           let seven : min n.row 7 ≡ 7 = omega (arith, rows) in
           let up : n.row - min n.row 7 ≡ row_of m (p.level - 1) = omega (arith, rows, seven) in
-          let known = over some (place / 128) ((under_pieces g a b p range some piece).holds place among) in
-          subst (λ x. is_some (known_at t x) ≡ true) (λ i. node_number (sym up i) (place / 2 ^ sym seven i)) known
+          let known = over some (position / 128) ((under_pieces g a b p range some piece).holds position among) in
+          subst (λ x. is_some (known_at t x) ≡ true) (λ i. node_number (sym up i) (position / 2 ^ sym seven i)) known
       | inr none ↦
           let low : n.row ≤ 7 = omega (arith, none, there) in
           let all : min n.row 7 ≡ n.row = omega (arith, low) in
           let lie = piece_lies g a b p range piece in
-          let inside : place < 2 ^ n.row = omega (arith, lie.inside, among) in
-          let first : 0 ≡ place / 2 ^ min n.row 7 = sym (ap (λ q. place / 2 ^ q) all ∙ div-eq_of_lt inside) in
+          let inside : position < 2 ^ n.row = omega (arith, lie.inside, among) in
+          let first : 0 ≡ position / 2 ^ min n.row 7 = sym (ap (λ q. position / 2 ^ q) all ∙ div-eq_of_lt inside) in
           let top : 0 ≡ n.row - min n.row 7 = omega (arith, all) in
           subst (λ x. is_some (known_at t x) ≡ true) (λ i. node_number (top i) (first i)) (ap is_some sound.root)
     ]
@@ -123,7 +123,7 @@ pub due_is_proved : DueIsProved
 due_is_proved s p t is due over tree =
     let leads = subst (λ (o : Option PartialState). IfSome o (λ x. IsBlockTree x (segment_count s.geometry))) tree is.leads in
     over_proves s.geometry s.first s.end p t is.range (is.parts (BlockTree p) due.asked) leads.leads.sound
-    (λ some place among.
+    (λ some position among.
     let k = is.knows (piece_over s.geometry s.first p) (over some) in
-    subst (λ (x : PartialState). is_some (known_at x (node_number (nodes_of s.geometry s.first s.end (piece_over s.geometry s.first p)).row place)) ≡ true)
-    (one_there s.tree k.tree t k.is tree) (k.known place among))
+    subst (λ (x : PartialState). is_some (known_at x (node_number (nodes_of s.geometry s.first s.end (piece_over s.geometry s.first p)).row position)) ≡ true)
+    (one_there s.tree k.tree t k.is tree) (k.known position among))

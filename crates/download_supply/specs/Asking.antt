@@ -2,7 +2,7 @@
 use Rattle.std.specs.Prelude.{◌≡◌, ◌≢◌, ◌⊎◌, ◌↔◌, ℕ, ◌+◌, ◌<◌, ◌≤◌, List, map, All, AllPairs}
 use Rattle.std.specs.Prelude.{Contains}
 use Rattle.share_layout.specs.Geometry.{Geometry}
-use Rattle.download_parts.specs.Plan.{IsNodePiece, IsPart, length_of, max_read, place_of}
+use Rattle.download_parts.specs.Plan.{IsNodePiece, IsPart, length_of, max_read, offset_of}
 use Rattle.download_parts.specs.declared.part.Part.{Part}
 use Rattle.download_parts.specs.declared.part.Part.TheVariants.{CiphertextTree}
 use Rattle.download_supply.specs.Cursors.{IsPassed, LeadOn, cursor_at}
@@ -14,15 +14,15 @@ use Rattle.download_supply.specs.declared.wanted.Wanted.{Wanted}
 abbrev pub parts_of : List Wanted → List Part
 parts_of wanted = map (λ w. w.part) wanted
 
--- it is a part of the plan for the segments `a` to before `b`, at its place and of its length
+-- it is a part of the plan for the segments `a` to before `b`, at its offset and of its length
 pub record IsReadBy (g : Geometry) (a b : ℕ) (w : Wanted) : Type 0 where
   pub part : IsPart g a b w.part
-  pub place : w.read.place ≡ place_of g a b w.part
+  pub offset : w.read.offset ≡ offset_of g a b w.part
   pub length : w.read.length ≡ length_of g a b w.part
   pub some : 0 < w.read.length
   pub few : w.read.length ≤ max_read
 
--- it is a part that the supply is read in, at its place and of its length
+-- it is a part that the supply is read in, at its offset and of its length
 abbrev pub IsReadOf : SupplyState → Wanted → Type 0
 IsReadOf s w = IsReadBy s.geometry (first_of s w.part) s.end w
 

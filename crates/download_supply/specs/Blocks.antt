@@ -4,7 +4,7 @@ use Rattle.std.specs.Prelude.{drop, take, true}
 use Rattle.std.specs.List.{concat}
 use Rattle.share_layout.specs.Geometry.{Geometry}
 use Rattle.share_layout.specs.Pieces.{block_length}
-use Rattle.download_parts.specs.Plan.{block_place, offset_at, piece_at}
+use Rattle.download_parts.specs.Plan.{block_start, offset_at, piece_at}
 use Rattle.download_supply.specs.Asking.{IsWithin}
 use Rattle.download_supply.specs.Supply.{SupplyState}
 use Rattle.download_supply.specs.Taking.{known_hash}
@@ -12,15 +12,15 @@ use Rattle.download_supply.specs.Taking.{known_hash}
 -- the pieces that hold the block of a segment, in the plan from the segment `a` on: the first, and
 -- the one behind the last
 abbrev pub block_first : Geometry → ℕ → ℕ → ℕ
-block_first g a segment = piece_at g a (block_place g segment)
+block_first g a segment = piece_at g a (block_start g segment)
 
 abbrev pub block_end : Geometry → ℕ → ℕ → ℕ
 block_end g a segment =
-    piece_at g a (block_place g segment + block_length g segment - 1) + 1
+    piece_at g a (block_start g segment + block_length g segment - 1) + 1
 
 -- where the block begins in the first of them
 abbrev pub block_offset : Geometry → ℕ → ℕ → ℕ
-block_offset g a segment = offset_at g a (block_place g segment)
+block_offset g a segment = offset_at g a (block_start g segment)
 
 -- the block, of the bytes of these pieces
 abbrev pub joined_block : Geometry → ℕ → ℕ → List (List ℕ) → List ℕ
@@ -33,8 +33,8 @@ pub record IsHeld (s : SupplyState) (segment : ℕ) : Type 0 where
   pub pieces : block_end s.geometry s.first segment ≤ length s.held
 
 -- where they are held
-abbrev pub block_places : SupplyState → ℕ → List ℕ
-block_places s segment = slice_range s.held
+abbrev pub block_positions : SupplyState → ℕ → List ℕ
+block_positions s segment = slice_range s.held
     (block_first s.geometry s.first segment) (block_end s.geometry s.first segment)
 
 -- a segment's block can be told right or wrong: all its pieces are held, and its hash is known

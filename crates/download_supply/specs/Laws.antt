@@ -7,7 +7,7 @@ use Rattle.share_layout.specs.Geometry.{Geometry, segment_count}
 use Rattle.share_layout.specs.Pieces.{block_length}
 use Rattle.download_parts.specs.PlanLaws.{AreApart, piece_over}
 use Rattle.download_parts.specs.Plan.{IsAmong, IsNodePiece, IsPart, length_of, nodes_of}
-use Rattle.download_parts.specs.Plan.{place_of}
+use Rattle.download_parts.specs.Plan.{offset_of}
 use Rattle.download_parts.specs.Range.{IsRange}
 use Rattle.download_parts.specs.declared.part.NodePiece.{NodePiece}
 use Rattle.download_parts.specs.declared.part.Nodes.{Nodes}
@@ -28,8 +28,8 @@ use Rattle.download_supply.specs.declared.cursors.Cursors.{Cursors}
 abbrev pub SupplyPartsAreApart : Type 0
 SupplyPartsAreApart = (s : SupplyState) (p q : Part) → IsSupply s → IsPartOf s p → IsPartOf s q
     → (p ≡ q) ⊎ AreApart
-    (place_of s.geometry (first_of s p) s.end p) (length_of s.geometry (first_of s p) s.end p)
-    (place_of s.geometry (first_of s q) s.end q) (length_of s.geometry (first_of s q) s.end q)
+    (offset_of s.geometry (first_of s p) s.end p) (length_of s.geometry (first_of s p) s.end p)
+    (offset_of s.geometry (first_of s q) s.end q) (length_of s.geometry (first_of s q) s.end q)
 
 -- a law: where parts lead from what was taken to what was asked, the first of them is due
 abbrev pub FirstIsDue : Type 0
@@ -45,12 +45,13 @@ TakenIsReady = (s : SupplyState) (segment : ℕ) → IsSupply s → IsWithin s s
 abbrev pub TakenNodesAreKnown : Type 0
 TakenNodesAreKnown = (n : Nodes) (bytes : List ℕ) (old new : PartialState)
     → length bytes ≡ 32 * n.count → Takes old (nodes_offered n bytes) new
-    → (place : ℕ) → IsAmong n place → is_some (known_at new (node_number n.row place)) ≡ true
+    → (position : ℕ) → IsAmong n position → is_some (known_at new (node_number n.row position))
+    ≡ true
 
 -- the tree knows the nodes of a piece of the plan for the segments `a` to before `b`
 abbrev pub KnowsPiece : Geometry → ℕ → ℕ → PartialState → NodePiece → Type 0
-KnowsPiece g a b tree p = (place : ℕ) → IsAmong (nodes_of g a b p) place
-    → is_some (known_at tree (node_number (nodes_of g a b p).row place)) ≡ true
+KnowsPiece g a b tree p = (position : ℕ) → IsAmong (nodes_of g a b p) position
+    → is_some (known_at tree (node_number (nodes_of g a b p).row position)) ≡ true
 
 -- a law: a tree that knows the pieces that are wanted up to a segment knows the segment's leaf
 abbrev pub LeavesAreKnown : Type 0
@@ -81,10 +82,10 @@ LeadOnGiving = (s : SupplyState) (levels : List ℕ) (waiting : List Part) → I
     → LeadOn s.taken waiting s.asked
     → LeadOn (gives_from s levels).taken waiting (gives_from s levels).asked
 
--- a law: each part of a plan is one of each longer plan, at its place, and has its bytes there
+-- a law: each part of a plan is one of each longer plan, at its offset, and has its bytes there
 abbrev pub LongerPlansHoldMore : Type 0
 LongerPlansHoldMore = (g : Geometry) (a b c : ℕ) (part : Part) → b ≤ c → IsPart g a b part
-    → IsPart g a c part × (place_of g a c part ≡ place_of g a b part)
+    → IsPart g a c part × (offset_of g a c part ≡ offset_of g a b part)
     × (length_of g a b part ≤ length_of g a c part)
 
 -- a law: so do parts of which each comes after the piece over it

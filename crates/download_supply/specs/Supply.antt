@@ -27,7 +27,7 @@ pub record SupplyState : Type 0 where
   pub taken : Cursors
   -- the block tree, once the share hashes are taken
   pub tree : Option PartialState
-  -- the places of the answers that are the pieces of the data, in order
+  -- the positions of the answers that are the pieces of the data, in order
   pub held : List ℕ
 
 -- the value of a supply with these fields
@@ -77,8 +77,8 @@ pub record HaveLevels (c : Cursors) : Type 0 where
 pub record KnowsNodes (s : SupplyState) (n : Nodes) : Type 0 where
   pub tree : PartialState
   pub is : s.tree ≡ Some tree
-  pub known : (place : ℕ) → IsAmong n place
-      → is_some (known_at tree (node_number n.row place)) ≡ true
+  pub known : (position : ℕ) → IsAmong n position
+      → is_some (known_at tree (node_number n.row position)) ≡ true
 
 -- what holds of each supply
 pub record IsSupply (s : SupplyState) : Type 0 where

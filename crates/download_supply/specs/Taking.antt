@@ -23,8 +23,8 @@ with_taken s part = record s { taken = passed s.taken part }
 
 -- the supply that holds one answer more, for the next piece of the data
 abbrev pub holds_more : SupplyState → ℕ → SupplyState
-holds_more s place =
-    record (with_taken s (Data s.taken.data_piece)) { held = s.held ++ place ∷ [] }
+holds_more s position =
+    record (with_taken s (Data s.taken.data_piece)) { held = s.held ++ position ∷ [] }
 
 -- the nodes of a piece of the block tree are taken, and nothing else is changed
 pub record TakesPiece (old : SupplyState) (p : NodePiece) (bytes : List ℕ) (new : SupplyState)

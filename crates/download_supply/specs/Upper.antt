@@ -32,5 +32,5 @@ UpperComeFirst g first c (part ∷ parts) =
 -- What proves some nodes of a row is known: above each the node 7 rows above it, or the root where
 -- that is nearer.
 abbrev pub KnowsTops : PartialState → Nodes → Type 0
-KnowsTops p n = (place : ℕ) → IsAmong n place
-    → is_some (known_at p (node_number (n.row - min n.row 7) (place / group_size n.row))) ≡ true
+KnowsTops p n = (position : ℕ) → IsAmong n position
+    → is_some (known_at p (node_number (n.row - min n.row 7) (position / group_size n.row))) ≡ true

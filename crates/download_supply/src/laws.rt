@@ -55,7 +55,7 @@ pub fn waiting_goes_on_giving()
     ensures { LeadOnGiving }
 {}
 
-/// A law of the definitions: each part of a plan is one of each longer plan, at its place, and has
+/// A law of the definitions: each part of a plan is one of each longer plan, at its offset, and has
 /// its bytes there. The law is the contract; the call does nothing.
 pub fn longer_plans_hold_more()
     ensures { LongerPlansHoldMore }

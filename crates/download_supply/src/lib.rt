@@ -1,6 +1,6 @@
 //! One share at one server as a supply of blocks, from the moment on at which an extension block is
 //! accepted: which parts of its plan are asked, which of them were taken, and what was taken. It
-//! knows nothing of messages: the place of an answer is a number that it hands back.
+//! knows nothing of messages: the position of an answer is a number that it hands back.
 //!
 //! The parts of each section are asked in one order, and taken in it. No part is asked twice.
 #![tactic(auto)]

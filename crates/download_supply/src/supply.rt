@@ -9,7 +9,7 @@ ghost use Rattle.download_supply.specs.Asking.{AsksNow, IsAsked, IsWanted, IsWan
 ghost use Rattle.download_supply.specs.Asking.{IsWithin, OnlyAsks};
 ghost use Rattle.download_supply.specs.Batch.{IsCiphertextUpTo, IsStep};
 ghost use Rattle.download_supply.specs.Cursors.{IsPassed, cursor_at};
-ghost use Rattle.download_supply.specs.Blocks.{IsHeld, IsReady, block_offset, block_places};
+ghost use Rattle.download_supply.specs.Blocks.{IsHeld, IsReady, block_offset, block_positions};
 ghost use Rattle.download_supply.specs.Supply.{IsSupply, gives_from, new_supply};
 ghost use Rattle.download_supply.specs.Taking.{IsDue, IsProved, RefutesPiece, TakesPiece};
 ghost use Rattle.download_supply.specs.Taking.{holds_more, known_hash, with_taken};
@@ -162,14 +162,14 @@ impl Supply {
         self.taken.pass(&Part::CiphertextTree(*piece));
     }
 
-    /// Takes the next piece of the data, which is the answer at this place.
-    pub fn take_data(&mut self, place: usize) -> Result<(), AllocError>
+    /// Takes the next piece of the data, which is the answer at this position.
+    pub fn take_data(&mut self, position: usize) -> Result<(), AllocError>
         requires due { self.old.taken.data_piece < self.old.asked.data_piece }
-        ensures taken { OnOk result (self.new ≡ holds_more self.old place) }
+        ensures taken { OnOk result (self.new ≡ holds_more self.old position) }
         ensures unchanged { OnErr result (self.new ≡ self.old) }
         ensures right { IsSupply self.new }
     {
-        self.held.push(place)?;
+        self.held.push(position)?;
         self.taken.data_piece += 1;
         Ok(())
     }
@@ -220,10 +220,10 @@ impl Supply {
         }
     }
 
-    /// The places of the answers that hold the block of a segment, which is ready.
-    pub fn block_places(&self, segment: u32) -> &[usize]
+    /// The positions of the answers that hold the block of a segment, which is ready.
+    pub fn block_positions(&self, segment: u32) -> &[usize]
         requires { IsHeld self.now segment }
-        ensures { result.now ≡ block_places self.now segment }
+        ensures { result.now ≡ block_positions self.now segment }
     {
         let pieces = self.plan.block_pieces(segment);
         &self.held[pieces.first as usize..pieces.end as usize]

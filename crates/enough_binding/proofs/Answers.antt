@@ -36,26 +36,26 @@ is_lost Unawaited = inr (λ e. absurd cc)
 is_lost (Answered said) = inr (λ e. absurd cc)
 
 later_lost : (r : Request) (rs : List Request) (server : ℕ) → WasLost rs server → WasLost (r ∷ rs) server
-later_lost r rs server w = record { place = suc w.place; request = w.request; there = w.there; of_server = w.of_server; lost = w.lost }
+later_lost r rs server w = record { position = suc w.position; request = w.request; there = w.there; of_server = w.of_server; lost = w.lost }
 
 first_or_later : (r : Request) (rs : List Request) (server : ℕ) → (r.server ≡ server → r.outcome ≡ Lost → ⊥) → (WasLost rs server → ⊥) → WasLost (r ∷ rs) server → ⊥
-first_or_later r rs server here later w = by w.place w.there where
-  by : (place : ℕ) → slice_get (r ∷ rs) place ≡ Some w.request → ⊥
+first_or_later r rs server here later w = by w.position w.there where
+  by : (position : ℕ) → slice_get (r ∷ rs) position ≡ Some w.request → ⊥
   by zero e =
       let same : r ≡ w.request = same_Some r w.request e in
       here (ap (λ (q : Request). q.server) same ∙ w.of_server) (ap (λ (q : Request). q.outcome) same ∙ w.lost)
-  by (suc place) e = later record { place = place; request = w.request; there = e; of_server = w.of_server; lost = w.lost }
+  by (suc position) e = later record { position = position; request = w.request; there = e; of_server = w.of_server; lost = w.lost }
 
 pub lost_or_not : (entries : List Request) (server : ℕ) → WasLost entries server ⊎ (WasLost entries server → ⊥)
-lost_or_not [] server = inr (λ w. nothing w.place w.request w.there) where
-  nothing : (place : ℕ) (r : Request) → slice_get [] place ≡ Some r → ⊥
-  nothing place r e = absurd cc
+lost_or_not [] server = inr (λ w. nothing w.position w.request w.there) where
+  nothing : (position : ℕ) (r : Request) → slice_get [] position ≡ Some r → ⊥
+  nothing position r e = absurd cc
 lost_or_not (r ∷ rs) server = elim (lost_or_not rs server) [
   | inl later ↦ inl (later_lost r rs server later)
   | inr none ↦ elim (cases_eq r.server server) [
     | inr other ↦ inr (first_or_later r rs server (λ same lost. other same) none)
     | inl same ↦ elim (is_lost r.outcome) [
-      | inl lost ↦ inl record { place = 0; request = r; there = refl; of_server = same; lost = lost }
+      | inl lost ↦ inl record { position = 0; request = r; there = refl; of_server = same; lost = lost }
       | inr not_lost ↦ inr (first_or_later r rs server (λ also lost. not_lost lost) none)
     ]
   ]
@@ -80,9 +80,9 @@ reads_no_abort num offset len share e = absurd cc
 
 -- what the server answered, that was asked what it holds
 pub record IsAnsweredAsk (entries : List Request) (server num : ℕ) : Type 0 where
-  pub place : ℕ
+  pub position : ℕ
   pub request : Request
-  pub there : slice_get entries place ≡ Some request
+  pub there : slice_get entries position ≡ Some request
   pub of_server : request.server ≡ server
   pub asked : request.asked ≡ Holdings
   pub said : Body
@@ -93,16 +93,16 @@ pub answered_ask : (entries : List Request) (servers : List ℕ) (server num : �
     → TellsShare entries server num share → (WasLost entries server → ⊥) → IsAnsweredAsk entries server num
 answered_ask entries servers server num share quiet asks among tells none =
     let ask = asks.asked server among in
-    let answer = answered_by ask.request.outcome (none_waits entries ask.place ask.request quiet ask.there)
-    (λ lost. none record { place = ask.place; request = ask.request; there = ask.there; of_server = ask.of_server; lost = lost })
-    (λ unawaited. let aborts = asks.awaited ask.place ask.request ask.there unawaited in no_abort aborts.0 (sym ask.asked ∙ aborts.1)) in
+    let answer = answered_by ask.request.outcome (none_waits entries ask.position ask.request quiet ask.there)
+    (λ lost. none record { position = ask.position; request = ask.request; there = ask.there; of_server = ask.of_server; lost = lost })
+    (λ unawaited. let aborts = asks.awaited ask.position ask.request ask.there unawaited in no_abort aborts.0 (sym ask.asked ∙ aborts.1)) in
     record {
-      place = ask.place;
+      position = ask.position;
       request = ask.request;
       there = ask.there;
       of_server = ask.of_server;
       asked = ask.asked;
       said = answer.0;
       answer = answer.1;
-      lists = tells.lists ask.place ask.request answer.0 ask.there ask.of_server ask.asked answer.1;
+      lists = tells.lists ask.position ask.request answer.0 ask.there ask.of_server ask.asked answer.1;
     }

@@ -54,7 +54,7 @@ is_offered total entries server num low a =
     let by_server : Contains (offered_in total a.request.server a.request.outcome) (server, num) =
     subst (λ (n : ℕ). Contains (offered_in total n a.request.outcome) (server, num)) (sym a.of_server)
     (subst (λ (o : Outcome). Contains (offered_in total server o) (server, num)) (sym outcome) here) in
-    flat_map_has (λ (r : Request). offered_to total r.server r.asked r.outcome) entries a.place a.request (server, num) a.there
+    flat_map_has (λ (r : Request). offered_to total r.server r.asked r.outcome) entries a.position a.request (server, num) a.there
     (subst (λ (q : Asked). Contains (offered_to total a.request.server q a.request.outcome) (server, num)) (sym a.asked) by_server)
 
 -- so there is a verdict on it
@@ -76,11 +76,11 @@ same_data : (a b : List ℕ) → Data a ≡ Data b → a ≡ b
 same_data a b e = cc
 
 answers_own : (entries : List Request) (server num : ℕ) (share : List ℕ) → TellsShare entries server num share → AnswersOwn entries server num share
-answers_own entries server num share tells place offset len request bytes there of_server asked answer =
-    same_data bytes (take len (drop offset share)) (tells.reads place offset len request (Data bytes) there of_server asked answer)
+answers_own entries server num share tells position offset len request bytes there of_server asked answer =
+    same_data bytes (take len (drop offset share)) (tells.reads position offset len request (Data bytes) there of_server asked answer)
 
 abbrev settled : ℕ → ℕ → List ℕ → Settled
-settled offset len bytes = record { place = offset; len = len; answer = Some bytes }
+settled offset len bytes = record { offset = offset; len = len; answer = Some bytes }
 
 has_bytes : (offset len : ℕ) (bytes : List ℕ) (read : Settled) → Contains (settled offset len bytes ∷ []) read → read.answer ≡ None → ⊥
 has_bytes offset len bytes read c none = elim (contains_cases (settled offset len bytes) read [] c) [
@@ -99,15 +99,15 @@ by_outcome n offset len (Answered said) read c none not_lost awaited own =
     has_bytes offset len mine.0 read (subst (λ (b : Body). Contains (settled_in (Reading n offset len) (Answered b)) read) mine.1 c) none
 
 module _ (entries : List Request) (server num : ℕ) (share : List ℕ) (awaited : AreAwaited entries) (tells : TellsShare entries server num share) (none : WasLost entries server → ⊥) where
-  by_asked : (place : ℕ) (q : Request) (a : Asked) (read : Settled) → slice_get entries place ≡ Some q → q.server ≡ server → q.asked ≡ a → reads_share num a ≡ true
+  by_asked : (position : ℕ) (q : Request) (a : Asked) (read : Settled) → slice_get entries position ≡ Some q → q.server ≡ server → q.asked ≡ a → reads_share num a ≡ true
       → Contains (settled_in a q.outcome) read → read.answer ≡ None → ⊥
-  by_asked place q (Reading n offset len) read there of_server asked about c no_bytes =
+  by_asked position q (Reading n offset len) read there of_server asked about c no_bytes =
       let number : n ≡ num = eqb-true n num about in
       by_outcome n offset len q.outcome read c no_bytes
-      (λ lost. none record { place = place; request = q; there = there; of_server = of_server; lost = lost })
-      (λ unawaited. let aborts = awaited place q there unawaited in reads_no_abort n offset len aborts.0 (sym asked ∙ aborts.1))
-      (λ said answer. (take len (drop offset share), tells.reads place offset len q said there of_server (asked ∙ ap (λ (k : ℕ). Reading k offset len) number) answer))
-  by_asked place q a read there of_server asked about c no_bytes = contains_none read c
+      (λ lost. none record { position = position; request = q; there = there; of_server = of_server; lost = lost })
+      (λ unawaited. let aborts = awaited position q there unawaited in reads_no_abort n offset len aborts.0 (sym asked ∙ aborts.1))
+      (λ said answer. (take len (drop offset share), tells.reads position offset len q said there of_server (asked ∙ ap (λ (k : ℕ). Reading k offset len) number) answer))
+  by_asked position q a read there of_server asked about c no_bytes = contains_none read c
 
   pub none_lost : IsLost (settled_of entries server num) → ⊥
   none_lost lost =
@@ -118,7 +118,7 @@ module _ (entries : List Request) (server num : ℕ) (share : List ℕ) (awaited
         | inr other ↦ contains_none read (subst (λ (b : Bool). Contains (if b then settled_in q.asked q.outcome else []) read) other from.has)
         | inl is ↦
             let tests = both (q.server == server) (reads_share num q.asked) is in
-            by_asked from.place q q.asked read from.there (eqb-true q.server server tests.0) refl tests.1
+            by_asked from.position q q.asked read from.there (eqb-true q.server server tests.0) refl tests.1
             (subst (λ (b : Bool). Contains (if b then settled_in q.asked q.outcome else []) read) is from.has) lost.2
       ]
 

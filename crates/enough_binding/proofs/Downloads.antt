@@ -4,7 +4,7 @@ use Rattle.std.specs.Prelude.{Contains, slice_index_or}
 use Rattle.std.proofs.lemmas.List.{length-map}
 use Rattle.std.proofs.lemmas.List.Elements.{All-map, All-from_get_or, Contains-get_or}
 use Rattle.lemmas.proofs.Members.{contains_cases, contains_head, contains_none, contains_tail}
-use Rattle.lemmas.proofs.Places.{got}
+use Rattle.lemmas.proofs.Positions.{got}
 use Rattle.tagged_hash.specs.Clash.{HasNoClashIn}
 use Rattle.cap_text.specs.Cap.{verify_cap_of}
 use Rattle.ueb.specs.Shape.{Contents}
@@ -65,7 +65,7 @@ offered_by entries server num a =
     let lists = a.lists.1 in
     let held : HeldShare = record { share = num; digest = digest } in
     record {
-      place = a.place;
+      position = a.position;
       request = a.request;
       there = a.there;
       of_server = a.of_server;
@@ -81,13 +81,13 @@ offered_by entries server num a =
 
 not_gone : (entries : List Request) (server num : ℕ) (share : List ℕ) → TellsShare entries server num share → (WasLost entries server → ⊥) → IsGone entries server num → ⊥
 not_gone entries server num share tells none g = elim g.gone [
-  | inl lost ↦ none record { place = g.place; request = g.request; there = g.there; of_server = g.of_server; lost = lost }
-  | inr no_share ↦ not_data (take g.len (drop g.offset share)) NoShare refl (tells.reads g.place g.offset g.len g.request NoShare g.there g.of_server g.asked no_share)
+  | inl lost ↦ none record { position = g.position; request = g.request; there = g.there; of_server = g.of_server; lost = lost }
+  | inr no_share ↦ not_data (take g.len (drop g.offset share)) NoShare refl (tells.reads g.position g.offset g.len g.request NoShare g.there g.of_server g.asked no_share)
 ]
 
 not_other : (entries : List Request) (server num : ℕ) (share : List ℕ) → TellsShare entries server num share → AnsweredOther entries server num share → ⊥
 not_other entries server num share tells a =
-    a.other (same_data a.bytes (take a.len (drop a.offset share)) (tells.reads a.place a.offset a.len a.request (Data a.bytes) a.there a.of_server a.asked a.answer))
+    a.other (same_data a.bytes (take a.len (drop a.offset share)) (tells.reads a.position a.offset a.len a.request (Data a.bytes) a.there a.of_server a.asked a.answer))
 
 -- ---- so it is one of the numbers that are left
 
@@ -99,7 +99,7 @@ module _ (IsOne : List ℕ → Type 0) (no_clash : HasNoClashIn IsOne) (d : Down
 
   not_blamed : (pair : Pair) → TellsShare entries pair.0 pair.1 (slice_index_or shares pair.1 []) → IsBlamed d.blamed pair.0 pair.1 → ⊥
   not_blamed pair tells b =
-      let other = downloads_are_fair IsOne no_clash d u shares b.place b.blame by are b.there in
+      let other = downloads_are_fair IsOne no_clash d u shares b.position b.blame by are b.there in
       not_other entries pair.0 pair.1 (slice_index_or shares pair.1 []) tells
       (subst (λ n. AnsweredOther entries pair.0 n (slice_index_or shares n [])) b.of_share
       (subst (λ n. AnsweredOther entries n b.blame.share (slice_index_or shares b.blame.share [])) b.of_server other))

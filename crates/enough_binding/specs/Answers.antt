@@ -14,18 +14,18 @@ Lists said num = (digest : List ℕ) × ListsShare said num digest
 -- The server tells this share: each answer of it to an Ask lists the number, and each to a read of
 -- the share has the bytes that the share has there: as many as asked, and fewer at its end.
 pub record TellsShare (entries : List Request) (server num : ℕ) (share : List ℕ) : Type 0 where
-  pub lists : (place : ℕ) (request : Request) (said : Body)
-      → slice_get entries place ≡ Some request → request.server ≡ server
+  pub lists : (position : ℕ) (request : Request) (said : Body)
+      → slice_get entries position ≡ Some request → request.server ≡ server
       → request.asked ≡ Holdings → request.outcome ≡ Answered said → Lists said num
-  pub reads : (place offset len : ℕ) (request : Request) (said : Body)
-      → slice_get entries place ≡ Some request → request.server ≡ server
+  pub reads : (position offset len : ℕ) (request : Request) (said : Body)
+      → slice_get entries position ≡ Some request → request.server ≡ server
       → request.asked ≡ Reading num offset len → request.outcome ≡ Answered said
       → said ≡ Data (take len (drop offset share))
 
 -- one of the requests to the server was lost
 pub record WasLost (entries : List Request) (server : ℕ) : Type 0 where
-  pub place : ℕ
+  pub position : ℕ
   pub request : Request
-  pub there : slice_get entries place ≡ Some request
+  pub there : slice_get entries position ≡ Some request
   pub of_server : request.server ≡ server
   pub lost : request.outcome ≡ Lost

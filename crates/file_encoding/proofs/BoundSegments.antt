@@ -29,28 +29,28 @@ use Rattle.file_encoding.proofs.OwnSegments.{block_is, decoded_is, piece_at}
 
 -- ---- the leaf of a tree
 
--- by these siblings a hash leads from a place to a root; the hash and they have 32 bytes each, and all that is hashed on the way is of a kind
-pub record LeadsIn (IsOne : List ℕ → Type 0) (count : ℕ) (root : List ℕ) (place : ℕ) (hash : List ℕ) (siblings : List (List ℕ)) : Type 0 where
-  pub leads : LeadsBy count root place hash siblings
-  pub path : IsPathOf IsOne (height count) place hash siblings
+-- by these siblings a hash leads from a position to a root; the hash and they have 32 bytes each, and all that is hashed on the way is of a kind
+pub record LeadsIn (IsOne : List ℕ → Type 0) (count : ℕ) (root : List ℕ) (position : ℕ) (hash : List ℕ) (siblings : List (List ℕ)) : Type 0 where
+  pub leads : LeadsBy count root position hash siblings
+  pub path : IsPathOf IsOne (height count) position hash siblings
 
 -- without a clash the hash that leads to a tree's root is the tree's leaf
 pub leaf_is_own : (IsOne : List ℕ → Type 0) → HasNoClashIn IsOne → (count : ℕ) (leaves : List (List ℕ)) → length leaves ≡ count → AreHashes leaves → AreOf IsOne (tree_inputs leaves)
-    → (place : ℕ) (hash : List ℕ) (siblings : List (List ℕ)) → LeadsIn IsOne count (tree_root leaves) place hash siblings → hash ≡ get_or leaves place []
-leaf_is_own IsOne no_clash count leaves long are among place hash siblings l =
-    let low : place < length leaves = subst (λ (n : ℕ). place < n) (sym long) l.leads.0 in
+    → (position : ℕ) (hash : List ℕ) (siblings : List (List ℕ)) → LeadsIn IsOne count (tree_root leaves) position hash siblings → hash ≡ get_or leaves position []
+leaf_is_own IsOne no_clash count leaves long are among position hash siblings l =
+    let low : position < length leaves = subst (λ (n : ℕ). position < n) (sym long) l.leads.0 in
     let m : ℕ = height (length leaves) in
-    let mine : List ℕ = get_or leaves place [] in
-    let own = siblings_of-lead leaves place low in
-    let size : length (siblings_of leaves place) ≡ m = own.1 in
-    let path : IsPathOf IsOne m place mine (siblings_of leaves place) = record {
-      hash_length = are place [] low;
-      sibling_lengths = λ i below. siblings_are_hashes leaves place are low i [] (subst (λ (n : ℕ). i < n) (sym size) below);
-      among = λ x c. among x (own_paths_are_within leaves place low x c);
+    let mine : List ℕ = get_or leaves position [] in
+    let own = siblings_of-lead leaves position low in
+    let size : length (siblings_of leaves position) ≡ m = own.1 in
+    let path : IsPathOf IsOne m position mine (siblings_of leaves position) = record {
+      hash_length = are position [] low;
+      sibling_lengths = λ i below. siblings_are_hashes leaves position are low i [] (subst (λ (n : ℕ). i < n) (sym size) below);
+      among = λ x c. among x (own_paths_are_within leaves position low x c);
     } in
-    let other : IsPathOf IsOne m place hash siblings = subst (λ (n : ℕ). IsPathOf IsOne (height n) place hash siblings) (sym long) l.path in
-    let leads : path_root m place hash siblings ≡ tree_root leaves = subst (λ (n : ℕ). path_root (height n) place hash siblings ≡ tree_root leaves) (sym long) l.leads.2 in
-    (one_path IsOne no_clash m place hash mine siblings (siblings_of leaves place) other path (leads ∙ sym own.2)).hash
+    let other : IsPathOf IsOne m position hash siblings = subst (λ (n : ℕ). IsPathOf IsOne (height n) position hash siblings) (sym long) l.path in
+    let leads : path_root m position hash siblings ≡ tree_root leaves = subst (λ (n : ℕ). path_root (height n) position hash siblings ≡ tree_root leaves) (sym long) l.leads.2 in
+    (one_path IsOne no_clash m position hash mine siblings (siblings_of leaves position) other path (leads ∙ sym own.2)).hash
 
 -- ---- the blocks of an encoding
 

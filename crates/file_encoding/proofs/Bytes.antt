@@ -140,23 +140,23 @@ module _ (key : List ℕ) (bytes : AreBytes key) where
   unfolding stream_byte encrypted
   stream_byte-lt i = bytes-last_round 10 (rounds key _ 9) (i % 16)
 
-  bytes-xored_from : (place : ℕ) (text : List ℕ) → AreBytes text → AreBytes (xored_from key place text)
-  bytes-xored_from place [] each = bytes-none
-  bytes-xored_from place (b ∷ bs) each =
-      bytes-cons (bit_xor b (stream_byte key place)) (xored_from key (place + 1) bs) (xor_of_8 b (stream_byte key place) (each 0) (stream_byte-lt place))
-      (bytes-xored_from (place + 1) bs (λ j. each (suc j)))
+  bytes-xored_from : (position : ℕ) (text : List ℕ) → AreBytes text → AreBytes (xored_from key position text)
+  bytes-xored_from position [] each = bytes-none
+  bytes-xored_from position (b ∷ bs) each =
+      bytes-cons (bit_xor b (stream_byte key position)) (xored_from key (position + 1) bs) (xor_of_8 b (stream_byte key position) (each 0) (stream_byte-lt position))
+      (bytes-xored_from (position + 1) bs (λ j. each (suc j)))
 
   -- a ciphertext has bytes, where the key and the file have
   pub bytes-xored : (file : List ℕ) → AreBytes file → AreBytes (xored key file)
   bytes-xored file each = bytes-xored_from 0 file each
 
--- what is encrypted twice at its place of the stream is the text
-pub xored_from-again : (key : List ℕ) (place : ℕ) (text : List ℕ) → xored_from key place (xored_from key place text) ≡ text
-xored_from-again key place [] = refl
-xored_from-again key place (b ∷ bs) =
-    let stream : ℕ = stream_byte key place in
+-- what is encrypted twice at its position of the stream is the text
+pub xored_from-again : (key : List ℕ) (position : ℕ) (text : List ℕ) → xored_from key position (xored_from key position text) ≡ text
+xored_from-again key position [] = refl
+xored_from-again key position (b ∷ bs) =
+    let stream : ℕ = stream_byte key position in
     let back : bit_xor (bit_xor b stream) stream ≡ b = xor_assoc b stream stream ∙ ap (bit_xor b) (xor_self stream) ∙ xor_zero_r b in
-    (λ i. back i ∷ xored_from-again key (place + 1) bs i)
+    (λ i. back i ∷ xored_from-again key (position + 1) bs i)
 
 -- what is encrypted twice is the file
 pub xored-xored : (key file : List ℕ) → xored key (xored key file) ≡ file

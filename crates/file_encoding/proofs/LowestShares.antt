@@ -9,13 +9,13 @@ use Rattle.file_encoding.specs.Reading.{AreLowest, AreRising, IsAmong, IsFirstSo
 use Rattle.file_encoding.proofs.Pigeonhole.{no_more}
 use Rattle.file_encoding.specs.LowestShares.{AreLowestAt}
 
--- what stands at a place among the strings with their numbers
-pub at_place : (cap : VerifyCapValue) (shares : List (ℕ × Bor (List ℕ))) (number place : ℕ) (d : ℕ × Bor (List ℕ)) → place < length shares
-    → IsSoundAt cap (map (λ (s : ℕ × Bor (List ℕ)). s.0) shares) (map (λ (s : ℕ × Bor (List ℕ)). s.1.now) shares) number place
-    ≡ (((get_or shares place d).0 ≡ number) × IsSoundShare cap number (get_or shares place d).1.now)
-at_place cap shares number place d inside = λ i.
-    (get_or-map (λ (s : ℕ × Bor (List ℕ)). s.0) shares place d 0 inside i ≡ number)
-    × IsSoundShare cap number (get_or-map (λ (s : ℕ × Bor (List ℕ)). s.1.now) shares place d [] inside i)
+-- what stands at a position among the strings with their numbers
+pub at_position : (cap : VerifyCapValue) (shares : List (ℕ × Bor (List ℕ))) (number position : ℕ) (d : ℕ × Bor (List ℕ)) → position < length shares
+    → IsSoundAt cap (map (λ (s : ℕ × Bor (List ℕ)). s.0) shares) (map (λ (s : ℕ × Bor (List ℕ)). s.1.now) shares) number position
+    ≡ (((get_or shares position d).0 ≡ number) × IsSoundShare cap number (get_or shares position d).1.now)
+at_position cap shares number position d inside = λ i.
+    (get_or-map (λ (s : ℕ × Bor (List ℕ)). s.0) shares position d 0 inside i ≡ number)
+    × IsSoundShare cap number (get_or-map (λ (s : ℕ × Bor (List ℕ)). s.1.now) shares position d [] inside i)
 
 All-push : {X : Type 0} (P : X → Type 0) (xs : List X) (x : X) → All P xs → P x → All P (xs ++ x ∷ [])
 All-push P xs x each new k d below =
@@ -106,29 +106,29 @@ module _ (cap : VerifyCapValue) (numbers : List ℕ) (strings : List (List ℕ))
             ];
       }
 
--- the same by places
-pub full_at : (cap : VerifyCapValue) (numbers : List ℕ) (strings : List (List ℕ)) (below : ℕ) (places : List ℕ)
-    → AreLowestAt cap numbers strings below places → cap.needed ≤ length places → AreLowestAt cap numbers strings (below + 1) places
-full_at cap numbers strings below places are enough =
-    let count : length places ≡ length are.taken = ap length are.at ∙ length-map are.taken (λ (t : TakenShare). t.place) in
+-- the same by positions
+pub full_at : (cap : VerifyCapValue) (numbers : List ℕ) (strings : List (List ℕ)) (below : ℕ) (positions : List ℕ)
+    → AreLowestAt cap numbers strings below positions → cap.needed ≤ length positions → AreLowestAt cap numbers strings (below + 1) positions
+full_at cap numbers strings below positions are enough =
+    let count : length positions ≡ length are.taken = ap length are.at ∙ length-map are.taken (λ (t : TakenShare). t.position) in
     record { taken = are.taken; lowest = full cap numbers strings below are.taken are.lowest (omega (arith, enough, count, are.lowest.few)); at = are.at }
 
-pub none_at : (cap : VerifyCapValue) (numbers : List ℕ) (strings : List (List ℕ)) (below : ℕ) (places : List ℕ)
-    → AreLowestAt cap numbers strings below places → NoneSound cap numbers strings below → AreLowestAt cap numbers strings (below + 1) places
-none_at cap numbers strings below places are nothing =
+pub none_at : (cap : VerifyCapValue) (numbers : List ℕ) (strings : List (List ℕ)) (below : ℕ) (positions : List ℕ)
+    → AreLowestAt cap numbers strings below positions → NoneSound cap numbers strings below → AreLowestAt cap numbers strings (below + 1) positions
+none_at cap numbers strings below positions are nothing =
     record { taken = are.taken; lowest = none cap numbers strings below are.taken are.lowest nothing; at = are.at }
 
-pub more_at : (cap : VerifyCapValue) (numbers : List ℕ) (strings : List (List ℕ)) (below place : ℕ) (places : List ℕ)
-    → AreLowestAt cap numbers strings below places → length places < cap.needed → IsFirstSound cap numbers strings below place
-    → AreLowestAt cap numbers strings (below + 1) (places ++ place ∷ [])
-more_at cap numbers strings below place places are few first =
-    let count : length places ≡ length are.taken = ap length are.at ∙ length-map are.taken (λ (t : TakenShare). t.place) in
+pub more_at : (cap : VerifyCapValue) (numbers : List ℕ) (strings : List (List ℕ)) (below position : ℕ) (positions : List ℕ)
+    → AreLowestAt cap numbers strings below positions → length positions < cap.needed → IsFirstSound cap numbers strings below position
+    → AreLowestAt cap numbers strings (below + 1) (positions ++ position ∷ [])
+more_at cap numbers strings below position positions are few first =
+    let count : length positions ≡ length are.taken = ap length are.at ∙ length-map are.taken (λ (t : TakenShare). t.position) in
     let sound = first.passes.1 in
-    let t : TakenShare = record { place = place; number = below; contents = sound.0; sections = sound.1 } in
+    let t : TakenShare = record { position = position; number = below; contents = sound.0; sections = sound.1 } in
     record {
       taken = are.taken ++ t ∷ [];
       lowest = more cap numbers strings below are.taken are.lowest (omega (arith, few, count)) t refl record { first = first; sound = sound.2 };
-      at = ap (λ ps. ps ++ place ∷ []) are.at ∙ sym (map-append (λ (u : TakenShare). u.place) are.taken (t ∷ []));
+      at = ap (λ ps. ps ++ position ∷ []) are.at ∙ sym (map-append (λ (u : TakenShare). u.position) are.taken (t ∷ []));
     }
 
 pub none_yet : (cap : VerifyCapValue) (numbers : List ℕ) (strings : List (List ℕ)) → AreLowestAt cap numbers strings 0 []
@@ -168,7 +168,7 @@ module _ (cap : VerifyCapValue) (numbers : List ℕ) (strings : List (List ℕ))
       let among : IsAmong t.number (numbers_of lacks.taken) =
       elim (lacks.lowest.others t.number (takes.lowest.low k any here)) [
         | inl there ↦ there
-        | inr (inl none) ↦ absurd (none t.place passes.inside passes.passes)
+        | inr (inl none) ↦ absurd (none t.position passes.inside passes.passes)
         | inr (inr full) ↦ absurd (let few = lacks.few in omega (arith, few, full.0))
       ] in
       subst (λ n. IsAmong n (numbers_of lacks.taken)) (sym is) among
@@ -186,10 +186,10 @@ lacks_or_takes : (cap : VerifyCapValue) (numbers : List ℕ) (strings : List (Li
 lacks_or_takes cap numbers strings [] lacks takes = let few = lacks.few in omega (arith, few, takes.enough)
 lacks_or_takes cap numbers strings (t ∷ ts) lacks takes = too_few cap numbers strings (t ∷ ts) lacks takes t
 
--- so where a reader finds places enough
-pub enough_places : (cap : VerifyCapValue) (numbers : List ℕ) (strings : List (List ℕ)) (places : List ℕ)
-    → AreLowestAt cap numbers strings cap.total places → cap.needed ≤ length places → ¬ LacksShares cap numbers strings
-enough_places cap numbers strings places are enough lacks =
-    let count : length places ≡ length are.taken = ap length are.at ∙ length-map are.taken (λ (t : TakenShare). t.place) in
+-- so where a reader finds positions enough
+pub enough_positions : (cap : VerifyCapValue) (numbers : List ℕ) (strings : List (List ℕ)) (positions : List ℕ)
+    → AreLowestAt cap numbers strings cap.total positions → cap.needed ≤ length positions → ¬ LacksShares cap numbers strings
+enough_positions cap numbers strings positions are enough lacks =
+    let count : length positions ≡ length are.taken = ap length are.at ∙ length-map are.taken (λ (t : TakenShare). t.position) in
     let most = are.lowest.few in
     lacks_or_takes cap numbers strings are.taken lacks record { lowest = are.lowest; enough = omega (arith, enough, count, most) }

@@ -55,13 +55,13 @@ module _ (g : Geometry) (key ciphertext : List ℕ) (shape : IsShape g.needed g.
   abbrev pub sections : ℕ → Sections
   sections i = sections_of g (segments_of g ciphertext) (ueb_text contents) i
 
-  -- the one at a place is sound
-  pub own_sound : (place : ℕ) → place < length numbers
-      → IsSound verify_cap (get_or numbers place 0) (get_or strings place []) contents (sections (get_or numbers place 0))
-  own_sound place inside =
-      let i : ℕ = get_or numbers place 0 in
-      let low = own.below place 0 inside in
-      subst (λ s. IsSound verify_cap i s contents (sections i)) (sym (own.own place inside))
+  -- the one at a position is sound
+  pub own_sound : (position : ℕ) → position < length numbers
+      → IsSound verify_cap (get_or numbers position 0) (get_or strings position []) contents (sections (get_or numbers position 0))
+  own_sound position inside =
+      let i : ℕ = get_or numbers position 0 in
+      let low = own.below position 0 inside in
+      subst (λ s. IsSound verify_cap i s contents (sections i)) (sym (own.own position inside))
       (ciphertext_shares_pass g key ciphertext shape whole i (omega (arith, low, total_is g key ciphertext)))
 
   -- what a share that is taken says
@@ -73,11 +73,11 @@ module _ (g : Geometry) (key ciphertext : List ℕ) (shape : IsShape g.needed g.
   pub taken_is : (t : TakenShare) → IsTaken verify_cap numbers strings t → IsOwn t
   taken_is t taken =
       let same = taken.first.passes.0 in
-      let place : ℕ = t.place in
-      let low = own.below place 0 taken.first.inside in
-      let sound : IsSound verify_cap t.number (get_or strings place []) contents (sections t.number) =
-      subst (λ i. IsSound verify_cap i (get_or strings place []) contents (sections i)) same (own_sound place taken.first.inside) in
-      let way = one_way verify_cap t.number t.number (get_or strings place []) contents t.contents (sections t.number) t.sections sound taken.sound in
+      let position : ℕ = t.position in
+      let low = own.below position 0 taken.first.inside in
+      let sound : IsSound verify_cap t.number (get_or strings position []) contents (sections t.number) =
+      subst (λ i. IsSound verify_cap i (get_or strings position []) contents (sections i)) same (own_sound position taken.first.inside) in
+      let way = one_way verify_cap t.number t.number (get_or strings position []) contents t.contents (sections t.number) t.sections sound taken.sound in
       record { number = omega (arith, low, same, total_is g key ciphertext); contents_are = way.0; sections_are = way.1 }
 
   -- where so many different numbers are there, a reader does not lack shares

@@ -53,17 +53,17 @@ first_lacks f m ms n low high other =
     ]
 
 -- the hash at a number that stands among others
-pub carried_at : (f : ℕ → List ℕ) (numbers : List ℕ) (place n : ℕ) → ((k : ℕ) → k < length numbers → get_or numbers k 0 < 2 ^ 16)
-    → place < length numbers → get_or numbers place 0 ≡ n → carried_hash (map (entry_of f) numbers) n ≡ Some (f n)
-carried_at f [] place n small there is = absurd (omega arith)
+pub carried_at : (f : ℕ → List ℕ) (numbers : List ℕ) (position n : ℕ) → ((k : ℕ) → k < length numbers → get_or numbers k 0 < 2 ^ 16)
+    → position < length numbers → get_or numbers position 0 ≡ n → carried_hash (map (entry_of f) numbers) n ≡ Some (f n)
+carried_at f [] position n small there is = absurd (omega arith)
 carried_at f (m ∷ ms) zero n small there is = subst (λ (k : ℕ). carried_hash (map (entry_of f) (m ∷ ms)) k ≡ Some (f k)) is (first_has f m ms)
-carried_at f (m ∷ ms) (suc place) n small there is =
+carried_at f (m ∷ ms) (suc position) n small there is =
     elim (cases_eq m n) [
       | inl same ↦ subst (λ (k : ℕ). carried_hash (map (entry_of f) (m ∷ ms)) k ≡ Some (f k)) same (first_has f m ms)
       | inr other ↦
-          let high : n < 2 ^ 16 = subst (λ (k : ℕ). k < 2 ^ 16) is (small (suc place) there) in
+          let high : n < 2 ^ 16 = subst (λ (k : ℕ). k < 2 ^ 16) is (small (suc position) there) in
           first_lacks f m ms n (small 0 (omega arith)) high other
-          ∙ carried_at f ms place n (λ k below. small (suc k) (omega arith)) (omega arith) is
+          ∙ carried_at f ms position n (λ k below. small (suc k) (omega arith)) (omega arith) is
     ]
 
 -- entries, one after another
@@ -106,17 +106,17 @@ entries_carry f (n ∷ ns) hashes =
 
 -- where the numbers of a leaf and of its siblings stand among those that it needs
 pub record Stands (numbers : List ℕ) (n : ℕ) : Type 0 where
-  pub place : ℕ
-  pub there : place < length numbers
-  pub is : get_or numbers place 0 ≡ n
+  pub position : ℕ
+  pub there : position < length numbers
+  pub is : get_or numbers position 0 ≡ n
 
 own_stands : (m leaf : ℕ) → leaf < 2 ^ m → Stands (needed_numbers m leaf) (node_number m leaf)
-own_stands zero leaf inside = record { place = 0; there = omega arith; is = omega arith }
+own_stands zero leaf inside = record { position = 0; there = omega arith; is = omega arith }
 own_stands (suc m) leaf inside =
     let size = length-needed_numbers (suc m) leaf in
     elim (cases_eq (leaf % 2) 0) [
-      | inl even ↦ record { place = m; there = omega (arith, size); is = needed_left (suc m) leaf m (omega arith) ∙ omega arith }
-      | inr odd ↦ record { place = suc m; there = omega (arith, size); is = needed_right (suc m) leaf (suc m) (omega arith) refl ∙ omega (arith, pow_pos (suc m)) }
+      | inl even ↦ record { position = m; there = omega (arith, size); is = needed_left (suc m) leaf m (omega arith) ∙ omega arith }
+      | inr odd ↦ record { position = suc m; there = omega (arith, size); is = needed_right (suc m) leaf (suc m) (omega arith) refl ∙ omega (arith, pow_pos (suc m)) }
     ]
 
 sibling_stands : (m leaf i : ℕ) → i < m → leaf < 2 ^ m → Stands (needed_numbers m leaf) (sibling_number m leaf i)
@@ -128,21 +128,21 @@ sibling_stands (suc m) leaf zero low inside =
     elim (cases_eq (leaf % 2) 0) [
       | inl even ↦
           let other : sibling leaf ≡ leaf + 1 = rw even refl in
-          record { place = suc m; there = omega (arith, size); is = needed_right (suc m) leaf (suc m) (omega arith) refl ∙ rw (whole, other, top) (omega (arith, pow_pos (suc m))) }
+          record { position = suc m; there = omega (arith, size); is = needed_right (suc m) leaf (suc m) (omega arith) refl ∙ rw (whole, other, top) (omega (arith, pow_pos (suc m))) }
       | inr odd ↦
           let one : leaf % 2 ≡ 1 = omega arith in
           let other : sibling leaf ≡ leaf - 1 = rw one refl in
-          record { place = m; there = omega (arith, size); is = needed_left (suc m) leaf m (omega arith) ∙ rw (whole, other, top) (omega arith) }
+          record { position = m; there = omega (arith, size); is = needed_left (suc m) leaf m (omega arith) ∙ rw (whole, other, top) (omega arith) }
     ]
 sibling_stands (suc m) leaf (suc i) low inside =
     let size = length-needed_numbers (suc m) leaf in
-    let place : ℕ = m - suc i in
-    let row : place + 1 ≡ suc m - suc i = omega arith in
-    let above : suc m - (place + 1) ≡ suc i = omega arith in
+    let position : ℕ = m - suc i in
+    let row : position + 1 ≡ suc m - suc i = omega arith in
+    let above : suc m - (position + 1) ≡ suc i = omega arith in
     record {
-      place = place;
+      position = position;
       there = omega (arith, size);
-      is = needed_above (suc m) leaf place (omega arith) ∙ (λ j. 2 ^ row j - 1 + sibling (leaf / 2 ^ above j));
+      is = needed_above (suc m) leaf position (omega arith) ∙ (λ j. 2 ^ row j - 1 + sibling (leaf / 2 ^ above j));
     }
 
 -- the numbers are those of nodes
@@ -158,8 +158,8 @@ needed_below (suc m) leaf k inside below =
           let rows : ℕ = suc m - (k + 1) in
           let sum : k + 1 + rows ≡ suc m = omega arith in
           let within : leaf < 2 ^ (k + 1 + rows) = rw sum inside in
-          let place = sibling_below (k + 1) (leaf / 2 ^ rows) (omega arith) (shr_below leaf (k + 1) rows within) in
-          omega (arith, needed_above (suc m) leaf k (omega arith), node_below (k + 1) (suc m) (sibling (leaf / 2 ^ rows)) (omega arith) place)
+          let position = sibling_below (k + 1) (leaf / 2 ^ rows) (omega arith) (shr_below leaf (k + 1) rows within) in
+          omega (arith, needed_above (suc m) leaf k (omega arith), node_below (k + 1) (suc m) (sibling (leaf / 2 ^ rows)) (omega arith) position)
       | inr last ↦ elim (cases_eq k m) [
         | inl left ↦ omega (arith, needed_left (suc m) leaf k (omega arith), node_below (suc m) (suc m) (leaf / 2 * 2) (omega arith) (omega arith))
         | inr right ↦
@@ -191,7 +191,7 @@ module _ (leaves : List (List ℕ)) (leaf : ℕ) (hashes : AreHashes leaves) (in
       let f : ℕ → List ℕ = λ k. get_or (tree_nodes leaves) k [] in
       let width = pow-le-pow_right {n = 2} (omega arith) {i = m} {j = 8} (height_below (length leaves) 8 few) in
       let small : (k : ℕ) → k < length numbers → get_or numbers k 0 < 2 ^ 16 = λ k below. omega (arith, needed_below m leaf k within below, width) in
-      ap (λ (l : List (List ℕ)). carried_hash l n) (entries_are f numbers needed_hashes) ∙ carried_at f numbers stands.place n small stands.there stands.is
+      ap (λ (l : List (List ℕ)). carried_hash l n) (entries_are f numbers needed_hashes) ∙ carried_at f numbers stands.position n small stands.there stands.is
 
   pub siblings_found : (i : ℕ) → i < height (length leaves)
       → carried_hash (entries_in (share_hashes leaves leaf)) (sibling_number (height (length leaves)) leaf i) ≡ Some (get_or (siblings_of leaves leaf) i [])

@@ -55,7 +55,7 @@ module _ (g : Geometry) (key ciphertext : List ℕ) (shape : IsShape g.needed g.
   IsTakenHere t = IsTaken (verify_cap g key ciphertext shape whole numbers strings own) numbers strings t
 
   abbrev no_share : TakenShare
-  no_share = record { place = 0; number = 0; contents = said; sections = sections_at 0 }
+  no_share = record { position = 0; number = 0; contents = said; sections = sections_at 0 }
 
   sections_of_taken : (t : TakenShare) → IsTakenHere t → sections_at t.number ≡ t.sections
   sections_of_taken t taken = (taken_is g key ciphertext shape whole numbers strings own t taken).sections_are
@@ -126,7 +126,7 @@ module _ (g : Geometry) (key ciphertext : List ℕ) (shape : IsShape g.needed g.
   pub agrees : ¬ AreInconsistent (verify_cap g key ciphertext shape whole numbers strings own) numbers strings
   agrees (disagree taken takes d) =
       let each = takes.lowest.each in
-      let here = ap (λ (s : Sections). s.extension_block) (sections_of_taken (get_or taken d.place d.lowest) (each d.place d.lowest d.there)) in
+      let here = ap (λ (s : Sections). s.extension_block) (sections_of_taken (get_or taken d.position d.lowest) (each d.position d.lowest d.there)) in
       let enough : length taken ≡ g.needed = takes.enough ∙ needed_is g key ciphertext in
       let first = ap (λ (s : Sections). s.extension_block) (sections_of_taken d.lowest (first_taken taken each enough d.lowest d.rest d.is)) in
       d.differs (sym here ∙ first)

@@ -77,7 +77,7 @@ module _ (inputs : List (List ℕ)) (no_clash : HasNoClash inputs) (g : Geometry
   cap = verify_cap_of (ciphertext_encoding g key ciphertext).cap
 
   abbrev no_share : TakenShare
-  no_share = record { place = 0; number = 0; contents = said; sections = sections_of g segments block 0 }
+  no_share = record { position = 0; number = 0; contents = said; sections = sections_of g segments block 0 }
 
   few : g.needed ≤ 256
   few = omega (arith, shape.file.enough, shape.file.shares)
@@ -94,10 +94,10 @@ module _ (inputs : List (List ℕ)) (no_clash : HasNoClash inputs) (g : Geometry
 
     -- each share that is taken is the encoding's
     own : (k : ℕ) → k < length taken
-        → IsOwnShare g key ciphertext (get_or taken k no_share).number (get_or strings (get_or taken k no_share).place []) (get_or taken k no_share).contents (get_or taken k no_share).sections
+        → IsOwnShare g key ciphertext (get_or taken k no_share).number (get_or strings (get_or taken k no_share).position []) (get_or taken k no_share).contents (get_or taken k no_share).sections
     own k below =
         let t = get_or taken k no_share in
-        shares_are_bound inputs no_clash g key ciphertext shape whole mine t.number (get_or strings t.place []) t.contents t.sections
+        shares_are_bound inputs no_clash g key ciphertext shape whole mine t.number (get_or strings t.position []) t.contents t.sections
         record {
           sound = (takes.lowest.each k no_share below).sound;
           among = λ x c. among taken takes x (one_among taken k no_share x below c);
@@ -218,8 +218,8 @@ module _ (inputs : List (List ℕ)) (no_clash : HasNoClash inputs) (g : Geometry
       let blocks_of_shares : (k : ℕ) → k < length taken → (get_or taken k no_share).sections.extension_block ≡ block =
       λ k below. ap (λ (s : Sections). s.extension_block) (own taken takes k below).sections in
       let first : get_or taken 0 no_share ≡ d.lowest = ap (λ (l : List TakenShare). get_or l 0 no_share) d.is in
-      let at : get_or taken d.place d.lowest ≡ get_or taken d.place no_share = same_default taken d.place d.lowest no_share d.there in
-      d.differs (ap (λ (t : TakenShare). t.sections.extension_block) at ∙ blocks_of_shares d.place d.there
+      let at : get_or taken d.position d.lowest ≡ get_or taken d.position no_share = same_default taken d.position d.lowest no_share d.there in
+      d.differs (ap (λ (t : TakenShare). t.sections.extension_block) at ∙ blocks_of_shares d.position d.there
       ∙ sym (blocks_of_shares 0 (some taken takes)) ∙ ap (λ (t : TakenShare). t.sections.extension_block) first) where
         same_default : (ts : List TakenShare) (k : ℕ) (a b : TakenShare) → k < length ts → get_or ts k a ≡ get_or ts k b
         same_default [] k a b below = absurd (omega (arith, below))

@@ -55,8 +55,8 @@ low_is (suc m) leaf k low inside =
           let rows : ℕ = suc m - (k + 1) in
           let sum : k + 1 + rows ≡ suc m = omega arith in
           let within : leaf < 2 ^ (k + 1 + rows) = rw sum inside in
-          let place = sibling_below (k + 1) (leaf / 2 ^ rows) (omega arith) (shr_below leaf (k + 1) rows within) in
-          omega (arith, needed_above (suc m) leaf k (omega arith), place)
+          let position = sibling_below (k + 1) (leaf / 2 ^ rows) (omega arith) (shr_below leaf (k + 1) rows within) in
+          omega (arith, needed_above (suc m) leaf k (omega arith), position)
       | inr last ↦
           let here : k ≡ m = omega arith in
           let row : 2 ^ (k + 1) ≡ 2 ^ suc m = ap (λ (j : ℕ). 2 ^ j) (omega arith) in
@@ -109,9 +109,9 @@ needed_are_numbers m leaf inside few = record {
         | beside i low is ↦
             let sum : m - i + i ≡ m = omega (arith, low) in
             let within : leaf < 2 ^ (m - i + i) = rw sum inside in
-            let place = sibling_below (m - i) (leaf / 2 ^ i) (omega (arith, low)) (shr_below leaf (m - i) i within) in
+            let position = sibling_below (m - i) (leaf / 2 ^ i) (omega (arith, low)) (shr_below leaf (m - i) i within) in
             let row : 2 ^ (m - i) ≤ 2 ^ m = pow-le-pow_right {n = 2} (omega arith) {i = m - i} {j = m} (omega arith) in
-            omega (arith, is, place, row, width)
+            omega (arith, is, position, row, width)
       ];
   rising = needed_rise m leaf inside;
 }

@@ -17,5 +17,5 @@ bytes_in w = unwrap_or w.contents []
 -- they are the share's first bytes, with all of its header
 pub record HasHeader (w : Writing) : Type 0 where
   pub known : w.contents ≡ Some (bytes_in w)
-  pub place : w.place ≡ length (bytes_in w)
-  pub header : header_size (layout_of w.geometry) ≤ w.place
+  pub offset : w.offset ≡ length (bytes_in w)
+  pub header : header_size (layout_of w.geometry) ≤ w.offset

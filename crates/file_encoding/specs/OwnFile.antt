@@ -11,8 +11,8 @@ use Rattle.file_encoding.specs.Reading.{AreInconsistent, IsAmong, IsReadFrom, La
 pub record AreOwnShares (e : Encoding) (numbers : List ℕ) (strings : List (List ℕ)) : Type 0 where
   pub counted : length strings ≡ length numbers
   pub below : All (λ n. n < e.cap.total) numbers
-  pub own : (place : ℕ) → place < length numbers → slice_index_or strings place []
-      ≡ slice_index_or e.shares (slice_index numbers place) []
+  pub own : (position : ℕ) → position < length numbers → slice_index_or strings position []
+      ≡ slice_index_or e.shares (slice_index numbers position) []
 
 -- there are so many different numbers among these
 pub record HoldDifferent (count : ℕ) (numbers : List ℕ) : Type 0 where

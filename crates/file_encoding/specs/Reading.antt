@@ -17,46 +17,47 @@ use Rattle.proved_parts.specs.FileOf.{IsFileOf}
 
 -- a share that a reader takes: where it stands among the strings, its number, and what it says
 pub record TakenShare : Type 0 where
-  pub place : ℕ
+  pub position : ℕ
   pub number : ℕ
   pub contents : Contents
   pub sections : Sections
 
--- Strings come with the numbers of the shares that they are said to be. The one at this place comes
--- with this number, and passes every check as that share.
+-- Strings come with the numbers of the shares that they are said to be. The one at this position
+-- comes with this number, and passes every check as that share.
 abbrev pub IsSoundAt : VerifyCapValue → List ℕ → List (List ℕ) → ℕ → ℕ → Type 0
-IsSoundAt cap numbers strings number place =
-    (slice_index numbers place ≡ number) × IsSoundShare cap number (slice_index_or strings place [])
+IsSoundAt cap numbers strings number position =
+    (slice_index numbers position ≡ number) × IsSoundShare cap number
+    (slice_index_or strings position [])
 
 -- it is the first such one
 pub record IsFirstSound (cap : VerifyCapValue) (numbers : List ℕ) (strings : List (List ℕ))
-    (number place : ℕ) : Type 0 where
-  pub inside : place < length numbers
-  pub passes : IsSoundAt cap numbers strings number place
-  pub first : (other : ℕ) → other < place → ¬ IsSoundAt cap numbers strings number other
+    (number position : ℕ) : Type 0 where
+  pub inside : position < length numbers
+  pub passes : IsSoundAt cap numbers strings number position
+  pub first : (other : ℕ) → other < position → ¬ IsSoundAt cap numbers strings number other
 
 -- that one is taken, and says this
 pub record IsTaken (cap : VerifyCapValue) (numbers : List ℕ) (strings : List (List ℕ))
     (t : TakenShare) : Type 0 where
-  pub first : IsFirstSound cap numbers strings t.number t.place
-  pub sound : IsSound cap t.number (slice_index_or strings t.place []) t.contents t.sections
+  pub first : IsFirstSound cap numbers strings t.number t.position
+  pub sound : IsSound cap t.number (slice_index_or strings t.position []) t.contents t.sections
 
 -- no string with this number passes
 abbrev pub NoneSound : VerifyCapValue → List ℕ → List (List ℕ) → ℕ → Type 0
-NoneSound cap numbers strings number = (place : ℕ) → place < length numbers
-    → ¬ IsSoundAt cap numbers strings number place
+NoneSound cap numbers strings number = (position : ℕ) → position < length numbers
+    → ¬ IsSoundAt cap numbers strings number position
 
 -- the numbers of the shares that are taken
 abbrev pub numbers_of : List TakenShare → List ℕ
 numbers_of taken = map (λ (t : TakenShare). t.number) taken
 
 -- and where they stand
-abbrev pub places_of : List TakenShare → List ℕ
-places_of taken = map (λ (t : TakenShare). t.place) taken
+abbrev pub offsets_of : List TakenShare → List ℕ
+offsets_of taken = map (λ (t : TakenShare). t.position) taken
 
 abbrev pub IsAmong : ℕ → List ℕ → Type 0
-IsAmong number numbers = (place : ℕ) × (place < length numbers) ×
-    (slice_index numbers place ≡ number)
+IsAmong number numbers = (position : ℕ) × (position < length numbers) ×
+    (slice_index numbers position ≡ number)
 
 abbrev pub AreRising : List ℕ → Type 0
 AreRising numbers = (low high : ℕ) → low < high → high < length numbers
@@ -127,9 +128,9 @@ pub record Disagree (taken : List TakenShare) : Type 0 where
   pub lowest : TakenShare
   pub rest : List TakenShare
   pub is : taken ≡ lowest ∷ rest
-  pub place : ℕ
-  pub there : place < length taken
-  pub differs : ¬ ((slice_index_or taken place lowest).sections.extension_block
+  pub position : ℕ
+  pub there : position < length taken
+  pub differs : ¬ ((slice_index_or taken position lowest).sections.extension_block
       ≡ lowest.sections.extension_block)
 
 -- the leaves of the ciphertext tree in the share that was taken first, one for each segment

@@ -67,15 +67,15 @@ pub record PassDifferent (cap : VerifyCapValue) (numbers : List ℕ) (strings : 
   pub some : List ℕ
   pub counted : length some ≡ count
   pub distinct : AreDistinct some
-  pub pass : All (λ n. (place : ℕ) × (place < length numbers)
-      × IsSoundAt cap numbers strings n place) some
+  pub pass : All (λ n. (position : ℕ) × (position < length numbers)
+      × IsSoundAt cap numbers strings n position) some
 
 -- a law: where as many numbers pass as are needed, shares are not lacking
 abbrev pub EnoughPass : Type 0
 EnoughPass = (cap : VerifyCapValue) (numbers : List ℕ) (strings : List (List ℕ))
     → PassDifferent cap numbers strings cap.needed → ¬ LacksShares cap numbers strings
 
--- these strings pass, each with the number that stands at its place, and the numbers rise
+-- these strings pass, each with the number that stands at its position, and the numbers rise
 pub record AllPass (cap : VerifyCapValue) (numbers : List ℕ) (strings : List (List ℕ)) : Type 0
   where
     pub rising : AreRising numbers

@@ -6,7 +6,7 @@ ghost use Rattle.std.specs.Prelude.{IsErrOf, IsTrue};
 ghost use Rattle.cap_text.specs.Cap.{VerifyCapValue};
 ghost use Rattle.ueb.specs.Limits.{max_length};
 ghost use Rattle.share_layout.specs.Geometry.{segment_count};
-ghost use Rattle.share_layout.specs.Places.{LocatesUeb};
+ghost use Rattle.share_layout.specs.Offsets.{LocatesUeb};
 ghost use Rattle.share_layout.specs.Share.{IsShare, Sections};
 ghost use Rattle.file_encoding.specs.Decoded.{IsDecodedFrom, decoded_state};
 ghost use Rattle.file_encoding.specs.Decoding.{AreBlocks};
@@ -81,24 +81,24 @@ pub fn decode_shares(
     ensures inconsistent { IsErrOf result ReadError.Inconsistent
         → AreInconsistent cap.now (map (λ s. s.0) shares.now) (map (λ s. s.1.now) shares.now) }
 {
-    let places = take_lowest(alloc, cap, shares)?;
-    if places.len() < usize::from(cap.needed()) {
+    let positions = take_lowest(alloc, cap, shares)?;
+    if positions.len() < usize::from(cap.needed()) {
         return Err(ReadError::NotEnoughShares);
     }
-    decode_taken(alloc, cap, shares, &places)
+    decode_taken(alloc, cap, shares, &positions)
 }
 
-// The text of the shares at these places, which are as many as are needed.
+// The text of the shares at these positions, which are as many as are needed.
 fn decode_taken(
     alloc: Global,
     cap: &VerifyCap,
     shares: &[(u16, &[u8])],
-    places: &[usize],
+    positions: &[usize],
 ) -> Result<DecodedFile, ReadError>
     requires takes { TakesAt cap.now (map (λ s. s.0) shares.now) (map (λ s. s.1.now) shares.now)
-        places.now }
-    requires some { 0 < length places.now }
-    requires inside { All (λ p. p < length shares.now) places.now }
+        positions.now }
+    requires some { 0 < length positions.now }
+    requires inside { All (λ p. p < length shares.now) positions.now }
     ensures decoded { IfOk result (λ file. IsDecodedFrom cap.now (map (λ s. s.0) shares.now)
         (map (λ s. s.1.now) shares.now) file) }
     ensures inconsistent { IsErrOf result ReadError.Inconsistent
@@ -106,15 +106,15 @@ fn decode_taken(
     ensures no_other { IfErr result (λ e. (e ≡ ReadError.OutOfMemory)
         ⊎ (e ≡ ReadError.Inconsistent)) }
 {
-    let (number, string) = shares[places[0]];
+    let (number, string) = shares[positions[0]];
     let Ok(first) = read_share(cap, number, string) else {
         unreachable!();
     };
     let view = first.view;
-    if !agree(shares, places, view.extension_block) {
+    if !agree(shares, positions, view.extension_block) {
         return Err(ReadError::Inconsistent);
     }
-    let blocks = all_blocks(alloc, shares, places, &first.geometry)?;
+    let blocks = all_blocks(alloc, shares, positions, &first.geometry)?;
     let leaves = leaves_in(view.ciphertext_tree, first.geometry.segment_count());
     let root = first.ueb.share_root_hash();
     decode_blocks(
@@ -159,18 +159,18 @@ fn decode_blocks(
     })
 }
 
-// Whether the shares at these places have this extension block.
-fn agree(shares: &[(u16, &[u8])], places: &[usize], extension_block: &[u8]) -> bool
-    requires { All (λ p. p < length shares.now) places.now }
-    ensures yes { IsTrue result → (m : ℕ) → m < length places.now → (block : List ℕ)
+// Whether the shares at these positions have this extension block.
+fn agree(shares: &[(u16, &[u8])], positions: &[usize], extension_block: &[u8]) -> bool
+    requires { All (λ p. p < length shares.now) positions.now }
+    ensures yes { IsTrue result → (m : ℕ) → m < length positions.now → (block : List ℕ)
         → LocatesUeb (slice_index_or (map (λ s. s.1.now) shares.now)
-        (slice_index places.now m) []) block → extension_block.now ≡ block }
-    ensures no { result ≡ false → (m : ℕ) × (m < length places.now)
+        (slice_index positions.now m) []) block → extension_block.now ≡ block }
+    ensures no { result ≡ false → (m : ℕ) × (m < length positions.now)
         × ¬ LocatesUeb (slice_index_or (map (λ s. s.1.now) shares.now)
-        (slice_index places.now m) []) extension_block.now }
+        (slice_index positions.now m) []) extension_block.now }
 {
-    for place in places {
-        let (_, string) = shares[*place];
+    for position in positions {
+        let (_, string) = shares[*position];
         if !has_block(string, extension_block) {
             return false;
         }
@@ -190,24 +190,25 @@ fn has_block(share: &[u8], extension_block: &[u8]) -> bool
     }
 }
 
-// The blocks of the shares at these places, each with its share's number.
+// The blocks of the shares at these positions, each with its share's number.
 fn all_blocks<'a>(
     alloc: Global,
     shares: &[(u16, &'a [u8])],
-    places: &[usize],
+    positions: &[usize],
     geometry: &Geometry,
 ) -> Result<Vec<(u16, &'a [u8])>, AllocError>
-    requires inside { All (λ p. p < length shares.now) places.now }
-    requires readable { (m : ℕ) → m < length places.now → (s : Sections)
-        × IsShare geometry.now (slice_index (map (λ s. s.0) shares.now) (slice_index places.now m))
-        (slice_index_or (map (λ s. s.1.now) shares.now) (slice_index places.now m) []) s }
+    requires inside { All (λ p. p < length shares.now) positions.now }
+    requires readable { (m : ℕ) → m < length positions.now → (s : Sections)
+        × IsShare geometry.now (slice_index (map (λ s. s.0) shares.now)
+        (slice_index positions.now m))
+        (slice_index_or (map (λ s. s.1.now) shares.now) (slice_index positions.now m) []) s }
     ensures { IfOk result (λ blocks. HaveBlocks geometry.now (map (λ s. s.0) shares.now)
-        (map (λ s. s.1.now) shares.now) places.now
+        (map (λ s. s.1.now) shares.now) positions.now
         (map (λ s. s.0) blocks.items) (map (λ s. s.1.now) blocks.items)) }
 {
-    let mut blocks = Vec::with_capacity(alloc, places.len())?;
-    for place in places {
-        let (number, string) = shares[*place];
+    let mut blocks = Vec::with_capacity(alloc, positions.len())?;
+    for position in positions {
+        let (number, string) = shares[*position];
         blocks.push((number, share_blocks(string, number, geometry)))?;
     }
     Ok(blocks)

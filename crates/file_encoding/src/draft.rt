@@ -2,11 +2,11 @@
 
 ghost use Rattle.std.specs.Prelude.{◌≡◌, ◌+◌, ◌≤◌, ◌<◌, ◌++◌, length, IfOk, OnOk};
 ghost use Rattle.ueb.specs.Limits.{max_length};
-ghost use Rattle.share_layout.specs.Layout.{header, places_of};
+ghost use Rattle.share_layout.specs.Layout.{header, offsets_of};
 ghost use Rattle.share_layout.specs.Writing.{ending};
 
 use crate::share::Share;
-use share_layout::{Geometry, Places, ShareWriter};
+use share_layout::{Geometry, Offsets, ShareWriter};
 use std::alloc::{AllocError, Global};
 use std::marker::Model;
 use ueb::MAX_LENGTH;
@@ -71,7 +71,7 @@ impl Draft {
     /// Writes the next bytes of the sections before the extension block, which have room for them.
     pub(crate) fn put(&mut self, bytes: &[u8]) -> Result<(), AllocError>
         requires { length self.old.bytes + length bytes.now
-            ≤ (places_of self.old.geometry).extension_block }
+            ≤ (offsets_of self.old.geometry).extension_block }
         ensures { OnOk result (self.new ≡ record self.old {
           bytes = self.old.bytes ++ bytes.now;
         }) }
@@ -84,7 +84,7 @@ impl Draft {
 
     /// The share whose other sections are written, with its extension block.
     pub(crate) fn finish(self, extension_block: &[u8]) -> Result<Share, AllocError>
-        requires last { length self.bytes ≡ (places_of self.geometry).extension_block }
+        requires last { length self.bytes ≡ (offsets_of self.geometry).extension_block }
         requires short { length extension_block.now ≤ max_length }
         ensures { IfOk result (λ share.
             share ≡ self.bytes ++ ending self.geometry extension_block.now) }
@@ -103,12 +103,12 @@ pub(crate) struct Begun {
     pub draft: Draft,
     pub root: [u8; 32],
     // The share hashes are written next.
-    ghost next: { length draft.bytes ≡ (places_of draft.geometry).share_hashes },
+    ghost next: { length draft.bytes ≡ (offsets_of draft.geometry).share_hashes },
     ghost in_range: { draft.number < draft.geometry.total },
 }
 
 // The greatest length of a share, in bytes.
 fn room(geometry: &Geometry) -> usize {
-    let places = Places::of(geometry);
-    places.extension_block as usize + places.layout.width() + MAX_LENGTH
+    let offsets = Offsets::of(geometry);
+    offsets.extension_block as usize + offsets.layout.width() + MAX_LENGTH
 }

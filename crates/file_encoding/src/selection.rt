@@ -18,14 +18,14 @@ pub(crate) fn take_lowest(
     cap: &VerifyCap,
     shares: &[(u16, &[u8])],
 ) -> Result<Vec<usize>, AllocError>
-    ensures { IfOk result (λ places. AreLowestAt cap.now (map (λ s. s.0) shares.now)
-        (map (λ s. s.1.now) shares.now) cap.now.total places.items) }
+    ensures { IfOk result (λ positions. AreLowestAt cap.now (map (λ s. s.0) shares.now)
+        (map (λ s. s.1.now) shares.now) cap.now.total positions.items) }
 {
-    let mut places = Vec::with_capacity(alloc, usize::from(cap.needed()))?;
+    let mut positions = Vec::with_capacity(alloc, usize::from(cap.needed()))?;
     for number in 0..cap.total() {
-        take_number(cap, number, shares, &mut places)?;
+        take_number(cap, number, shares, &mut positions)?;
     }
-    Ok(places)
+    Ok(positions)
 }
 
 // Takes the first string with this number that passes every check, where one more share is needed.
@@ -33,44 +33,44 @@ fn take_number(
     cap: &VerifyCap,
     number: u16,
     shares: &[(u16, &[u8])],
-    places: &mut Vec<usize>,
+    positions: &mut Vec<usize>,
 ) -> Result<(), AllocError>
     requires { AreLowestAt cap.now (map (λ s. s.0) shares.now)
-        (map (λ s. s.1.now) shares.now) number places.old.items }
+        (map (λ s. s.1.now) shares.now) number positions.old.items }
     ensures { OnOk result (AreLowestAt cap.now (map (λ s. s.0) shares.now)
-        (map (λ s. s.1.now) shares.now) (number + 1) places.new.items) }
+        (map (λ s. s.1.now) shares.now) (number + 1) positions.new.items) }
 {
-    if places.len() >= usize::from(cap.needed()) {
+    if positions.len() >= usize::from(cap.needed()) {
         return Ok(());
     }
-    if let Some(place) = first_sound(cap, number, shares) {
-        places.push(place)?;
+    if let Some(position) = first_sound(cap, number, shares) {
+        positions.push(position)?;
     }
     Ok(())
 }
 
-// The place of the first string with this number that passes every check.
+// The position of the first string with this number that passes every check.
 fn first_sound(cap: &VerifyCap, number: u16, shares: &[(u16, &[u8])]) -> Option<usize>
-    ensures some { IfSome result (λ place. IsFirstSound cap.now (map (λ s. s.0) shares.now)
-        (map (λ s. s.1.now) shares.now) number place) }
+    ensures some { IfSome result (λ position. IsFirstSound cap.now (map (λ s. s.0) shares.now)
+        (map (λ s. s.1.now) shares.now) number position) }
     ensures none { IsNone result → NoneSound cap.now (map (λ s. s.0) shares.now)
         (map (λ s. s.1.now) shares.now) number }
 {
-    for place in 0..shares.len() {
-        if is_sound_at(cap, number, shares, place) {
-            return Some(place);
+    for position in 0..shares.len() {
+        if is_sound_at(cap, number, shares, position) {
+            return Some(position);
         }
     }
     None
 }
 
-// Whether the string at a place comes with this number, and passes every check as that share.
-fn is_sound_at(cap: &VerifyCap, number: u16, shares: &[(u16, &[u8])], place: usize) -> bool
-    requires { place < length shares.now }
+// Whether the string at a position comes with this number, and passes every check as that share.
+fn is_sound_at(cap: &VerifyCap, number: u16, shares: &[(u16, &[u8])], position: usize) -> bool
+    requires { position < length shares.now }
     ensures { IsTrue result ↔ IsSoundAt cap.now (map (λ s. s.0) shares.now)
-        (map (λ s. s.1.now) shares.now) number place }
+        (map (λ s. s.1.now) shares.now) number position }
 {
-    let (other, string) = shares[place];
+    let (other, string) = shares[position];
     other == number && is_sound(cap, number, string)
 }
 

@@ -9,7 +9,7 @@ ghost use Rattle.tagged_hash.specs.TaggedHash.{tagged_hash};
 ghost use Rattle.tagged_hash.specs.declared.tag.Tag.TheVariants.{Block};
 ghost use Rattle.ueb.specs.Limits.{max_length};
 ghost use Rattle.share_layout.specs.Geometry.{block_size, segment_count, tree_size};
-ghost use Rattle.share_layout.specs.Layout.{header_size, layout_of, places_of};
+ghost use Rattle.share_layout.specs.Layout.{header_size, layout_of, offsets_of};
 ghost use Rattle.share_verify.specs.Pieces.{block_hashes, joined};
 ghost use Rattle.file_encoding.specs.BegunFiles.{AreBegun};
 ghost use Rattle.file_encoding.specs.Blocks.{FitTogether, draft_of, finished, numbered};
@@ -77,7 +77,7 @@ impl<'a> Common<'a> {
               draft.old.number self.now.padded.now);
         }) }
         ensures size { OnOk result (length draft.new.bytes
-            ≡ (places_of self.now.geometry.now).unused) }
+            ≡ (offsets_of self.now.geometry.now).unused) }
         ensures tree { IfOk result (λ tree. tree ≡ block_hashes
             (padded_blocks self.now.geometry.now draft.old.number self.now.padded.now)) }
         ensures leaves { IfOk result (λ tree. length tree ≡ segment_count self.now.geometry.now) }
@@ -108,7 +108,7 @@ impl<'a> Common<'a> {
         requires whole { length segment.now % self.now.geometry.now.needed ≡ 0 }
         requires buffer { length segment.now / self.now.geometry.now.needed ≤ length buffer.old }
         requires room { length draft.old.bytes + length segment.now / self.now.geometry.now.needed
-            ≤ (places_of draft.old.geometry).extension_block }
+            ≤ (offsets_of draft.old.geometry).extension_block }
         ensures { OnOk result (draft.new ≡ record draft.old {
           bytes = draft.old.bytes ++ padded_block self.now.geometry.now.needed draft.old.number
               segment.now;
@@ -124,14 +124,14 @@ impl<'a> Common<'a> {
     fn put_trees(&self, block_tree: &Tree, draft: &mut Draft) -> Result<(), AllocError>
         requires geometry { draft.old.geometry ≡ self.now.geometry.now }
         requires leaves { length block_tree.now ≡ segment_count self.now.geometry.now }
-        requires next { length draft.old.bytes ≡ (places_of self.now.geometry.now).unused }
+        requires next { length draft.old.bytes ≡ (offsets_of self.now.geometry.now).unused }
         ensures trees { OnOk result (draft.new ≡ record draft.old {
           bytes = draft.old.bytes ++ replicate (tree_size self.now.geometry.now) 0
               ++ joined (tree_nodes self.now.ciphertext_tree.now)
               ++ joined (tree_nodes block_tree.now);
         }) }
         ensures size { OnOk result (length draft.new.bytes
-            ≡ (places_of self.now.geometry.now).share_hashes) }
+            ≡ (offsets_of self.now.geometry.now).share_hashes) }
     {
         draft.put(self.unused)?;
         put_tree(self.ciphertext_tree, draft)?;
@@ -143,7 +143,7 @@ impl<'a> Common<'a> {
 fn put_tree(tree: &Tree, draft: &mut Draft) -> Result<(), AllocError>
     requires leaves { length tree.now ≡ segment_count draft.old.geometry }
     requires room { length draft.old.bytes + tree_size draft.old.geometry
-        ≤ (places_of draft.old.geometry).extension_block }
+        ≤ (offsets_of draft.old.geometry).extension_block }
     ensures nodes { OnOk result (draft.new ≡ record draft.old {
       bytes = draft.old.bytes ++ joined (tree_nodes tree.now);
     }) }
@@ -237,7 +237,7 @@ fn put_numbered(nodes: &[[u8; 32]], numbers: &[u32], draft: &mut Draft) -> Resul
     requires inside { All (λ n. n < length nodes.now) numbers.now }
     requires few { length nodes.now ≤ 2 ^ 16 }
     requires room { length draft.old.bytes + length numbers.now * 34
-        ≤ (places_of draft.old.geometry).extension_block }
+        ≤ (offsets_of draft.old.geometry).extension_block }
     ensures bytes { OnOk result (draft.new ≡ record draft.old {
       bytes = draft.old.bytes ++ numbered nodes.now numbers.now;
     }) }

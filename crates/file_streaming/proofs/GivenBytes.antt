@@ -2,7 +2,7 @@
 use Rattle.std.proofs.Common.{◌≡◌, ℕ, ◌+◌, ◌*◌, ◌<◌, List, [], ◌∷◌, ◌++◌, length, get_or, Some, inl, inr, ap, sym, subst, ◌∙◌, arith}
 use Rattle.std.specs.Prelude.{slice_get}
 use Rattle.std.proofs.lemmas.Option.{slice_get-get_or, slice_get_within}
-use Rattle.lemmas.proofs.Places.{get_of, get_pushed}
+use Rattle.lemmas.proofs.Positions.{get_of, get_pushed}
 use Rattle.lemmas.proofs.Numbers.{next_power}
 use Rattle.merkle.specs.Tree.{height, node_count, tree_nodes}
 use Rattle.merkle.proofs.TreeLemmas.{length-tree_nodes}

@@ -52,18 +52,18 @@ segments-more g n size text s =
 -- a group more of a file
 pub segments-group : (g : Geometry) (key : List ℕ) (group : Group) (file text : List ℕ) (s : Gathered) → IsGroup g group → length file ≡ group.first * g.segment_size
     → gathered_segments g (pieces (group.first + group.count) g.segment_size (xored_from key 0 (file ++ text))) s
-    ≡ gathered_group g group (xored_from key group.place text) (gathered_segments g (pieces group.first g.segment_size (xored_from key 0 file)) s)
+    ≡ gathered_group g group (xored_from key group.offset text) (gathered_segments g (pieces group.first g.segment_size (xored_from key 0 file)) s)
 segments-group g key group file text s is long =
     let size : ℕ = g.segment_size in
     let front : List ℕ = xored_from key 0 file in
     let whole : length front ≡ group.first * size = length-xored_from key 0 file ∙ long in
-    let there : 0 + length file ≡ group.place = omega (arith, long, is.place) in
+    let there : 0 + length file ≡ group.offset = omega (arith, long, is.offset) in
     ap (λ (t : List ℕ). gathered_segments g (pieces (group.first + group.count) size t) s) (xored_from-append key 0 file text)
     ∙ ap (λ p. gathered_segments g (pieces (group.first + group.count) size (front ++ xored_from key p text)) s) there
-    ∙ ap (λ (l : List (List ℕ)). gathered_segments g l s) (pieces-append group.first group.count size front (xored_from key group.place text) whole)
-    ∙ segments-append g (pieces group.first size front) (pieces group.count size (xored_from key group.place text)) s
+    ∙ ap (λ (l : List (List ℕ)). gathered_segments g l s) (pieces-append group.first group.count size front (xored_from key group.offset text) whole)
+    ∙ segments-append g (pieces group.first size front) (pieces group.count size (xored_from key group.offset text)) s
 
--- ---- the places of a group's segments
+-- ---- the offsets of a group's segments
 
 some_at_once : (n : ℕ) → (0 < max (min n 8) 1) × (max (min n 8) 1 ≤ 8)
 some_at_once n = (omega arith, omega arith)
@@ -81,7 +81,7 @@ pub eight_lanes : (g : Geometry) → 8 * block_size g ≤ 8 * (at_once g * block
 eight_lanes g = some_times (at_once g) (block_size g) (few_at_once g).0
 
 -- what a group takes, and its segment of this number
-pub record HasPlace (g : Geometry) (group : Group) (i : ℕ) : Type 0 where
+pub record HasOffset (g : Geometry) (group : Group) (i : ℕ) : Type 0 where
   pub number : group.first + i < segment_count g
   pub few : group.count ≤ 8
   pub begins : i * g.segment_size < group.len
@@ -89,10 +89,10 @@ pub record HasPlace (g : Geometry) (group : Group) (i : ℕ) : Type 0 where
   pub fits : group.len ≤ 8 * g.segment_size
   pub whole : group.len ≤ group.count * g.segment_size
   pub left : min g.segment_size (group.len - i * g.segment_size) ≡ segment_length g (group.first + i)
-  pub file : group.place + group.len ≤ g.size
+  pub file : group.offset + group.len ≤ g.size
 
-pub has_place : (g : Geometry) (group : Group) (i : ℕ) → IsGroup g group → i < group.count → HasPlace g group i
-has_place g group i is low =
+pub has_offset : (g : Geometry) (group : Group) (i : ℕ) → IsGroup g group → i < group.count → HasOffset g group i
+has_offset g group i is low =
     let s : ℕ = g.segment_size in
     let number : group.first + i < segment_count g = omega (arith, low, is.count) in
     let few : group.count ≤ 8 = omega (arith, is.count, (few_at_once g).1) in
@@ -105,17 +105,17 @@ has_place g group i is low =
     record {
       number = number;
       few = few;
-      begins = omega (arith, is.long, is.place, before, split, next, more, some);
+      begins = omega (arith, is.long, is.offset, before, split, next, more, some);
       ends = omega (arith, next, more, eight);
       fits = omega (arith, is.long, eight);
       whole = omega (arith, is.long);
-      left = omega (arith, is.long, is.place, before, split, next, more);
-      file = omega (arith, is.long, is.place, before, split);
+      left = omega (arith, is.long, is.offset, before, split, next, more);
+      file = omega (arith, is.long, is.offset, before, split);
     }
 
 -- so many segments and a group are the file up to its end
 pub group-end : (g : Geometry) (group : Group) → IsGroup g group → group.first * g.segment_size + group.len ≡ min ((group.first + group.count) * g.segment_size) g.size
-group-end g group is = omega (arith, is.long, is.place, add-mul group.first group.count g.segment_size, begins-before g group.first is.valid is.some)
+group-end g group is = omega (arith, is.long, is.offset, add-mul group.first group.count g.segment_size, begins-before g group.first is.valid is.some)
 
 -- ---- a segment with its padding, in a buffer with zeros behind the last
 
@@ -130,7 +130,7 @@ pub padded-piece : (g : Geometry) (group : Group) (i room : ℕ) (buffer : List 
 padded-piece g group i room buffer is low long padding room_is small =
     let s : ℕ = g.segment_size in
     let m : ℕ = 8 * s - group.len in
-    let at = has_place g group i is low in
+    let at = has_offset g group i is low in
     let text : List ℕ = take group.len buffer in
     let rest : List ℕ = drop (i * s) text in
     let piece : List ℕ = take s rest in

@@ -19,29 +19,29 @@ use Rattle.file_streaming.specs.Gathered.{Gathered, IsGathered, behind_blocks, g
 
 -- ---- encryption segment by segment
 
--- the pieces of no text are empty, so encrypted they are the same at each place
+-- the pieces of no text are empty, so encrypted they are the same at each offset
 xored-nothing : (key : List ℕ) (p q : ℕ) (text : List ℕ) → length text ≡ 0 → xored_from key p text ≡ xored_from key q text
 xored-nothing key p q [] none = refl
 xored-nothing key p q (b ∷ bs) none = absurd (omega arith)
 
 -- ---- what is gathered of a ciphertext's segments
 
--- encrypted at their places, the pieces of a text are the pieces of its ciphertext
-pub gathered-encrypted : (g : Geometry) (key : List ℕ) (n size place : ℕ) (text : List ℕ) (s : Gathered)
-    → gathered g key place (pieces n size text) s ≡ gathered_segments g (pieces n size (xored_from key place text)) s
-gathered-encrypted g key zero size place text s = refl
-gathered-encrypted g key (suc n) size place text s =
+-- encrypted at their offsets, the pieces of a text are the pieces of its ciphertext
+pub gathered-encrypted : (g : Geometry) (key : List ℕ) (n size offset : ℕ) (text : List ℕ) (s : Gathered)
+    → gathered g key offset (pieces n size text) s ≡ gathered_segments g (pieces n size (xored_from key offset text)) s
+gathered-encrypted g key zero size offset text s = refl
+gathered-encrypted g key (suc n) size offset text s =
     let front : List ℕ = take size text in
     let long : length front ≡ min size (length text) = length-take size text in
-    let next : Gathered = gathered_more g (xored_from key place front) s in
-    let rest : xored_from key (place + length front) (drop size text) ≡ drop size (xored_from key place text) =
+    let next : Gathered = gathered_more g (xored_from key offset front) s in
+    let rest : xored_from key (offset + length front) (drop size text) ≡ drop size (xored_from key offset text) =
     elim (cases_lt (length text) size) [
-      | inl short ↦ xored-nothing key (place + length front) (place + size) (drop size text) (omega (arith, length-drop size text)) ∙ sym (drop-xored key size place text)
-      | inr whole ↦ (let same : place + length front ≡ place + size = omega (arith, long) in ap (λ p. xored_from key p (drop size text)) same ∙ sym (drop-xored key size place text))
+      | inl short ↦ xored-nothing key (offset + length front) (offset + size) (drop size text) (omega (arith, length-drop size text)) ∙ sym (drop-xored key size offset text)
+      | inr whole ↦ (let same : offset + length front ≡ offset + size = omega (arith, long) in ap (λ p. xored_from key p (drop size text)) same ∙ sym (drop-xored key size offset text))
     ] in
-    gathered-encrypted g key n size (place + length front) (drop size text) next
+    gathered-encrypted g key n size (offset + length front) (drop size text) next
     ∙ ap (λ (t : List ℕ). gathered_segments g (pieces n size t) next) rest
-    ∙ ap (λ (c : List ℕ). gathered_segments g (pieces n size (drop size (xored_from key place text))) (gathered_more g c s)) (sym (take-xored key size place text))
+    ∙ ap (λ (c : List ℕ). gathered_segments g (pieces n size (drop size (xored_from key offset text))) (gathered_more g c s)) (sym (take-xored key size offset text))
 
 -- one more at the end of a list, and the rest
 one-more : {X : Type 0} (xs : List X) (x : X) (ys : List X) → (xs ++ x ∷ []) ++ ys ≡ xs ++ x ∷ ys

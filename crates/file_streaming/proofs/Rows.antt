@@ -26,7 +26,7 @@ use Rattle.file_streaming.specs.declared.groups.Group.{Group}
 use Rattle.file_streaming.specs.declared.shares.ShareSoFar.{ShareSoFar}
 use Rattle.file_streaming.specs.declared.wholes.WholeHashers.{WholeHashers}
 use Rattle.file_streaming.proofs.GivenBytes.{given-more}
-use Rattle.file_streaming.proofs.GroupSteps.{has_first, has_place, pieces-more}
+use Rattle.file_streaming.proofs.GroupSteps.{has_first, has_offset, pieces-more}
 use Rattle.file_streaming.proofs.OneByOne.{block_leaves-all, written-all}
 
 -- one block more behind others
@@ -80,7 +80,7 @@ module _ (g : Geometry) (group : Group) (text : List ℕ) (share : ℕ) (is : Is
       let b : ℕ = block_size g in
       let whole : b * k ≡ g.segment_size = whole_blocks g is.valid share in
       let some : 0 < n = has_first g group is in
-      let last = has_place g group (n - 1) is (omega (arith, some)) in
+      let last = has_offset g group (n - 1) is (omega (arith, some)) in
       let times : n * g.segment_size ≡ (n - 1) * g.segment_size + g.segment_size =
       (let e : n ≡ n - 1 + 1 = omega (arith, some) in ap (λ m. m * g.segment_size) e ∙ add-mul (n - 1) 1 g.segment_size ∙ (let one : 1 * g.segment_size ≡ g.segment_size = omega arith in ap (λ m. (n - 1) * g.segment_size + m) one)) in
       let low : length text ≤ n * (b * k) = subst (λ m. length text ≤ n * m) (sym whole) (omega (arith, long, last.whole)) in
@@ -93,18 +93,18 @@ module _ (g : Geometry) (group : Group) (text : List ℕ) (share : ℕ) (is : Is
       }
 
   -- where a block stands in its row
-  pub record HasBlockPlace (i : ℕ) : Type 0 where
+  pub record HasBlockOffset (i : ℕ) : Type 0 where
     pub before : length (front_of g is.valid share i text) ≡ i * block_size g
     pub block : length (block_of g.needed share (take g.segment_size (drop (i * g.segment_size) text))) ≡ block_length g (group.first + i)
     pub ends : i * block_size g + block_length g (group.first + i) ≤ group.row
     pub next : (block_length g (group.first + i) ≡ block_size g) ⊎ (i * block_size g + block_length g (group.first + i) ≡ group.row)
 
-  pub has_block_place : (i : ℕ) → i < group.count → HasBlockPlace i
-  has_block_place i low =
+  pub has_block_offset : (i : ℕ) → i < group.count → HasBlockOffset i
+  has_block_offset i low =
       let s : ℕ = g.segment_size in
       let k : ℕ = g.needed in
       let b : ℕ = block_size g in
-      let at = has_place g group i is low in
+      let at = has_offset g group i is low in
       let piece : List ℕ = take s (drop (i * s) text) in
       let left : length (drop (i * s) text) ≡ group.len - i * s = length-drop (i * s) text ∙ ap (λ n. n - i * s) long in
       let piece_long : length piece ≡ segment_length g (group.first + i) = length-take s (drop (i * s) text) ∙ ap (λ n. min s n) left ∙ at.left in
@@ -115,7 +115,7 @@ module _ (g : Geometry) (group : Group) (text : List ℕ) (share : ℕ) (is : Is
       ap length (front-more g is.valid share i text) ∙ length-append (front_of g is.valid share i text) (block_of k share piece) ∙ (λ p. before p + block p) in
       elim (cases_lt (group.len - i * s) s) [
         | inl short ↦ (let times : (i + 1 + 1) * s ≤ group.count * s → (i + 1) * s < group.len =
-            λ fits. (let last = has_place g group (group.count - 1) is (omega (arith, low)) in
+            λ fits. (let last = has_offset g group (group.count - 1) is (omega (arith, low)) in
             let e : group.count ≡ group.count - 1 + 1 = omega (arith, low) in
             let all : group.count * s ≡ (group.count - 1) * s + 1 * s = ap (λ m. m * s) e ∙ add-mul (group.count - 1) 1 s in
             omega (arith, fits, last.begins, all, add-mul (i + 1) 1 s)) in
@@ -145,7 +145,7 @@ module _ (g : Geometry) (group : Group) (text : List ℕ) (share : ℕ) (is : Is
 -- a row is no longer than so many whole blocks, and than what is made at once
 pub row-short : (g : Geometry) (group : Group) → IsGroup g group → group.row ≤ group.count * block_size g
 row-short g group is =
-    let at = has_place g group 0 is (has_first g group is) in
+    let at = has_offset g group 0 is (has_first g group is) in
     let times : group.count * block_size g * g.needed ≡ group.count * g.segment_size = mul_assoc group.count (block_size g) g.needed ∙ ap (λ n. group.count * n) (whole_blocks g is.valid 0) in
     subst (λ n. n ≤ group.count * block_size g) (sym is.row)
     (div_ceil_within (group.count * block_size g) g.needed 0 is.valid.some_needed group.len (omega (arith, at.whole, times)))
@@ -156,17 +156,17 @@ row-room g group is =
     omega (arith, row-short g group is, few)
 
 -- one block more in a row
-pub row-more : (place size next rows : ℕ) (row front block : List ℕ) → take place row ≡ front → length front ≡ place → length block ≡ size → length row ≡ rows → place + size ≤ rows
-    → (next ≡ place + size) ⊎ (place + size ≡ rows) → place + size ≤ next → take next (put_mid place size row block) ≡ front ++ block
-row-more place size next rows row front block is here long all fits either over =
-    let made : take (place + size) (put_mid place size row block) ≡ take place row ++ block = take-put_mid place size row block (place + size) (omega (arith, long)) (omega (arith, all, fits)) in
-    let total : length (put_mid place size row block) ≡ rows =
-    length-append (take place row) (block ++ drop size (drop place row))
-    ∙ omega (arith, length-append block (drop size (drop place row)), length-take-le place row (omega (arith, all, fits)), length-drop size (drop place row), length-drop place row, long, all, fits) in
+pub row-more : (offset size next rows : ℕ) (row front block : List ℕ) → take offset row ≡ front → length front ≡ offset → length block ≡ size → length row ≡ rows → offset + size ≤ rows
+    → (next ≡ offset + size) ⊎ (offset + size ≡ rows) → offset + size ≤ next → take next (put_mid offset size row block) ≡ front ++ block
+row-more offset size next rows row front block is here long all fits either over =
+    let made : take (offset + size) (put_mid offset size row block) ≡ take offset row ++ block = take-put_mid offset size row block (offset + size) (omega (arith, long)) (omega (arith, all, fits)) in
+    let total : length (put_mid offset size row block) ≡ rows =
+    length-append (take offset row) (block ++ drop size (drop offset row))
+    ∙ omega (arith, length-append block (drop size (drop offset row)), length-take-le offset row (omega (arith, all, fits)), length-drop size (drop offset row), length-drop offset row, long, all, fits) in
     elim either [
-      | inl same ↦ ap (λ n. take n (put_mid place size row block)) same ∙ made ∙ ap (λ (l : List ℕ). l ++ block) is
-      | inr end ↦ take_all next (put_mid place size row block) (omega (arith, total, end, over))
-          ∙ sym (take_all (place + size) (put_mid place size row block) (omega (arith, total, end))) ∙ made ∙ ap (λ (l : List ℕ). l ++ block) is
+      | inl same ↦ ap (λ n. take n (put_mid offset size row block)) same ∙ made ∙ ap (λ (l : List ℕ). l ++ block) is
+      | inr end ↦ take_all next (put_mid offset size row block) (omega (arith, total, end, over))
+          ∙ sym (take_all (offset + size) (put_mid offset size row block) (omega (arith, total, end))) ∙ made ∙ ap (λ (l : List ℕ). l ++ block) is
     ]
 
 -- so the shares have what is gathered of the group

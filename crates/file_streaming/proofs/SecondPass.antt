@@ -99,7 +99,7 @@ module _ {S : Type 0} (gives : S → ℕ → List ℕ → S → Type 0) (old : S
       record {
         file = to.file ++ more.text;
         long = omega (arith, length-append to.file more.text, whole, more.long, group-end g group is);
-        read = is_read-append gives old now next 0 group.place to.file more.text to.read (omega (arith, whole, is.place)) more.read;
+        read = is_read-append gives old now next 0 group.offset to.file more.text to.read (omega (arith, whole, is.offset)) more.read;
         has = λ secret fresh.
             subst (λ (s : Gathered). HasGathered g s secret (to.file ++ more.text) y) (sym (segments-group g key group to.file more.text (gathered_none g) is whole))
             (more.has (gathered_segments g (pieces group.first g.segment_size (xored key to.file)) (gathered_none g)) secret to.file (to.has secret fresh));

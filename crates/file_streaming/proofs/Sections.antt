@@ -13,7 +13,7 @@ use Rattle.ueb.specs.Limits.{max_length}
 use Rattle.share_layout.specs.declared.layout.Layout.{Layout}
 use Rattle.share_layout.specs.declared.layout.Layout.TheVariants.{One, Two}
 use Rattle.share_layout.specs.Geometry.{Geometry, IsGeometry, hashes_size, share_data_size, tree_size}
-use Rattle.share_layout.specs.Layout.{header, header_size, layout_of, places_of, spelled, width}
+use Rattle.share_layout.specs.Layout.{header, header_size, layout_of, offsets_of, spelled, width}
 use Rattle.share_layout.specs.Pieces.{segments_of}
 use Rattle.share_layout.proofs.LawLemmas.{have_bounds}
 use Rattle.share_verify.proofs.GeometryOfUeb.{is_geometry}
@@ -147,10 +147,10 @@ module _ (p : PreparedFile) (hashes : List (List ℕ)) (e : Encoder) (b : Buffer
 
     pub sections_put : (offset : ℕ) (out o1 o2 o3 o4 o5 : List ℕ) → offset + length out ≤ share_length p
         → o1 ≡ put_at 0 (header g) offset out → length o1 ≡ length out
-        → o2 ≡ put_at (places_of g).ciphertext_tree (joined (tree_nodes p.leaves)) offset o1 → length o2 ≡ length o1
-        → o3 ≡ put_at (places_of g).block_tree (joined (tree_nodes (leaves_of p share))) offset o2 → length o3 ≡ length o2
-        → o4 ≡ put_at (places_of g).share_hashes (share_hashes (map tree_root p.block_leaves) share) offset o3 → length o4 ≡ length o3
-        → o5 ≡ put_at (places_of g).extension_block (spelled (layout_of g) (length p.extension_block) ++ p.extension_block) offset o4 → length o5 ≡ length o4
+        → o2 ≡ put_at (offsets_of g).ciphertext_tree (joined (tree_nodes p.leaves)) offset o1 → length o2 ≡ length o1
+        → o3 ≡ put_at (offsets_of g).block_tree (joined (tree_nodes (leaves_of p share))) offset o2 → length o3 ≡ length o2
+        → o4 ≡ put_at (offsets_of g).share_hashes (share_hashes (map tree_root p.block_leaves) share) offset o3 → length o4 ≡ length o3
+        → o5 ≡ put_at (offsets_of g).extension_block (spelled (layout_of g) (length p.extension_block) ++ p.extension_block) offset o4 → length o5 ≡ length o4
         → (front blocks rest : List ℕ) → length front ≡ header_size (layout_of g) → length blocks ≡ share_data_size g
         → IsPieceOf (front ++ blocks ++ (replicate (tree_size g) 0 ++ rest)) offset out
         → IsPieceOf (header g ++ blocks ++ behind_blocks g p.leaves (leaves_of p share) (map tree_root p.block_leaves) p.extension_block share) offset o5
@@ -168,21 +168,21 @@ module _ (p : PreparedFile) (hashes : List (List ℕ)) (e : Encoder) (b : Buffer
         let p2 : List ℕ = p1 ++ ct in
         let p3 : List ℕ = p2 ++ bt in
         let p4 : List ℕ = p3 ++ sh in
-        let n1 : length p1 ≡ (places_of g).ciphertext_tree = omega (arith, length-append (h ++ blocks) z, length-append h blocks, n0, size, length-replicate {A = ℕ} (tree_size g) 0) in
-        let n2 : length p2 ≡ (places_of g).block_tree = omega (arith, length-append p1 ct, n1, are.ciphertext_tree) in
-        let n3 : length p3 ≡ (places_of g).share_hashes = omega (arith, length-append p2 bt, n2, are.block_tree) in
-        let n4 : length p4 ≡ (places_of g).extension_block = omega (arith, length-append p3 sh, n3, are.share_hashes_long) in
+        let n1 : length p1 ≡ (offsets_of g).ciphertext_tree = omega (arith, length-append (h ++ blocks) z, length-append h blocks, n0, size, length-replicate {A = ℕ} (tree_size g) 0) in
+        let n2 : length p2 ≡ (offsets_of g).block_tree = omega (arith, length-append p1 ct, n1, are.ciphertext_tree) in
+        let n3 : length p3 ≡ (offsets_of g).share_hashes = omega (arith, length-append p2 bt, n2, are.block_tree) in
+        let n4 : length p4 ≡ (offsets_of g).extension_block = omega (arith, length-append p3 sh, n3, are.share_hashes_long) in
         let s0 : IsPieceOf ([] ++ h ++ drop (length h) (front ++ blocks ++ (z ++ rest))) offset o1 = put-next 0 offset [] (front ++ blocks ++ (z ++ rest)) h out o1 (let e : 0 ≡ 0 = omega arith in e) is1 l1 piece in
         let cut : drop (length h) (front ++ blocks ++ (z ++ rest)) ≡ blocks ++ (z ++ rest) =
         ap (drop (length h)) (append_assoc front blocks (z ++ rest)) ∙ drop_at front (blocks ++ (z ++ rest)) (length h) (long ∙ sym n0) in
         let again : h ++ drop (length h) (front ++ blocks ++ (z ++ rest)) ≡ p1 ++ rest =
         ap (λ (l : List ℕ). h ++ l) cut ∙ sym (append_assoc h blocks (z ++ rest)) ∙ sym (append_assoc (h ++ blocks) z rest) in
         let s1 : IsPieceOf (p1 ++ rest) offset o1 = subst (λ (t : List ℕ). IsPieceOf t offset o1) again s0 in
-        let s2 = put-next (places_of g).ciphertext_tree offset p1 rest ct o1 o2 n1 is2 l2 s1 in
-        let s3 = put-next (places_of g).block_tree offset p2 (drop (length ct) rest) bt o2 o3 n2 is3 l3 s2 in
-        let s4 = put-next (places_of g).share_hashes offset p3 (drop (length bt) (drop (length ct) rest)) sh o3 o4 n3 is4 l4 s3 in
+        let s2 = put-next (offsets_of g).ciphertext_tree offset p1 rest ct o1 o2 n1 is2 l2 s1 in
+        let s3 = put-next (offsets_of g).block_tree offset p2 (drop (length ct) rest) bt o2 o3 n2 is3 l3 s2 in
+        let s4 = put-next (offsets_of g).share_hashes offset p3 (drop (length bt) (drop (length ct) rest)) sh o3 o4 n3 is4 l4 s3 in
         let left : List ℕ = drop (length sh) (drop (length bt) (drop (length ct) rest)) in
-        let s5 = put-next (places_of g).extension_block offset p4 left (n ++ eb) o4 o5 n4 is5 l5 s4 in
+        let s5 = put-next (offsets_of g).extension_block offset p4 left (n ++ eb) o4 o5 n4 is5 l5 s4 in
         let n5 : length (p4 ++ (n ++ eb)) ≡ share_length p =
         omega (arith, length-append p4 (n ++ eb), length-append n eb, n4, length-spelled (layout_of g) (length eb)) in
         let short : offset + length o5 ≤ length (p4 ++ (n ++ eb)) = omega (arith, n5, within, l1, l2, l3, l4, l5) in

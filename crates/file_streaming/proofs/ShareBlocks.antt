@@ -6,7 +6,7 @@ use Rattle.std.proofs.lemmas.Bool.{cases_eq, cases_lt}
 use Rattle.std.proofs.lemmas.List.{length-append, length-drop, length-take-le}
 use Rattle.std.proofs.lemmas.Option.{same_Some, slice_get_within}
 use borrow.Rule.Slice.PartMut.{put_mid}
-use Rattle.lemmas.proofs.Places.{get_pushed, get_set, get_set_other}
+use Rattle.lemmas.proofs.Positions.{get_pushed, get_set, get_set_other}
 use Rattle.tagged_hash.specs.TaggedHash.{tagged_hash}
 use Rattle.tagged_hash.specs.declared.tag.Tag.TheVariants.{Block}
 use Rattle.share_layout.specs.Pieces.{pieces}

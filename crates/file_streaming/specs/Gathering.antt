@@ -37,8 +37,8 @@ pub record IsGroup (g : Geometry) (group : Group) : Type 0 where
   pub valid : IsGeometry g
   pub some : group.first < segment_count g
   pub count : group.count ≡ min (segment_count g - group.first) (at_once g)
-  pub place : group.place ≡ group.first * g.segment_size
-  pub long : group.len ≡ min (group.count * g.segment_size) (g.size - group.place)
+  pub offset : group.offset ≡ group.first * g.segment_size
+  pub long : group.len ≡ min (group.count * g.segment_size) (g.size - group.offset)
   pub row : group.row ≡ div_ceil group.len g.needed
 
 -- what is gathered with the ciphertext of these segments
@@ -51,19 +51,19 @@ abbrev pub row_of : Geometry → Group → List ℕ → ℕ → List ℕ
 row_of g group text share =
     joined (blocks_of g.needed share (pieces group.count g.segment_size text))
 
--- these segments were read and gathered, encrypted at their place
+-- these segments were read and gathered, encrypted at their offset
 pub record IsGroupGathered {S : Type 0} (gives : S → ℕ → List ℕ → S → Type 0) (old : S)
     (g : Geometry) (key : List ℕ) (group : Group) (before after : Gathering) (new : S)
     : Type 0 where
   pub text : List ℕ
   pub long : length text ≡ group.len
-  pub read : IsRead gives old group.place text new
+  pub read : IsRead gives old group.offset text new
   pub has : (s : Gathered) (secret file : List ℕ) → HasGathered g s secret file before
-      → HasGathered g (gathered_group g group (xored_from key group.place text) s)
+      → HasGathered g (gathered_group g group (xored_from key group.offset text) s)
       secret (file ++ text) after
 
 -- the source was read once, and what is held was gathered of its segments, each encrypted at its
--- place under this key
+-- offset under this key
 pub record IsGatheredFrom {S : Type 0} (gives : S → ℕ → List ℕ → S → Type 0) (old : S)
     (g : Geometry) (key secret : List ℕ) (x : Gathering) (new : S) : Type 0 where
   pub file : List ℕ

@@ -25,8 +25,8 @@ abbrev pub share_with : PreparedFile → List (List ℕ) → ℕ → List ℕ
 share_with p blocks share = header p.geometry ++ joined blocks ++ behind_blocks p.geometry p.leaves
     (leaves_of p share) (map tree_root p.block_leaves) p.extension_block share
 
--- the piece of a share from a place on, each of whose blocks has the hash that is kept: what stands
--- around the blocks is the share's own
+-- the piece of a share from an offset on, each of whose blocks has the hash that is kept: what
+-- stands around the blocks is the share's own
 pub record GivesPiece (p : PreparedFile) (share offset : ℕ) (bytes : List ℕ) : Type 0 where
   pub blocks : List (List ℕ)
   pub hashes : block_hashes blocks ≡ leaves_of p share
@@ -40,7 +40,7 @@ abbrev pub IsOfNoFile : {S : Type 0} → (S → ℕ → List ℕ → S → Type 
 IsOfNoFile gives prepared old new = (file secret : List ℕ) (p : Parameters)
     → prepared ≡ prepared_of file secret p → DiffersFromFile gives old file new
 
--- so many bytes of a share from a place on
+-- so many bytes of a share from an offset on
 abbrev pub piece_of : List (List ℕ) → ℕ → ℕ → ℕ → List ℕ
 piece_of shares share offset len = take len (drop offset (slice_index_or shares share []))
 

@@ -7,7 +7,7 @@ use Rattle.tagged_hash.specs.TaggedHash.{share_digest}
 use Rattle.cap_text.specs.Cap.{ReadCapValue}
 use Rattle.ueb.specs.Block.{ueb_text}
 use Rattle.share_layout.specs.Geometry.{Geometry, geometry_of}
-use Rattle.share_layout.specs.Layout.{places_of, width}
+use Rattle.share_layout.specs.Layout.{offsets_of, width}
 use Rattle.share_layout.specs.Pieces.{segments_of}
 use Rattle.share_verify.specs.Pieces.{block_hashes}
 use Rattle.proved_parts.specs.FileOf.{segment_hashes}
@@ -67,8 +67,8 @@ prepared_of file secret p =
 
 -- the length of each share
 abbrev pub share_length : PreparedFile → ℕ
-share_length p = let places = places_of p.geometry in
-    places.extension_block + width places.layout + length p.extension_block
+share_length p = let offsets = offsets_of p.geometry in
+    offsets.extension_block + width offsets.layout + length p.extension_block
 
 -- A source of so many bytes was read twice, and both times it had the same key. What is kept is of
 -- what the second pass brought.

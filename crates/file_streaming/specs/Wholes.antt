@@ -17,12 +17,12 @@ abbrev pub IsGivenAt : WholeHashers → ℕ → List ℕ → Type 0
 IsGivenAt (Eight hashers) j given = HoldsAt hashers j WholeShare given
 IsGivenAt (Each hashers) j given = IsGivenAlone hashers.items j given
 
--- so was the hasher of each of so many shares, by number: eight stand in each place
+-- so was the hasher of each of so many shares, by number: eight stand at each position
 abbrev pub AreGiven : ℕ → (ℕ → List ℕ) → List WholeHashers → Type 0
 AreGiven total written wholes = (k j : ℕ) (whole : WholeHashers) → j < 8 → 8 * k + j < total
     → slice_get wholes k ≡ Some whole → IsGivenAt whole j (written (8 * k + j))
 
--- the hashers of place k of so many shares were given a piece more for each
+-- the hashers at position k of so many shares were given a piece more for each
 abbrev pub HavePieceMore : ℕ → (ℕ → List ℕ) → ℕ → WholeHashers → WholeHashers → Type 0
 HavePieceMore total piece k old new = (j : ℕ) (given : List ℕ) → j < 8 → 8 * k + j < total
     → IsGivenAt old j given → IsGivenAt new j (given ++ piece (8 * k + j))

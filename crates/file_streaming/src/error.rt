@@ -15,7 +15,7 @@ pub enum PrepareError {
     TooLarge,
     /// The file has more than `ueb::MAX_SEGMENTS` segments of this size (number 31).
     TooManySegments,
-    /// The source brought different bytes for one place, or ended early (number 74).
+    /// The source brought different bytes for one offset, or ended early (number 74).
     SourceChanged,
     /// A read of the source failed (number 75).
     SourceFault,

@@ -97,13 +97,13 @@ impl Gathering {
         ensures gathered { (s : Gathered) (secret file : List ℕ)
             → HasGathered geometry.now s secret file self.old
             → OnOk result (HasGathered geometry.now (gathered_group geometry.now group
-            (xored_from encoder.now.cipher group.place (take group.len segments.old)) s)
+            (xored_from encoder.now.cipher group.offset (take group.len segments.old)) s)
             secret (file ++ take group.len segments.old) self.new) }
     {
         let size = geometry.segment_size() as usize;
         let text = &mut segments[..group.len];
         self.key.update(text);
-        encoder.cipher.xor_at(group.place, text);
+        encoder.cipher.xor_at(group.offset, text);
         self.ciphertext.update(text);
         let count = group.count as usize;
         add_leaves(Tag::CiphertextSegment, text, size, count, &mut self.leaves)?;
@@ -173,7 +173,7 @@ fn gather_group<S: Source>(
     ensures no_other { IfErr result (λ e. (e ≡ PrepareError.OutOfMemory)
         ⊎ (e ≡ PrepareError.SourceChanged) ⊎ (e ≡ PrepareError.SourceFault)) }
 {
-    read_part(source, group.place, &mut segments[..group.len])?;
+    read_part(source, group.offset, &mut segments[..group.len])?;
     gathering.add(encoder, geometry, group, segments, lanes)?;
     Ok(())
 }

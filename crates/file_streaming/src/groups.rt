@@ -25,7 +25,7 @@ pub(crate) fn segments_at_once(geometry: &Geometry) -> u32
 pub(crate) struct Group {
     pub first: u32,
     pub count: u32,
-    pub place: u64,
+    pub offset: u64,
     pub len: usize,
     pub row: usize,
 }
@@ -39,13 +39,13 @@ impl Group {
         ensures first { result.first ≡ first }
     {
         let size = u64::from(geometry.segment_size());
-        let place = u64::from(first) * size;
+        let offset = u64::from(first) * size;
         let count = (geometry.segment_count() - first).min(segments_at_once(geometry));
-        let len = (u64::from(count) * size).min(geometry.size() - place) as usize;
+        let len = (u64::from(count) * size).min(geometry.size() - offset) as usize;
         Group {
             first,
             count,
-            place,
+            offset,
             len,
             row: len.div_ceil(usize::from(geometry.needed())),
         }

@@ -16,7 +16,7 @@ use crate::finishing::spelled_length;
 use crate::prepared::Prepared;
 use block_making::{BlockMaker, PieceError, put_part};
 use merkle::Tree;
-use share_layout::{Geometry, Layout, Places};
+use share_layout::{Geometry, Layout, Offsets};
 use sources::Source;
 
 impl Prepared {
@@ -76,14 +76,14 @@ impl Prepared {
             ++ behind_blocks self.now.geometry self.now.leaves (leaves_of self.now share)
             (map tree_root self.now.block_leaves) self.now.extension_block share) offset out.new }
     {
-        let places = Places::of(&self.geometry);
+        let offsets = Offsets::of(&self.geometry);
         let share = usize::from(share);
         put_header(&self.geometry, offset, out);
-        put_tree(&self.ciphertext_tree, places.ciphertext_tree, offset, out);
-        put_tree(&self.block_trees[share], places.block_tree, offset, out);
-        put_part(places.share_hashes, &self.share_hashes[share], offset, out);
+        put_tree(&self.ciphertext_tree, offsets.ciphertext_tree, offset, out);
+        put_tree(&self.block_trees[share], offsets.block_tree, offset, out);
+        put_part(offsets.share_hashes, &self.share_hashes[share], offset, out);
         let block = &self.extension_block;
-        put_ending(places.layout, block, places.extension_block, offset, out);
+        put_ending(offsets.layout, block, offsets.extension_block, offset, out);
     }
 }
 
@@ -98,23 +98,23 @@ fn put_header(geometry: &Geometry, offset: u64, out: &mut [u8])
 }
 
 // Writes the nodes of a tree.
-fn put_tree(tree: &Tree, place: u64, offset: u64, out: &mut [u8])
-    requires place { place < 2 ^ 41 }
+fn put_tree(tree: &Tree, begin: u64, offset: u64, out: &mut [u8])
+    requires begin { begin < 2 ^ 41 }
     requires out { offset + length out.old < 2 ^ 64 }
-    ensures { out.new ≡ put_at place (joined (tree_nodes tree.now)) offset out.old }
+    ensures { out.new ≡ put_at begin (joined (tree_nodes tree.now)) offset out.old }
 {
-    put_part(place, tree.nodes().as_flattened(), offset, out);
+    put_part(begin, tree.nodes().as_flattened(), offset, out);
 }
 
 // Writes the extension block behind its length.
-fn put_ending(layout: Layout, extension_block: &[u8], place: u64, offset: u64, out: &mut [u8])
+fn put_ending(layout: Layout, extension_block: &[u8], begin: u64, offset: u64, out: &mut [u8])
     requires short { length extension_block.now < 2 ^ 32 }
-    requires place { place < 2 ^ 41 }
+    requires begin { begin < 2 ^ 41 }
     requires out { offset + length out.old < 2 ^ 64 }
-    ensures { out.new ≡ put_at place
+    ensures { out.new ≡ put_at begin
         (spelled layout (length extension_block.now) ++ extension_block.now) offset out.old }
 {
     let (length, width) = spelled_length(layout, extension_block.len());
-    put_part(place, &length[..width], offset, out);
-    put_part(place + width as u64, extension_block, offset, out);
+    put_part(begin, &length[..width], offset, out);
+    put_part(begin + width as u64, extension_block, offset, out);
 }

@@ -23,7 +23,7 @@ use block_slots::{BlockSlots, window_for};
 use cap_text::ReadCap;
 use file_encoding::Params;
 use merkle::Tree;
-use share_layout::{Geometry, Places};
+use share_layout::{Geometry, Offsets};
 use sources::Source;
 use std::alloc::{AllocError, Global};
 use std::marker::Model;
@@ -83,8 +83,8 @@ impl Prepared {
         ensures some { 1 ≤ result }
         ensures short { result ≤ 2 ^ 41 }
     {
-        let places = Places::of(&self.geometry);
-        places.extension_block + (places.layout.width() + self.extension_block.len()) as u64
+        let offsets = Offsets::of(&self.geometry);
+        offsets.extension_block + (offsets.layout.width() + self.extension_block.len()) as u64
     }
 }
 
@@ -131,12 +131,12 @@ fn file_slots(alloc: Global, geometry: &Geometry) -> Result<BlockSlots, AllocErr
     Ok(BlockSlots::new(alloc, geometry.total(), size, window)?)
 }
 
-/// Reads a source twice, each byte once from place 0 up: for the key, and for the key again and all
-/// hashes. Both keys have to be equal.
+/// Reads a source twice, each byte once from offset 0 up: for the key, and for the key again and
+/// all hashes. Both keys have to be equal.
 ///
 /// The secret has at most 64 bytes, and the source at least `ueb::MIN_FILE_SIZE`. Refuses
 /// `TooLarge` and `TooManySegments`, in this order, before the first read; then `SourceChanged`
-/// where two reads of one place differed or the source ended early, `SourceFault` where a read
+/// where two reads of one offset differed or the source ended early, `SourceFault` where a read
 /// failed, and `OutOfMemory`.
 pub fn prepare<S: Source>(
     alloc: Global,

@@ -136,9 +136,16 @@ fn encode_row(
     for i in 0..group.count {
         let size = geometry.block_length(group.first + i) as usize;
         let start = i as usize * segment_size;
-        let place = i as usize * block_size;
+        let offset = i as usize * block_size;
         let padded = &segments[start..start + size * needed];
-        encode_lane(code, padded, share, size, 0, &mut row[place..place + size]);
+        encode_lane(
+            code,
+            padded,
+            share,
+            size,
+            0,
+            &mut row[offset..offset + size],
+        );
     }
 }
 

@@ -49,15 +49,15 @@ module _ (dst lanes : List ℕ) (at : ℕ) (fits : at + 16 ≤ length dst) (size
   pub stored_at : (k : ℕ) → at ≤ k → k < at + 16 → get_or (put_chunk at dst sums) k 0 ≡ bit_xor (get_or dst k 0) (get_or lanes (k - at) 0)
   stored_at k ge lt =
       let j : ℕ = k - at in
-      let place : at + j ≡ k = omega arith in
+      let position : at + j ≡ k = omega arith in
       let within : j < 16 = omega arith in
       let long = sums_size in
       let first = length-chunk at 16 dst fits in
-      ap (λ x. get_or (put_chunk at dst sums) x 0) (sym place)
+      ap (λ x. get_or (put_chunk at dst sums) x 0) (sym position)
       ∙ get_or-put_chunk_at at dst sums j 0 (omega arith) (omega arith)
       ∙ get_or-zip2 bit_xor (chunk at 16 dst) lanes j 0 0 0 (omega arith) (omega arith)
       ∙ ap (λ x. bit_xor x (get_or lanes j 0)) (get_or-chunk at 16 dst j 0 within)
-      ∙ ap (λ x. bit_xor (get_or dst x 0) (get_or lanes j 0)) place
+      ∙ ap (λ x. bit_xor (get_or dst x 0) (get_or lanes j 0)) position
 
 -- byte j of the sum of three lists of sixteen
 pub get_or-three : (a b c : List ℕ) (j : ℕ) → length a ≡ 16 → length b ≡ 16 → length c ≡ 16 → j < 16
@@ -72,7 +72,7 @@ length-three a b c size_a size_b size_c =
     let inner = length-zip2 bit_xor a b (omega arith) in
     length-zip2 bit_xor (zip2 bit_xor a b) c (omega arith) ∙ inner ∙ size_a
 
--- a byte plus the multiples of the bytes of three lists at place k
+-- a byte plus the multiples of the bytes of three lists at position k
 abbrev pub plus_three : ℕ → ℕ → ℕ → ℕ → List ℕ → List ℕ → List ℕ → ℕ → ℕ
 plus_three old a b c x y z k = bit_xor (bit_xor (bit_xor old (product a (get_or x k 0))) (product b (get_or y k 0))) (product c (get_or z k 0))
 

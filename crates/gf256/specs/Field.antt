@@ -38,13 +38,13 @@ unfoldable pub point_of : ℕ → ℕ
 point_of zero = 0
 point_of (suc i) = power i
 
--- each byte of the new list is the old one plus c times the byte of `source` at its place
+-- each byte of the new list is the old one plus c times the byte of `source` at its position
 abbrev pub AddsMultiple : List ℕ → List ℕ → List ℕ → ℕ → Type 0
 AddsMultiple old new source c = EachIndex new
     (λ k. slice_index new k ≡ bit_xor (slice_index old k) (product c (slice_index source k)))
 
 -- the same with three sources: each byte of the new list is the old one plus `factors` times the
--- sources' bytes at its place
+-- sources' bytes at its position
 abbrev pub AddsThreeMultiples : List ℕ → List ℕ → List ℕ → List ℕ → List ℕ → List ℕ → Type 0
 AddsThreeMultiples old new x y z factors =
     EachIndex new (λ k.

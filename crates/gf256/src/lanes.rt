@@ -15,7 +15,7 @@ use std::simd::prelude::*;
 /// How many bytes a vector holds.
 const LANES: usize = 16;
 
-/// Adds `c` times each byte of `src` to the byte of `dst` at its place.
+/// Adds `c` times each byte of `src` to the byte of `dst` at its position.
 pub fn add_mul(dst: &mut [u8], src: &[u8], c: u8)
     requires { length dst.old ≡ length src.now }
     ensures { AddsMultiple dst.old dst.new src.now c }
@@ -32,7 +32,7 @@ pub fn add_mul(dst: &mut [u8], src: &[u8], c: u8)
 }
 
 /// Adds the multiples of three sources in one pass: to each byte of `dst` `factors[0]` times the
-/// byte of `x` at its place, `factors[1]` times that of `y` and `factors[2]` times that of `z`.
+/// byte of `x` at its position, `factors[1]` times that of `y` and `factors[2]` times that of `z`.
 pub fn add_mul_three(dst: &mut [u8], x: &[u8], y: &[u8], z: &[u8], factors: [u8; 3])
     requires first { length dst.old ≡ length x.now }
     requires second { length dst.old ≡ length y.now }

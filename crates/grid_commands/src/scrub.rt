@@ -179,7 +179,7 @@ where
     progress.clear();
     if let Some(error) = reason_of(&found.state) {
         let name = server_name(telling.alloc, telling.server)?;
-        let share = found.file.place.1;
+        let share = found.file.key.1;
         let line = format!(in telling.alloc; "{name} share {share}: {error}\n")?;
         progress.note(line.as_str());
     }

@@ -20,9 +20,9 @@ same_found from None = refl
 same_found from (Some f) = refl
 
 -- the last word stands
-found_twice : (first second : List Piece) (place after : ℕ) (f : Option Found) → found_handed second after (found_handed first place f) ≡ found_handed second after f
-found_twice first second place after None = refl
-found_twice first second place after (Some f) = refl
+found_twice : (first second : List Piece) (offset after : ℕ) (f : Option Found) → found_handed second after (found_handed first offset f) ≡ found_handed second after f
+found_twice first second offset after None = refl
+found_twice first second offset after (Some f) = refl
 
 -- nothing yet
 pub written_none : (d : DownloadState) (held : Option (List ℕ)) → Written d held d held
@@ -32,16 +32,16 @@ written_none d held = record {
   added = Appends-nil held;
 }
 
-end_more : (place : ℕ) (ps : List Piece) (p : Piece) → end_of place (ps ++ p ∷ []) ≡ p.place + length p.bytes
-end_more place [] p = refl
-end_more place (q ∷ ps) p = end_more (q.place + length q.bytes) ps p
+end_more : (offset : ℕ) (ps : List Piece) (p : Piece) → end_of offset (ps ++ p ∷ []) ≡ p.offset + length p.bytes
+end_more offset [] p = refl
+end_more offset (q ∷ ps) p = end_more (q.offset + length q.bytes) ps p
 
 -- one piece more is taken
 pub hands_more : (pieces : List Piece) (old mid new : DownloadState) (p : Piece) → Hands pieces old mid → TakesPiece mid (Some p) new → Hands (pieces ++ p ∷ []) old new
 hands_more pieces old mid new p h t = record {
   taken = h.taken ∙ ap (λ (ps : List Piece). pieces ++ ps) t.0 ∙ sym (append_assoc pieces (p ∷ []) (ready new));
-  others = t.1 ∙ ap (λ (d : DownloadState). record d { found = found_handed (ready new) (p.place + length p.bytes) d.found }) h.others
-      ∙ ap (λ (f : Option Found). record old { found = f }) (found_twice (ready mid) (ready new) (end_of (handed old) pieces) (p.place + length p.bytes) old.found)
+  others = t.1 ∙ ap (λ (d : DownloadState). record d { found = found_handed (ready new) (p.offset + length p.bytes) d.found }) h.others
+      ∙ ap (λ (f : Option Found). record old { found = f }) (found_twice (ready mid) (ready new) (end_of (handed old) pieces) (p.offset + length p.bytes) old.found)
       ∙ ap (λ (n : ℕ). record old { found = found_handed (ready new) n old.found }) (sym (end_more (handed old) pieces p));
 }
 

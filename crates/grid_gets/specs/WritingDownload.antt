@@ -25,10 +25,10 @@ is_to_carry c = download_calls.runs c.download && not c.failed
 abbrev pub bytes_of : List Piece → List ℕ
 bytes_of = flat_map (λ (p : Piece). p.bytes)
 
--- the place behind the last of these pieces, or this place where there is none
+-- the offset behind the last of these pieces, or this offset where there is none
 abbrev pub end_of : ℕ → List Piece → ℕ
-end_of place [] = place
-end_of place (p ∷ ps) = end_of (p.place + length p.bytes) ps
+end_of offset [] = offset
+end_of offset (p ∷ ps) = end_of (p.offset + length p.bytes) ps
 
 -- These pieces were taken: the first ones of those that were ready.
 pub record Hands (pieces : List Piece) (old new : DownloadState) : Type 0 where

@@ -44,7 +44,7 @@ where
 /// How a download of a span ended that was not refused.
 enum Tried {
     Done,
-    /// There were too few shares; all bytes up to this place were written.
+    /// There were too few shares; all bytes up to this offset were written.
     TooFew(u64),
 }
 
@@ -228,11 +228,11 @@ fn end_of<W: Write>(
     Ok(reached_range_end(download.status())?)
 }
 
-// The same, where too few shares are no fault yet. All bytes up to this place were written.
-fn reached(ended: Result<(), Failure>, place: u64) -> Result<Tried, Failure> {
+// The same, where too few shares are no fault yet. All bytes up to this offset were written.
+fn reached(ended: Result<(), Failure>, offset: u64) -> Result<Tried, Failure> {
     match ended {
         Ok(()) => Ok(Tried::Done),
-        Err(Failure::Fault(Fault::NotEnoughShares)) => Ok(Tried::TooFew(place)),
+        Err(Failure::Fault(Fault::NotEnoughShares)) => Ok(Tried::TooFew(offset)),
         Err(failure) => Err(failure),
     }
 }

@@ -47,8 +47,8 @@ pub(crate) fn write_lines<R: Files + AllocGlobal>(rt: &R, words: &[&str]) -> io:
 // Lines, with a line end between each two.
 fn joined(alloc: Global, lines: &[&str]) -> Result<String, AllocError> {
     let mut text = String::new(alloc);
-    for (place, line) in lines.iter().enumerate() {
-        text.push_str(if place == 0 { "" } else { "\n" })?;
+    for (position, line) in lines.iter().enumerate() {
+        text.push_str(if position == 0 { "" } else { "\n" })?;
         text.push_str(line)?;
     }
     Ok(text)

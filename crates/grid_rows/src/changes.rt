@@ -22,10 +22,10 @@ pub(crate) fn flip<R: Files + AllocGlobal + Clone + Drop>(
     rt: &R,
     words: &[&str],
 ) -> io::Result<()> {
-    let (file, place) = two(words)?;
-    let place = number(place)?;
+    let (file, offset) = two(words)?;
+    let offset = number(offset)?;
     let (path, mut bytes) = opened(rt, file)?;
-    match bytes.get_mut(place) {
+    match bytes.get_mut(offset) {
         Some(byte) => *byte ^= 1,
         None => return Err(no_such_row()),
     }
@@ -62,7 +62,7 @@ fn opened<R: Files + AllocGlobal + Clone + Drop>(
     Ok((path, bytes))
 }
 
-// Bytes, with others in the place of those from one place to another.
+// Bytes, with others in the place of those from one offset to another.
 fn spliced<R: AllocGlobal>(rt: &R, bytes: &[u8], words: &[&str]) -> io::Result<Vec<u8>> {
     let (from, rest) = first(words)?;
     let (to, text) = two(rest)?;

@@ -141,7 +141,7 @@ fn is_file<R: Files + AllocGlobal + Clone + Drop>(
     Ok(bytes.get(from..to).is_some_and(|part| part == out))
 }
 
-// The file that the words behind `same` name, and the places from and to which it is meant.
+// The file that the words behind `same` name, and the offsets from and to which it is meant.
 fn part_of<'a>(wanted: &'a [&'a str]) -> io::Result<(&'a str, usize, Option<usize>)> {
     match wanted {
         [_, file] => Ok((*file, 0, None)),

@@ -21,7 +21,7 @@
 //! - `append FILE TEXT`: puts a text behind the file's end.
 //! - `flip FILE PLACE`: changes the lowest bit of the byte there.
 //! - `cut FILE SIZE`: ends the file there.
-//! - `splice FILE FROM TO HEX`: puts these bytes in the place of those from one place to another.
+//! - `splice FILE FROM TO HEX`: puts these bytes in the place of those from one offset to another.
 //! - `folder FOLDER..`: makes folders.
 //! - `readonly FOLDER..`: makes the folders of servers that take no shares.
 //! - `remove PATH..`: removes files, and folders with all that they hold.

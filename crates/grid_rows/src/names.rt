@@ -53,8 +53,8 @@ pub(crate) fn words_of<'a>(
     line: &'a str,
 ) -> Result<Vec<&'a str>, AllocError> {
     let mut words = Vec::new(alloc);
-    for (place, part) in line.split('"').enumerate() {
-        if place % 2 == 1 {
+    for (position, part) in line.split('"').enumerate() {
+        if position % 2 == 1 {
             words.push(part)?;
         } else {
             for word in part.split_whitespace() {
@@ -65,7 +65,7 @@ pub(crate) fn words_of<'a>(
     Ok(words)
 }
 
-/// Words that make no row, or a place that is none.
+/// Words that make no row, or a position that is none.
 pub(crate) fn no_such_row() -> io::Error {
     io::Error::from(io::ErrorKind::InvalidInput)
 }

@@ -57,9 +57,12 @@ where
     R: Files + Net + Clock + AllocGlobal + Clone + Drop,
 {
     let mut count: usize = 0;
-    for place in from..to {
-        let place = format!(in rt.alloc(); "{place}")?;
-        write_script(rt, lines.replace(rt.alloc(), "#", place.as_str())?.as_str())?;
+    for position in from..to {
+        let position = format!(in rt.alloc(); "{position}")?;
+        write_script(
+            rt,
+            lines.replace(rt.alloc(), "#", position.as_str())?.as_str(),
+        )?;
         count = count.saturating_add(usize::from(run(rt, &COMMAND).wrote(text)));
     }
     Ok(write!(told, "{count} of {}: {text}\n", to.saturating_sub(from))?)
@@ -89,8 +92,8 @@ fn push_line(alloc: Global, text: &mut String, line: &str) -> io::Result<()> {
     let Some((before, from)) = from.rsplit_once(' ') else {
         return Err(no_such_row());
     };
-    for place in number(from)?..number(to)? {
-        write!(text, "{before} {place}\n")?;
+    for position in number(from)?..number(to)? {
+        write!(text, "{before} {position}\n")?;
     }
     Ok(())
 }

@@ -32,8 +32,8 @@ state_text (LeftOpen bytes action) = codes "open " ++ (decimal bytes ++ removed_
 
 -- the line of a file: server, storage index, number of the share, and how it was found
 abbrev pub finding_line : ℕ → Finding → List ℕ
-finding_line server f = server_name server ++ (codes " " ++ (base32 f.file.place.0
-    ++ (codes " " ++ (decimal f.file.place.1 ++ (codes " " ++ (state_text f.state ++ codes "\n"))))))
+finding_line server f = server_name server ++ (codes " " ++ (base32 f.file.key.0
+    ++ (codes " " ++ (decimal f.file.key.1 ++ (codes " " ++ (state_text f.state ++ codes "\n"))))))
 
 -- the object of a file
 abbrev pub finding_object : List ℕ → List ℕ → ℕ → List ℕ → List ℕ
@@ -42,8 +42,8 @@ finding_object server index share state = codes "{\"server\":\"" ++ (server
     ++ (codes ",\"verdict\":\"" ++ (state ++ codes "\"}\n")))))))
 
 abbrev pub finding_json : ℕ → Finding → List ℕ
-finding_json server f = finding_object (server_name server) (base32 f.file.place.0)
-    f.file.place.1 (state_text f.state)
+finding_json server f = finding_object (server_name server) (base32 f.file.key.0)
+    f.file.key.1 (state_text f.state)
 
 -- the line of all, which tells of those that could not be read where there are some
 abbrev pub last_line : Scrubbed → List ℕ

@@ -6,7 +6,7 @@ ghost use Rattle.grid_rules.specs.declared.fault.Fault.{Fault};
 
 use crate::fault::Fault;
 
-/// A file's bytes from one place on, and to before another.
+/// A file's bytes from one offset on, and to before another.
 #[derive(Clone, Copy, PartialEq, Eq)]
 pub struct ByteRange {
     pub from: u64,

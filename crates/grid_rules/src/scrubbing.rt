@@ -85,8 +85,8 @@ impl Scrubbed {
 pub fn finding_line(alloc: Global, server: NodeId, found: &Finding) -> Result<String, Fault>
     ensures { IfOk result (λ line. string_bytes line ≡ finding_line server found.now) }
 {
-    let (name, share) = (server_name(alloc, server)?, found.file.place.1);
-    let index = to_base32(alloc, &found.file.place.0)?;
+    let (name, share) = (server_name(alloc, server)?, found.file.key.1);
+    let index = to_base32(alloc, &found.file.key.0)?;
     let state = state_text(alloc, &found.state)?;
     Ok(format!(in alloc; "{name} {index} {share} {state}\n")?)
 }
@@ -95,8 +95,8 @@ pub fn finding_line(alloc: Global, server: NodeId, found: &Finding) -> Result<St
 pub fn finding_json(alloc: Global, server: NodeId, found: &Finding) -> Result<String, Fault>
     ensures { IfOk result (λ line. string_bytes line ≡ finding_json server found.now) }
 {
-    let (name, share) = (server_name(alloc, server)?, found.file.place.1);
-    let index = to_base32(alloc, &found.file.place.0)?;
+    let (name, share) = (server_name(alloc, server)?, found.file.key.1);
+    let index = to_base32(alloc, &found.file.key.0)?;
     let state = state_text(alloc, &found.state)?;
     finding_object(alloc, name.as_str(), index.as_str(), share, state.as_str())
 }

@@ -133,8 +133,8 @@ fn number<'a>(alloc: Global, name: &'a str, default: &'a str, help: &'a str) -> 
         .default_value(default)
 }
 
-/// A place in a file.
-pub(crate) fn place<'a>(alloc: Global, name: &'a str, help: &'a str) -> Arg<'a>
+/// An offset in a file.
+pub(crate) fn offset<'a>(alloc: Global, name: &'a str, help: &'a str) -> Arg<'a>
     ensures { HasRule (number name.entry.now) result }
 {
     option(alloc, name, "PLACE", help).value_parser(value_parser!(u64))

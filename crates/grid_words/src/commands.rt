@@ -10,7 +10,7 @@ ghost use Rattle.grid_words.specs.CommandLine.{shape, world_shape};
 
 use crate::arguments::{
     file, flag, grid_folder, happy, json, max_segment, mend, needed, net, new_grid, no_sync,
-    operand, output, place, read_cap, secret, secret_file, servers, total, verbose, verify_cap,
+    offset, operand, output, read_cap, secret, secret_file, servers, total, verbose, verify_cap,
 };
 use clap::{Arg, Command};
 use std::alloc::{AllocError, Global};
@@ -145,8 +145,8 @@ fn get_command<'a>(alloc: Global) -> Result<Command<'a>, AllocError>
     let arguments = vec![in alloc;
         read_cap(alloc),
         grid_folder(alloc),
-        place(alloc, "from", "The place of the first byte").default_value("0"),
-        place(
+        offset(alloc, "from", "The place of the first byte").default_value("0"),
+        offset(
             alloc,
             "to",
             "The place behind the last byte [default: the file's size]",

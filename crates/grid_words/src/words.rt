@@ -80,7 +80,7 @@ pub struct PutWords<'a> {
     pub verbose: bool,
 }
 
-/// `grid get CAP --grid DIR ..`: places as the user wrote them. Without `to` the range ends with
+/// `grid get CAP --grid DIR ..`: offsets as the user wrote them. Without `to` the range ends with
 /// the file, and without `output` it is written to standard output.
 #[derive(Drop)]
 pub struct GetWords<'a> {

@@ -13,7 +13,7 @@ by_eight P a b c d e f g h (suc (suc (suc (suc (suc (suc zero)))))) below = g
 by_eight P a b c d e f g h (suc (suc (suc (suc (suc (suc (suc zero))))))) below = h
 by_eight P a b c d e f g h (suc (suc (suc (suc (suc (suc (suc (suc k)))))))) below = absurd (omega arith)
 
--- A list of eight lists is the list of what stands at its places.
+-- A list of eight lists is the list of what stands at its positions.
 pub eight_of : (s : List (List ℕ)) → length s ≡ 8
     → s ≡ get_or s 0 [] ∷ get_or s 1 [] ∷ get_or s 2 [] ∷ get_or s 3 [] ∷ get_or s 4 [] ∷ get_or s 5 [] ∷ get_or s 6 [] ∷ get_or s 7 [] ∷ []
 eight_of (a ∷ b ∷ c ∷ d ∷ e ∷ f ∷ g ∷ h ∷ []) size = refl

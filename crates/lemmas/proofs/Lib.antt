@@ -4,6 +4,6 @@ pub mod Eights
 pub mod Members
 pub mod Numbers
 pub mod Options
-pub mod Places
+pub mod Positions
 pub mod Ranges
 pub mod Results

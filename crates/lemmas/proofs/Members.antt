@@ -4,7 +4,7 @@ use Rattle.std.specs.Prelude.{slice_get}
 use Rattle.std.specs.List.{IsDistinct, AllByRecursion, flat_map}
 use Rattle.std.proofs.lemmas.List.Elements.{Contains-append_cases, Contains-append_left, Contains-append_right}
 use Rattle.std.proofs.lemmas.Option.{get_or_from_slice_get, same_Some, slice_get_within}
-use Rattle.lemmas.proofs.Places.{get_map, got}
+use Rattle.lemmas.proofs.Positions.{get_map, got}
 
 -- An empty list contains nothing.
 pub contains_none : {X : Type 0} (x : X) → Contains [] x → ⊥
@@ -23,7 +23,7 @@ pub contains_cases : {X : Type 0} (x y : X) (xs : List X) → Contains (x ∷ xs
 contains_cases x y xs (zero, lt, is) = inl is
 contains_cases x y xs (suc k, lt, is) = inr (k, omega (arith, lt), is)
 
--- A list contains what stands at one of its places.
+-- A list contains what stands at one of its positions.
 pub contains_at : {X : Type 0} (xs : List X) (i : ℕ) (x : X) → slice_get xs i ≡ Some x → Contains xs x
 contains_at xs i x e = (i, slice_get_within xs i x e, get_or_from_slice_get xs i x x e)
 
@@ -42,19 +42,19 @@ flat_map_has f (y ∷ ys) (suc i) x a e at = Contains-append_right (f y) (flat_m
 
 -- An element whose list contains this.
 pub record IsFrom {X A : Type 0} (f : X → List A) (xs : List X) (a : A) : Type 0 where
-  pub place : ℕ
+  pub position : ℕ
   pub source : X
-  pub there : slice_get xs place ≡ Some source
+  pub there : slice_get xs position ≡ Some source
   pub has : Contains (f source) a
 
 -- What the joined lists contain is from one of them.
 pub flat_map_from : {X A : Type 0} (f : X → List A) (xs : List X) (a : A) → Contains (flat_map f xs) a → IsFrom f xs a
 flat_map_from f [] a at = absurd (contains_none a at)
 flat_map_from f (x ∷ xs) a at = elim (Contains-append_cases (f x) (flat_map f xs) a at) [
-  | inl here ↦ record { place = 0; source = x; there = refl; has = here }
+  | inl here ↦ record { position = 0; source = x; there = refl; has = here }
   | inr later ↦ (
       let found = flat_map_from f xs a later in
-      record { place = suc found.place; source = found.source; there = found.there; has = found.has })
+      record { position = suc found.position; source = found.source; there = found.there; has = found.has })
 ]
 
 -- ---- lists with all elements of a kind, or all apart

@@ -19,28 +19,28 @@ module _ {S L : Type 0} (calls : Calls S) (carries : Carries L) where
   exchanged old m now link came answer new speaks carried met =
       record { silent = λ e. absurd (true≢false (sym e ∙ speaks)); heard = λ _. (link, came, carried, met) }
 
-  module _ (old before : GridState S L) (place node : ℕ) (item : Option (NodeState S L)) (same : before ≡ old) (number : place ≡ node) (within : place < length before.nodes) (value : item ≡ get_or before.nodes place item) where
-    at : slice_get before.nodes place ≡ Some item
-    at = slice_get_read before.nodes (length before.nodes) place item refl within value
+  module _ (old before : GridState S L) (position node : ℕ) (item : Option (NodeState S L)) (same : before ≡ old) (number : position ≡ node) (within : position < length before.nodes) (value : item ≡ get_or before.nodes position item) where
+    at : slice_get before.nodes position ≡ Some item
+    at = slice_get_read before.nodes (length before.nodes) position item refl within value
 
     -- a node that is there
     pub asked : (m : Message) (answer : Option Message) (n after : NodeState S L) → item ≡ Some n → Exchanges calls carries n m before.clock answer after
-        → Asks calls carries old node m answer (record { nodes = slice_set before.nodes place (Some after); clock = before.clock })
+        → Asks calls carries old node m answer (record { nodes = slice_set before.nodes position (Some after); clock = before.clock })
     asked m answer n after is exchanges =
-        let there : slice_get before.nodes place ≡ Some (Some n) = at ∙ ap Some is in
-        subst (λ (o : GridState S L). Asks calls carries o node m answer (record { nodes = slice_set before.nodes place (Some after); clock = before.clock })) same
-        (subst (λ (k : ℕ). Asks calls carries before k m answer (record { nodes = slice_set before.nodes place (Some after); clock = before.clock })) number
-        (subst (λ (o : Option (Option (NodeState S L))). AsksAt calls carries before place o m answer (record { nodes = slice_set before.nodes place (Some after); clock = before.clock })) (sym there) (after, exchanges, refl)))
+        let there : slice_get before.nodes position ≡ Some (Some n) = at ∙ ap Some is in
+        subst (λ (o : GridState S L). Asks calls carries o node m answer (record { nodes = slice_set before.nodes position (Some after); clock = before.clock })) same
+        (subst (λ (k : ℕ). Asks calls carries before k m answer (record { nodes = slice_set before.nodes position (Some after); clock = before.clock })) number
+        (subst (λ (o : Option (Option (NodeState S L))). AsksAt calls carries before position o m answer (record { nodes = slice_set before.nodes position (Some after); clock = before.clock })) (sym there) (after, exchanges, refl)))
 
     -- a node that is missing
-    pub missed : (m : Message) → item ≡ None → Asks calls carries old node m None (record { nodes = slice_set before.nodes place item; clock = before.clock })
+    pub missed : (m : Message) → item ≡ None → Asks calls carries old node m None (record { nodes = slice_set before.nodes position item; clock = before.clock })
     missed m is =
-        let there : slice_get before.nodes place ≡ Some None = at ∙ ap Some is in
-        let stays : slice_set before.nodes place item ≡ before.nodes = ap (λ (x : Option (NodeState S L)). slice_set before.nodes place x) value ∙ set-get_or before.nodes place item in
-        let new : GridState S L = record { nodes = slice_set before.nodes place item; clock = before.clock } in
+        let there : slice_get before.nodes position ≡ Some None = at ∙ ap Some is in
+        let stays : slice_set before.nodes position item ≡ before.nodes = ap (λ (x : Option (NodeState S L)). slice_set before.nodes position x) value ∙ set-get_or before.nodes position item in
+        let new : GridState S L = record { nodes = slice_set before.nodes position item; clock = before.clock } in
         subst (λ (o : GridState S L). Asks calls carries o node m None new) same
         (subst (λ (k : ℕ). Asks calls carries before k m None new) number
-        (subst (λ (o : Option (Option (NodeState S L))). AsksAt calls carries before place o m None new) (sym there)
+        (subst (λ (o : Option (Option (NodeState S L))). AsksAt calls carries before position o m None new) (sym there)
         (refl, ap (λ (nodes : List (Option (NodeState S L))). record { nodes = nodes; clock = before.clock }) stays)))
 
 -- memory is refused
@@ -76,15 +76,15 @@ module _ {S L : Type 0} (calls : Calls S) (carries : Carries L) (gives_up : L �
   all_later_stop (Err e) old new m came now link spoke carried left speaks = later_stops old new m came now link spoke speaks carried left
 
   -- a node that is there is asked
-  pub asked_in_vain : (old before : GridState S L) (place node : ℕ) (item : Option (NodeState S L)) → before ≡ old → place ≡ node → place < length before.nodes → item ≡ get_or before.nodes place item
+  pub asked_in_vain : (old before : GridState S L) (position node : ℕ) (item : Option (NodeState S L)) → before ≡ old → position ≡ node → position < length before.nodes → item ≡ get_or before.nodes position item
       → (m : Message) (n after : NodeState S L) → item ≡ Some n → StopsShort calls carries gives_up n m before.clock after
-      → Stops calls carries gives_up old node m (record { nodes = slice_set before.nodes place (Some after); clock = before.clock })
-  asked_in_vain old before place node item same number within value m n after is stops =
-      let there : slice_get before.nodes place ≡ Some (Some n) = slice_get_read before.nodes (length before.nodes) place item refl within value ∙ ap Some is in
-      let new : GridState S L = record { nodes = slice_set before.nodes place (Some after); clock = before.clock } in
+      → Stops calls carries gives_up old node m (record { nodes = slice_set before.nodes position (Some after); clock = before.clock })
+  asked_in_vain old before position node item same number within value m n after is stops =
+      let there : slice_get before.nodes position ≡ Some (Some n) = slice_get_read before.nodes (length before.nodes) position item refl within value ∙ ap Some is in
+      let new : GridState S L = record { nodes = slice_set before.nodes position (Some after); clock = before.clock } in
       subst (λ (o : GridState S L). Stops calls carries gives_up o node m new) same
       (subst (λ (k : ℕ). Stops calls carries gives_up before k m new) number
-      (subst (λ (o : Option (Option (NodeState S L))). StopsAt calls carries gives_up before place o m new) (sym there) (after, stops, refl)))
+      (subst (λ (o : Option (Option (NodeState S L))). StopsAt calls carries gives_up before position o m new) (sym there) (after, stops, refl)))
 
 -- a tick is the one that `Ticks` says
 server_ticked : {S : Type 0} (now : ℕ) (old new : ServerState S) → Ticks old now new → new ≡ ticked_server now old

@@ -40,10 +40,10 @@ impl<S: Store, L: Link> Model for LocalGrid<S, L> {
 }
 
 // A node takes note of a second, where there is one.
-fn tick_at<S: Store, L: Link>(place: &mut Option<Node<S, L>>, now: u64)
-    ensures { place.new ≡ ticked now place.old }
+fn tick_at<S: Store, L: Link>(position: &mut Option<Node<S, L>>, now: u64)
+    ensures { position.new ≡ ticked now position.old }
 {
-    if let Some(node) = place {
+    if let Some(node) = position {
         node.tick(now);
     }
 }
@@ -52,8 +52,8 @@ fn tick_at<S: Store, L: Link>(place: &mut Option<Node<S, L>>, now: u64)
 fn tick_each<S: Store, L: Link>(nodes: &mut Vec<Option<Node<S, L>>>, now: u64)
     ensures { nodes.new.items ≡ map (ticked now) nodes.old.items }
 {
-    for place in nodes.iter_mut() {
-        tick_at(place, now);
+    for position in nodes.iter_mut() {
+        tick_at(position, now);
     }
 }
 
@@ -208,11 +208,11 @@ impl<S: Store, L: Link> LocalGrid<S, L> {
             (Stops S.calls L.carries L.gives_up self.old node message.now self.new) }
         ensures clock { self.new.clock ≡ self.old.clock }
     {
-        let place = usize::from(node);
-        if place >= self.nodes.len() {
+        let position = usize::from(node);
+        if position >= self.nodes.len() {
             return Ok(None);
         }
-        match &mut self.nodes[place] {
+        match &mut self.nodes[position] {
             Some(asked) => asked.exchange(message, self.clock, &mut self.frame),
             None => Ok(None),
         }

@@ -1,4 +1,4 @@
--- Without a clash one path alone leads from a place to a root, and to the root of a tree leads the leaf that stands there.
+-- Without a clash one path alone leads from a position to a root, and to the root of a tree leads the leaf that stands there.
 use Rattle.std.proofs.Common.{◌≡◌, ℕ, zero, suc, ◌+◌, ◌-◌, ◌^◌, ◌<◌, ◌≤◌, List, [], ◌∷◌, ◌++◌, length, inl, inr, slice_index_or, Contains, ap, refl, sym, subst, ◌∙◌, arith}
 use Rattle.std.specs.Prelude.{decimal, take, drop}
 use Rattle.std.proofs.lemmas.Bool.{cases_lt}
@@ -54,29 +54,29 @@ pair_same a b x y la lb lx ly e =
 
 -- ---- halves
 
-pub root_left : (m place : ℕ) (h : List ℕ) (s : List (List ℕ)) → place < 2 ^ m
-    → path_root (suc m) place h s ≡ node_hash (path_root m place h s) (slice_index_or s m [])
-root_left m place h s low = rw (lt_true place (2 ^ m) low) refl
+pub root_left : (m position : ℕ) (h : List ℕ) (s : List (List ℕ)) → position < 2 ^ m
+    → path_root (suc m) position h s ≡ node_hash (path_root m position h s) (slice_index_or s m [])
+root_left m position h s low = rw (lt_true position (2 ^ m) low) refl
 
-pub root_right : (m place : ℕ) (h : List ℕ) (s : List (List ℕ)) → 2 ^ m ≤ place
-    → path_root (suc m) place h s ≡ node_hash (slice_index_or s m []) (path_root m (place - 2 ^ m) h s)
-root_right m place h s high = rw (lt_false place (2 ^ m) high) refl
+pub root_right : (m position : ℕ) (h : List ℕ) (s : List (List ℕ)) → 2 ^ m ≤ position
+    → path_root (suc m) position h s ≡ node_hash (slice_index_or s m []) (path_root m (position - 2 ^ m) h s)
+root_right m position h s high = rw (lt_false position (2 ^ m) high) refl
 
-pub inputs_left : (m place : ℕ) (h : List ℕ) (s : List (List ℕ)) → place < 2 ^ m
-    → path_inputs (suc m) place h s ≡ pair_input TreeNode (path_root m place h s) (slice_index_or s m []) ∷ path_inputs m place h s
-inputs_left m place h s low = rw (lt_true place (2 ^ m) low) refl
+pub inputs_left : (m position : ℕ) (h : List ℕ) (s : List (List ℕ)) → position < 2 ^ m
+    → path_inputs (suc m) position h s ≡ pair_input TreeNode (path_root m position h s) (slice_index_or s m []) ∷ path_inputs m position h s
+inputs_left m position h s low = rw (lt_true position (2 ^ m) low) refl
 
-pub inputs_right : (m place : ℕ) (h : List ℕ) (s : List (List ℕ)) → 2 ^ m ≤ place
-    → path_inputs (suc m) place h s ≡ pair_input TreeNode (slice_index_or s m []) (path_root m (place - 2 ^ m) h s) ∷ path_inputs m (place - 2 ^ m) h s
-inputs_right m place h s high = rw (lt_false place (2 ^ m) high) refl
+pub inputs_right : (m position : ℕ) (h : List ℕ) (s : List (List ℕ)) → 2 ^ m ≤ position
+    → path_inputs (suc m) position h s ≡ pair_input TreeNode (slice_index_or s m []) (path_root m (position - 2 ^ m) h s) ∷ path_inputs m (position - 2 ^ m) h s
+inputs_right m position h s high = rw (lt_false position (2 ^ m) high) refl
 
 -- a root that a hash leads to is one
-root_long : (m place : ℕ) (h : List ℕ) (s : List (List ℕ)) → length h ≡ 32 → length (path_root m place h s) ≡ 32
-root_long zero place h s long = long
-root_long (suc m) place h s long =
-    elim (cases_lt place (2 ^ m)) [
-      | inl low ↦ ap length (root_left m place h s low) ∙ length-double_sha256 _
-      | inr high ↦ ap length (root_right m place h s high) ∙ length-double_sha256 _
+root_long : (m position : ℕ) (h : List ℕ) (s : List (List ℕ)) → length h ≡ 32 → length (path_root m position h s) ≡ 32
+root_long zero position h s long = long
+root_long (suc m) position h s long =
+    elim (cases_lt position (2 ^ m)) [
+      | inl low ↦ ap length (root_left m position h s low) ∙ length-double_sha256 _
+      | inr high ↦ ap length (root_right m position h s high) ∙ length-double_sha256 _
     ]
 
 -- ---- one path
@@ -92,10 +92,10 @@ pub tail_of : (IsOne : List ℕ → Type 0) (x : List ℕ) (xs : List (List ℕ)
 tail_of IsOne x xs all = λ y c. all y (member_there x y xs c)
 
 -- a path of hashes, all that is hashed on it of a kind
-pub record IsPathOf (IsOne : List ℕ → Type 0) (m place : ℕ) (hash : List ℕ) (siblings : List (List ℕ)) : Type 0 where
+pub record IsPathOf (IsOne : List ℕ → Type 0) (m position : ℕ) (hash : List ℕ) (siblings : List (List ℕ)) : Type 0 where
   pub hash_length : length hash ≡ 32
   pub sibling_lengths : (i : ℕ) → i < m → length (slice_index_or siblings i []) ≡ 32
-  pub among : AreOf IsOne (path_inputs m place hash siblings)
+  pub among : AreOf IsOne (path_inputs m position hash siblings)
 
 -- two paths are one: their hashes, and their siblings
 pub record AreOnePath (m : ℕ) (first second : List ℕ) (these those : List (List ℕ)) : Type 0 where
@@ -113,44 +113,44 @@ one_more m first second these those one e = record {
   ];
 }
 
--- without a clash one path alone leads from a place to a root
-pub one_path : (IsOne : List ℕ → Type 0) → HasNoClashIn IsOne → (m place : ℕ) (first second : List ℕ) (these those : List (List ℕ))
-    → IsPathOf IsOne m place first these → IsPathOf IsOne m place second those
-    → path_root m place first these ≡ path_root m place second those → AreOnePath m first second these those
-one_path IsOne no_clash zero place first second these those p q e = record { hash = e; siblings = λ i low. absurd (omega (arith, low)) }
-one_path IsOne no_clash (suc m) place first second these those p q e =
+-- without a clash one path alone leads from a position to a root
+pub one_path : (IsOne : List ℕ → Type 0) → HasNoClashIn IsOne → (m position : ℕ) (first second : List ℕ) (these those : List (List ℕ))
+    → IsPathOf IsOne m position first these → IsPathOf IsOne m position second those
+    → path_root m position first these ≡ path_root m position second those → AreOnePath m first second these those
+one_path IsOne no_clash zero position first second these those p q e = record { hash = e; siblings = λ i low. absurd (omega (arith, low)) }
+one_path IsOne no_clash (suc m) position first second these those p q e =
     let fewer : (i : ℕ) → i < m → i < suc m = λ i low. omega (arith, low) in
-    elim (cases_lt place (2 ^ m)) [
+    elim (cases_lt position (2 ^ m)) [
       | inl low ↦
-          let mine = subst (AreOf IsOne) (inputs_left m place first these low) p.among in
-          let yours = subst (AreOf IsOne) (inputs_left m place second those low) q.among in
-          let hashes = sym (root_left m place first these low) ∙ e ∙ root_left m place second those low in
+          let mine = subst (AreOf IsOne) (inputs_left m position first these low) p.among in
+          let yours = subst (AreOf IsOne) (inputs_left m position second those low) q.among in
+          let hashes = sym (root_left m position first these low) ∙ e ∙ root_left m position second those low in
           let one = no_clash _ _ (head_of IsOne _ _ mine) (head_of IsOne _ _ yours) hashes in
-          let below = pair_same _ _ _ _ (root_long m place first these p.hash_length) (root_long m place second those q.hash_length)
+          let below = pair_same _ _ _ _ (root_long m position first these p.hash_length) (root_long m position second those q.hash_length)
           (p.sibling_lengths m (omega arith)) (q.sibling_lengths m (omega arith)) one in
-          one_more m first second these those (one_path IsOne no_clash m place first second these those
+          one_more m first second these those (one_path IsOne no_clash m position first second these those
           record { hash_length = p.hash_length; sibling_lengths = λ i l. p.sibling_lengths i (fewer i l); among = tail_of IsOne _ _ mine }
           record { hash_length = q.hash_length; sibling_lengths = λ i l. q.sibling_lengths i (fewer i l); among = tail_of IsOne _ _ yours } below.0) below.1
       | inr high ↦
-          let mine = subst (AreOf IsOne) (inputs_right m place first these high) p.among in
-          let yours = subst (AreOf IsOne) (inputs_right m place second those high) q.among in
-          let hashes = sym (root_right m place first these high) ∙ e ∙ root_right m place second those high in
+          let mine = subst (AreOf IsOne) (inputs_right m position first these high) p.among in
+          let yours = subst (AreOf IsOne) (inputs_right m position second those high) q.among in
+          let hashes = sym (root_right m position first these high) ∙ e ∙ root_right m position second those high in
           let one = no_clash _ _ (head_of IsOne _ _ mine) (head_of IsOne _ _ yours) hashes in
           let below = pair_same _ _ _ _ (p.sibling_lengths m (omega arith)) (q.sibling_lengths m (omega arith))
-          (root_long m (place - 2 ^ m) first these p.hash_length) (root_long m (place - 2 ^ m) second those q.hash_length) one in
-          one_more m first second these those (one_path IsOne no_clash m (place - 2 ^ m) first second these those
+          (root_long m (position - 2 ^ m) first these p.hash_length) (root_long m (position - 2 ^ m) second those q.hash_length) one in
+          one_more m first second these those (one_path IsOne no_clash m (position - 2 ^ m) first second these those
           record { hash_length = p.hash_length; sibling_lengths = λ i l. p.sibling_lengths i (fewer i l); among = tail_of IsOne _ _ mine }
           record { hash_length = q.hash_length; sibling_lengths = λ i l. q.sibling_lengths i (fewer i l); among = tail_of IsOne _ _ yours } below.1) below.0
     ]
 
 -- where the kind is that of a list
-pub path_of : (inputs : List (List ℕ)) (m place : ℕ) (hash : List ℕ) (siblings : List (List ℕ)) → IsPathAmong inputs m place hash siblings
-    → IsPathOf (Contains inputs) m place hash siblings
-path_of inputs m place hash siblings p = record { hash_length = p.hash_length; sibling_lengths = p.sibling_lengths; among = p.among }
+pub path_of : (inputs : List (List ℕ)) (m position : ℕ) (hash : List ℕ) (siblings : List (List ℕ)) → IsPathAmong inputs m position hash siblings
+    → IsPathOf (Contains inputs) m position hash siblings
+path_of inputs m position hash siblings p = record { hash_length = p.hash_length; sibling_lengths = p.sibling_lengths; among = p.among }
 
 pub paths_agree : PathsAgree
-paths_agree inputs no_clash m place first second these those p q e =
-    (one_path (Contains inputs) no_clash m place first second these those (path_of inputs m place first these p) (path_of inputs m place second those q) e).hash
+paths_agree inputs no_clash m position first second these those p q e =
+    (one_path (Contains inputs) no_clash m position first second these those (path_of inputs m position first these p) (path_of inputs m position second those q) e).hash
 
 -- ---- a tree's own leaf
 
@@ -159,10 +159,10 @@ tree_long zero hashes full are = are 0 [] (omega (arith, full))
 tree_long (suc m) hashes full are = length-double_sha256 _
 
 pub leaf_agrees : LeafAgrees
-leaf_agrees inputs no_clash zero place hashes hash siblings low full are among p e =
-    let first : 0 ≡ place = omega (arith, low) in
+leaf_agrees inputs no_clash zero position hashes hash siblings low full are among p e =
+    let first : 0 ≡ position = omega (arith, low) in
     sym e ∙ ap (λ (n : ℕ). slice_index_or hashes n []) first
-leaf_agrees inputs no_clash (suc m) place hashes hash siblings low full are among p e =
+leaf_agrees inputs no_clash (suc m) position hashes hash siblings low full are among p e =
     let fewer : (i : ℕ) → i < m → i < suc m = λ i l. omega (arith, l) in
     let twice : 2 ^ suc m ≡ 2 ^ m + 2 ^ m = omega arith in
     let front : length (take (2 ^ m) hashes) ≡ 2 ^ m = length-take-le (2 ^ m) hashes (omega (arith, full, twice)) in
@@ -170,24 +170,24 @@ leaf_agrees inputs no_clash (suc m) place hashes hash siblings low full are amon
     let are_front : AreHashes (take (2 ^ m) hashes) = All-take (λ (h : List ℕ). length h ≡ 32) (2 ^ m) hashes are in
     let are_back : AreHashes (drop (2 ^ m) hashes) = All-drop (λ (h : List ℕ). length h ≡ 32) (2 ^ m) hashes are in
     let below : AreAmong inputs (root_inputs m (take (2 ^ m) hashes) ++ root_inputs m (drop (2 ^ m) hashes)) = tail_of (Contains inputs) _ _ among in
-    elim (cases_lt place (2 ^ m)) [
+    elim (cases_lt position (2 ^ m)) [
       | inl left ↦
-          let mine = subst (AreAmong inputs) (inputs_left m place hash siblings left) p.among in
-          let one = no_clash _ _ (head_of (Contains inputs) _ _ among) (head_of (Contains inputs) _ _ mine) (e ∙ root_left m place hash siblings left) in
-          let same = pair_same _ _ _ _ (tree_long m (take (2 ^ m) hashes) front are_front) (root_long m place hash siblings p.hash_length)
+          let mine = subst (AreAmong inputs) (inputs_left m position hash siblings left) p.among in
+          let one = no_clash _ _ (head_of (Contains inputs) _ _ among) (head_of (Contains inputs) _ _ mine) (e ∙ root_left m position hash siblings left) in
+          let same = pair_same _ _ _ _ (tree_long m (take (2 ^ m) hashes) front are_front) (root_long m position hash siblings p.hash_length)
           (tree_long m (drop (2 ^ m) hashes) back are_back) (p.sibling_lengths m (omega arith)) one in
-          leaf_agrees inputs no_clash m place (take (2 ^ m) hashes) hash siblings left front are_front
+          leaf_agrees inputs no_clash m position (take (2 ^ m) hashes) hash siblings left front are_front
           (λ x c. below x (Contains-append_left (root_inputs m (take (2 ^ m) hashes)) (root_inputs m (drop (2 ^ m) hashes)) x c))
           record { hash_length = p.hash_length; sibling_lengths = λ i l. p.sibling_lengths i (fewer i l); among = tail_of (Contains inputs) _ _ mine } same.0
-          ∙ get_or-take (2 ^ m) hashes place [] left
+          ∙ get_or-take (2 ^ m) hashes position [] left
       | inr right ↦
-          let mine = subst (AreAmong inputs) (inputs_right m place hash siblings right) p.among in
-          let one = no_clash _ _ (head_of (Contains inputs) _ _ among) (head_of (Contains inputs) _ _ mine) (e ∙ root_right m place hash siblings right) in
+          let mine = subst (AreAmong inputs) (inputs_right m position hash siblings right) p.among in
+          let one = no_clash _ _ (head_of (Contains inputs) _ _ among) (head_of (Contains inputs) _ _ mine) (e ∙ root_right m position hash siblings right) in
           let same = pair_same _ _ _ _ (tree_long m (take (2 ^ m) hashes) front are_front) (p.sibling_lengths m (omega arith))
-          (tree_long m (drop (2 ^ m) hashes) back are_back) (root_long m (place - 2 ^ m) hash siblings p.hash_length) one in
-          let again : 2 ^ m + (place - 2 ^ m) ≡ place = omega (arith, right) in
-          leaf_agrees inputs no_clash m (place - 2 ^ m) (drop (2 ^ m) hashes) hash siblings (omega (arith, low, right, twice)) back are_back
+          (tree_long m (drop (2 ^ m) hashes) back are_back) (root_long m (position - 2 ^ m) hash siblings p.hash_length) one in
+          let again : 2 ^ m + (position - 2 ^ m) ≡ position = omega (arith, right) in
+          leaf_agrees inputs no_clash m (position - 2 ^ m) (drop (2 ^ m) hashes) hash siblings (omega (arith, low, right, twice)) back are_back
           (λ x c. below x (Contains-append_right (root_inputs m (take (2 ^ m) hashes)) (root_inputs m (drop (2 ^ m) hashes)) x c))
           record { hash_length = p.hash_length; sibling_lengths = λ i l. p.sibling_lengths i (fewer i l); among = tail_of (Contains inputs) _ _ mine } same.1
-          ∙ get_or-drop (2 ^ m) hashes (place - 2 ^ m) [] ∙ ap (λ (n : ℕ). slice_index_or hashes n []) again
+          ∙ get_or-drop (2 ^ m) hashes (position - 2 ^ m) [] ∙ ap (λ (n : ℕ). slice_index_or hashes n []) again
     ]

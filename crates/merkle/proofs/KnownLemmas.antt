@@ -12,12 +12,12 @@ use Rattle.tagged_hash.specs.TaggedHash.{node_hash}
 use Rattle.tagged_hash.proofs.HashLemmas.{length-double_sha256}
 use Rattle.merkle.specs.Inputs.{AreHashes, node_input, path_inputs}
 use Rattle.merkle.specs.Known.{IsKnownInput, KnownPathsAreKnown, KnowsHashes}
-use Rattle.merkle.specs.Partial.{IsExtended, IsPartial, Known, PartialState, Takes, all_known, ancestor, is_padding, known_at, known_by, known_siblings, leaf_number, only_root, padding, padding_hash, parent, place_in_row, row_of, starting}
+use Rattle.merkle.specs.Partial.{IsExtended, IsPartial, Known, PartialState, Takes, all_known, ancestor, is_padding, known_at, known_by, known_siblings, leaf_number, only_root, padding, padding_hash, parent, position_in_row, row_of, starting}
 use Rattle.merkle.specs.Path.{path_root}
 use Rattle.merkle.specs.Tree.{height, node, node_count, node_number, padded_to, root, sibling_number}
 use Rattle.merkle.proofs.HeightLemmas.{height_below, height_room}
 use Rattle.merkle.proofs.InputLemmas.{inputs_left, inputs_right}
-use Rattle.merkle.proofs.PaddingLemmas.{place_inside, row_begins, row_low}
+use Rattle.merkle.proofs.PaddingLemmas.{position_inside, row_begins, row_low}
 use Rattle.merkle.proofs.PartialLemmas.{known-untold, one_value}
 use Rattle.merkle.proofs.StateLemmas.{children_left, children_right, only_root-none, sibling_known}
 use Rattle.merkle.proofs.TreeLemmas.{node-leaf, padded_to-empty}
@@ -41,10 +41,10 @@ module _ (n number : ℕ) (inside : number < node_count n) where
   pub row_within : row_of number ≤ height n
   row_within = row_low (height n) number (height (number + 2)) below (height_room (number + 2)) least
 
-  pub place_within : place_in_row number < 2 ^ row_of number
-  place_within = place_inside (height n) number (height (number + 2)) below (height_room (number + 2)) least
+  pub position_within : position_in_row number < 2 ^ row_of number
+  position_within = position_inside (height n) number (height (number + 2)) below (height_room (number + 2)) least
 
-  pub number_is : number ≡ node_number (row_of number) (place_in_row number)
+  pub number_is : number ≡ node_number (row_of number) (position_in_row number)
   number_is = let begins = row_begins (height n) number (height (number + 2)) below (height_room (number + 2)) least in omega (arith, begins, pow_pos (row_of number))
 
   pub padding_long : length (padding_hash n number) ≡ 32
@@ -52,9 +52,9 @@ module _ (n number : ℕ) (inside : number < node_count n) where
     | inl above ↦ root_long (height n - row_of number) _ (omega (arith, above))
     | inr last ↦
         let same : row_of number ≡ height n = let low = row_within in omega (arith, low, last) in
-        let inside_row : place_in_row number < 2 ^ height n = subst (λ (r : ℕ). place_in_row number < 2 ^ r) same place_within in
-        ap (λ (r : ℕ). length (node (height n) (padded_to (2 ^ height n) []) r (place_in_row number))) same
-        ∙ ap length (node-leaf (height n) (padded_to (2 ^ height n) []) (place_in_row number) ∙ padded_to-empty (2 ^ height n) [] (place_in_row number) (omega arith) inside_row)
+        let inside_row : position_in_row number < 2 ^ height n = subst (λ (r : ℕ). position_in_row number < 2 ^ r) same position_within in
+        ap (λ (r : ℕ). length (node (height n) (padded_to (2 ^ height n) []) r (position_in_row number))) same
+        ∙ ap length (node-leaf (height n) (padded_to (2 ^ height n) []) (position_in_row number) ∙ padded_to-empty (2 ^ height n) [] (position_in_row number) (omega arith) inside_row)
         ∙ length-double_sha256 _
   ]
 
@@ -86,7 +86,7 @@ module _ (n : ℕ) (old new : Known) (offers : List (ℕ × List ℕ)) (extended
   touched_long (suc rows) below k h hash offered e = elim (cases_eq (ancestor rows below) 0) [
     | inl top ↦ touched_long rows below k h hash offered (ap new (top ∙ sym (ap parent top)) ∙ e)
     | inr other ↦
-        let j = extended.joined (ancestor rows below) (record { place = k; below = below; hash = h; rows = rows; offered = offered; above = refl }) (omega (arith, other)) in
+        let j = extended.joined (ancestor rows below) (record { position = k; below = below; hash = h; rows = rows; offered = offered; above = refl }) (omega (arith, other)) in
         ap length (one_value (new (parent (ancestor rows below))) hash (node_hash j.left j.right) e j.knows_parent) ∙ length-double_sha256 _
   ]
 
@@ -94,7 +94,7 @@ module _ (n : ℕ) (old new : Known) (offers : List (ℕ × List ℕ)) (extended
   extended_long number hash e = elim (cases_eq (length hash) 32) [
     | inl is ↦ is
     | inr other ↦ absurd (other (known number hash (sym (extended.others number (λ t. other
-        (touched_long t.rows t.below t.place t.hash hash t.offered (ap new t.above ∙ e)))) ∙ e)))
+        (touched_long t.rows t.below t.position t.hash hash t.offered (ap new t.above ∙ e)))) ∙ e)))
   ]
 
 pub takes_know : (old new : PartialState) (offers : List (ℕ × List ℕ)) → KnowsHashes old
@@ -113,8 +113,8 @@ module _ (p : PartialState) (leaf : ℕ) (hash input : List ℕ) (sound : IsPart
   way (suc t) low among = elim (cases_eq (leaf / 2 ^ t % 2) 0) [
     | inl even ↦
         let next : suc t ≡ 1 + t = omega arith in
-        let place : leaf % 2 ^ suc t ≡ leaf % 2 ^ t = rw (next, mod-pow-add leaf 1 t, even) (omega arith) in
-        let inputs = ap (λ (k : ℕ). path_inputs (suc t) k hash siblings) place ∙ inputs_left t (leaf % 2 ^ t) hash siblings (mod_below leaf (2 ^ t) (pow_pos t)) in
+        let position : leaf % 2 ^ suc t ≡ leaf % 2 ^ t = rw (next, mod-pow-add leaf 1 t, even) (omega arith) in
+        let inputs = ap (λ (k : ℕ). path_inputs (suc t) k hash siblings) position ∙ inputs_left t (leaf % 2 ^ t) hash siblings (mod_below leaf (2 ^ t) (pow_pos t)) in
         elim (contains_cases _ input _ (subst (λ (l : List (List ℕ)). Contains l input) inputs among)) [
           | inl is ↦
               let c = children_left p leaf hash sound inside knows t low even in
@@ -124,9 +124,9 @@ module _ (p : PartialState) (leaf : ℕ) (hash input : List ℕ) (sound : IsPart
     | inr other ↦
         let odd : leaf / 2 ^ t % 2 ≡ 1 = omega (arith, other) in
         let next : suc t ≡ 1 + t = omega arith in
-        let place : leaf % 2 ^ suc t ≡ 2 ^ t + leaf % 2 ^ t = rw (next, mod-pow-add leaf 1 t, odd) (omega arith) in
+        let position : leaf % 2 ^ suc t ≡ 2 ^ t + leaf % 2 ^ t = rw (next, mod-pow-add leaf 1 t, odd) (omega arith) in
         let back : 2 ^ t + leaf % 2 ^ t - 2 ^ t ≡ leaf % 2 ^ t = omega arith in
-        let split = ap (λ (k : ℕ). path_inputs (suc t) k hash siblings) place ∙ inputs_right t (2 ^ t + leaf % 2 ^ t) hash siblings (omega arith) in
+        let split = ap (λ (k : ℕ). path_inputs (suc t) k hash siblings) position ∙ inputs_right t (2 ^ t + leaf % 2 ^ t) hash siblings (omega arith) in
         let inputs = split ∙ ap (λ (k : ℕ). node_input (slice_index_or siblings t []) (path_root t k hash siblings) ∷ path_inputs t k hash siblings) back in
         elim (contains_cases _ input _ (subst (λ (l : List (List ℕ)). Contains l input) inputs among)) [
           | inl is ↦

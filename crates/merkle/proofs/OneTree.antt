@@ -14,8 +14,8 @@ use Rattle.merkle.proofs.TreeLemmas.{length-padded_to, take-padded_to}
 use Rattle.merkle.specs.OneTree.{SiblingsAgree, TreesAgree}
 
 pub siblings_agree : SiblingsAgree
-siblings_agree inputs no_clash m place first second these those p q e =
-    (one_path (Contains inputs) no_clash m place first second these those (path_of inputs m place first these p) (path_of inputs m place second those q) e).siblings
+siblings_agree inputs no_clash m position first second these those p q e =
+    (one_path (Contains inputs) no_clash m position first second these those (path_of inputs m position first these p) (path_of inputs m position second those q) e).siblings
 
 -- ---- trees
 

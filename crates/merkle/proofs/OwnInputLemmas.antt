@@ -19,50 +19,50 @@ use Rattle.merkle.proofs.TreeLemmas.{length-padded_to, padded_to-leaf, tree_node
 -- ---- the nodes of the halves
 
 -- a node's part of the leaves ends within them
-pub part_within : (m row place : ℕ) → row ≤ m → place < 2 ^ row → place * 2 ^ (m - row) + 2 ^ (m - row) ≤ 2 ^ m
-part_within m row place low inside =
+pub part_within : (m row position : ℕ) → row ≤ m → position < 2 ^ row → position * 2 ^ (m - row) + 2 ^ (m - row) ≤ 2 ^ m
+part_within m row position low inside =
     let w : ℕ = 2 ^ (m - row) in
     let sum : row + (m - row) ≡ m = omega arith in
     let whole : 2 ^ m ≡ 2 ^ row * w = ap (λ (k : ℕ). 2 ^ k) (sym sum) ∙ pow-add 2 row (m - row) in
-    let room : (place + 1) * w ≤ 2 ^ row * w = mul-le-mul_right {m = place + 1} {n = 2 ^ row} w (omega arith) in
+    let room : (position + 1) * w ≤ 2 ^ row * w = mul-le-mul_right {m = position + 1} {n = 2 ^ row} w (omega arith) in
     omega (arith, whole, room)
 
-node_left : (m : ℕ) (hashes : List (List ℕ)) (row place : ℕ) → row ≤ m → place < 2 ^ row
-    → node (suc m) hashes (suc row) place ≡ node m (take (2 ^ m) hashes) row place
-node_left m hashes row place low inside =
+node_left : (m : ℕ) (hashes : List (List ℕ)) (row position : ℕ) → row ≤ m → position < 2 ^ row
+    → node (suc m) hashes (suc row) position ≡ node m (take (2 ^ m) hashes) row position
+node_left m hashes row position low inside =
     let q : ℕ = m - row in
     let same : suc m - suc row ≡ q = omega arith in
-    let start : ℕ = place * 2 ^ q in
-    let within : start + 2 ^ q ≤ 2 ^ m = part_within m row place low inside in
+    let start : ℕ = position * 2 ^ q in
+    let within : start + 2 ^ q ≤ 2 ^ m = part_within m row position low inside in
     let split : 2 ^ m ≡ start + (2 ^ m - start) = omega arith in
     let half : drop start (take (2 ^ m) hashes) ≡ take (2 ^ m - start) (drop start hashes) =
     ap (λ (n : ℕ). drop start (take n hashes)) split ∙ drop-take start (2 ^ m - start) hashes in
     let part : take (2 ^ q) (drop start (take (2 ^ m) hashes)) ≡ take (2 ^ q) (drop start hashes) =
     ap (take (2 ^ q)) half ∙ take-take (2 ^ q) (2 ^ m - start) (drop start hashes) (omega arith) in
-    ap (λ (k : ℕ). root k (take (2 ^ k) (drop (place * 2 ^ k) hashes))) same ∙ ap (root q) (sym part)
+    ap (λ (k : ℕ). root k (take (2 ^ k) (drop (position * 2 ^ k) hashes))) same ∙ ap (root q) (sym part)
 
-node_right : (m : ℕ) (hashes : List (List ℕ)) (row place : ℕ) → row ≤ m
-    → node (suc m) hashes (suc row) (2 ^ row + place) ≡ node m (drop (2 ^ m) hashes) row place
-node_right m hashes row place low =
+node_right : (m : ℕ) (hashes : List (List ℕ)) (row position : ℕ) → row ≤ m
+    → node (suc m) hashes (suc row) (2 ^ row + position) ≡ node m (drop (2 ^ m) hashes) row position
+node_right m hashes row position low =
     let q : ℕ = m - row in
     let same : suc m - suc row ≡ q = omega arith in
     let sum : row + q ≡ m = omega arith in
     let whole : 2 ^ m ≡ 2 ^ row * 2 ^ q = ap (λ (k : ℕ). 2 ^ k) (sym sum) ∙ pow-add 2 row q in
-    let start : (2 ^ row + place) * 2 ^ q ≡ 2 ^ m + place * 2 ^ q = omega (arith, whole) in
-    ap (λ (k : ℕ). root k (take (2 ^ k) (drop ((2 ^ row + place) * 2 ^ k) hashes))) same
+    let start : (2 ^ row + position) * 2 ^ q ≡ 2 ^ m + position * 2 ^ q = omega (arith, whole) in
+    ap (λ (k : ℕ). root k (take (2 ^ k) (drop ((2 ^ row + position) * 2 ^ k) hashes))) same
     ∙ ap (λ (n : ℕ). root q (take (2 ^ q) (drop n hashes))) start
-    ∙ ap (λ (l : List (List ℕ)). root q (take (2 ^ q) l)) (sym (drop-drop (place * 2 ^ q) (2 ^ m) hashes))
+    ∙ ap (λ (l : List (List ℕ)). root q (take (2 ^ q) l)) (sym (drop-drop (position * 2 ^ q) (2 ^ m) hashes))
 
 -- the input of a node, from its two children
 abbrev pub children_input : ℕ → List (List ℕ) → ℕ → ℕ → List ℕ
-children_input m hashes row place = node_input (node m hashes (row + 1) (2 * place)) (node m hashes (row + 1) (2 * place + 1))
+children_input m hashes row position = node_input (node m hashes (row + 1) (2 * position)) (node m hashes (row + 1) (2 * position + 1))
 
 -- what is hashed for an inner node is hashed for the root
-pub children_among : (m : ℕ) (hashes : List (List ℕ)) (row place : ℕ) → length hashes ≡ 2 ^ m → row < m → place < 2 ^ row
-    → Contains (root_inputs m hashes) (children_input m hashes row place)
-children_among zero hashes row place full low inside = absurd (omega arith)
-children_among (suc m) hashes zero place full low inside =
-    let first : place ≡ 0 = omega arith in
+pub children_among : (m : ℕ) (hashes : List (List ℕ)) (row position : ℕ) → length hashes ≡ 2 ^ m → row < m → position < 2 ^ row
+    → Contains (root_inputs m hashes) (children_input m hashes row position)
+children_among zero hashes row position full low inside = absurd (omega arith)
+children_among (suc m) hashes zero position full low inside =
+    let first : position ≡ 0 = omega arith in
     let twice : 2 ^ suc m ≡ 2 ^ m + 2 ^ m = omega arith in
     let down : suc m - 1 ≡ m = omega arith in
     let none : 0 * 2 ^ m ≡ 0 = omega arith in
@@ -76,7 +76,7 @@ children_among (suc m) hashes zero place full low inside =
     sym (λ i. node_input (left i) (right i)) in
     subst (λ (k : ℕ). Contains (root_inputs (suc m) hashes) (children_input (suc m) hashes 0 k)) (sym first)
     (subst (Contains (root_inputs (suc m) hashes)) head (member_here _ _))
-children_among (suc m) hashes (suc row) place full low inside =
+children_among (suc m) hashes (suc row) position full low inside =
     let twice : 2 ^ suc m ≡ 2 ^ m + 2 ^ m = omega arith in
     let rows : 2 ^ suc row ≡ 2 ^ row + 2 ^ row = omega arith in
     let next : 2 ^ (row + 1) ≡ 2 ^ row + 2 ^ row = rw add-one (omega (arith, pow-suc 2 row)) in
@@ -85,22 +85,22 @@ children_among (suc m) hashes (suc row) place full low inside =
     let back : List (List ℕ) = drop (2 ^ m) hashes in
     let front_full : length front ≡ 2 ^ m = length-take-le (2 ^ m) hashes (omega (arith, twice)) in
     let back_full : length back ≡ 2 ^ m = omega (arith, length-drop (2 ^ m) hashes, twice) in
-    elim (cases_lt place (2 ^ row)) [
+    elim (cases_lt position (2 ^ row)) [
       | inl left ↦
-          let one = node_left m hashes (row + 1) (2 * place) (omega arith) (omega (arith, next)) in
-          let two = node_left m hashes (row + 1) (2 * place + 1) (omega arith) (omega (arith, next)) in
-          let same : children_input m front row place ≡ children_input (suc m) hashes (suc row) place =
-          sym (λ i. node_input (one i) (two i)) ∙ ap (λ (k : ℕ). node_input (node (suc m) hashes k (2 * place)) (node (suc m) hashes k (2 * place + 1))) (sym below) in
+          let one = node_left m hashes (row + 1) (2 * position) (omega arith) (omega (arith, next)) in
+          let two = node_left m hashes (row + 1) (2 * position + 1) (omega arith) (omega (arith, next)) in
+          let same : children_input m front row position ≡ children_input (suc m) hashes (suc row) position =
+          sym (λ i. node_input (one i) (two i)) ∙ ap (λ (k : ℕ). node_input (node (suc m) hashes k (2 * position)) (node (suc m) hashes k (2 * position + 1))) (sym below) in
           member_there _ _ _ (Contains-append_left (root_inputs m front) (root_inputs m back) _
-          (subst (Contains (root_inputs m front)) same (children_among m front row place front_full (omega arith) left)))
+          (subst (Contains (root_inputs m front)) same (children_among m front row position front_full (omega arith) left)))
       | inr right ↦
-          let p : ℕ = place - 2 ^ row in
+          let p : ℕ = position - 2 ^ row in
           let one = node_right m hashes (row + 1) (2 * p) (omega arith) in
           let two = node_right m hashes (row + 1) (2 * p + 1) (omega arith) in
-          let first : 2 ^ (row + 1) + 2 * p ≡ 2 * place = omega (arith, next) in
-          let second : 2 ^ (row + 1) + (2 * p + 1) ≡ 2 * place + 1 = omega (arith, next) in
+          let first : 2 ^ (row + 1) + 2 * p ≡ 2 * position = omega (arith, next) in
+          let second : 2 ^ (row + 1) + (2 * p + 1) ≡ 2 * position + 1 = omega (arith, next) in
           let above : suc (row + 1) ≡ suc row + 1 = sym below in
-          let same : children_input m back row p ≡ children_input (suc m) hashes (suc row) place =
+          let same : children_input m back row p ≡ children_input (suc m) hashes (suc row) position =
           sym (λ i. node_input (one i) (two i))
           ∙ (λ i. node_input (node (suc m) hashes (above i) (first i)) (node (suc m) hashes (above i) (second i))) in
           member_there _ _ _ (Contains-append_right (root_inputs m front) (root_inputs m back) _
@@ -114,17 +114,17 @@ inputs_even : (t leaf : ℕ) (hash : List ℕ) (siblings : List (List ℕ)) → 
     ≡ node_input (path_root t (leaf % 2 ^ t) hash siblings) (slice_index_or siblings t []) ∷ path_inputs t (leaf % 2 ^ t) hash siblings
 inputs_even t leaf hash siblings even =
     let next : suc t ≡ 1 + t = omega arith in
-    let place : leaf % 2 ^ suc t ≡ leaf % 2 ^ t = rw (next, mod-pow-add leaf 1 t, even) (omega arith) in
-    rw (place, lt_true (leaf % 2 ^ t) (2 ^ t) (mod_below leaf (2 ^ t) (pow_pos t))) refl
+    let position : leaf % 2 ^ suc t ≡ leaf % 2 ^ t = rw (next, mod-pow-add leaf 1 t, even) (omega arith) in
+    rw (position, lt_true (leaf % 2 ^ t) (2 ^ t) (mod_below leaf (2 ^ t) (pow_pos t))) refl
 
 inputs_odd : (t leaf : ℕ) (hash : List ℕ) (siblings : List (List ℕ)) → leaf / 2 ^ t % 2 ≡ 1
     → path_inputs (suc t) (leaf % 2 ^ suc t) hash siblings
     ≡ node_input (slice_index_or siblings t []) (path_root t (leaf % 2 ^ t) hash siblings) ∷ path_inputs t (leaf % 2 ^ t) hash siblings
 inputs_odd t leaf hash siblings odd =
     let next : suc t ≡ 1 + t = omega arith in
-    let place : leaf % 2 ^ suc t ≡ 2 ^ t + leaf % 2 ^ t = rw (next, mod-pow-add leaf 1 t, odd) (omega arith) in
+    let position : leaf % 2 ^ suc t ≡ 2 ^ t + leaf % 2 ^ t = rw (next, mod-pow-add leaf 1 t, odd) (omega arith) in
     let back : 2 ^ t + leaf % 2 ^ t - 2 ^ t ≡ leaf % 2 ^ t = omega arith in
-    rw (place, lt_false (2 ^ t + leaf % 2 ^ t) (2 ^ t) (omega arith), back) refl
+    rw (position, lt_false (2 ^ t + leaf % 2 ^ t) (2 ^ t) (omega arith), back) refl
 
 module _ (m : ℕ) (hashes : List (List ℕ)) (leaf : ℕ) (siblings : List (List ℕ))
     (nodes : (i : ℕ) → i < m → slice_index_or siblings i [] ≡ node m hashes (m - i) (sibling (leaf / 2 ^ i))) where
@@ -162,9 +162,9 @@ module _ (m : ℕ) (hashes : List (List ℕ)) (leaf : ℕ) (siblings : List (Lis
   path_among full inside zero within x c = absurd (omega (arith, c.1))
   path_among full inside (suc t) within x c =
       let sum : m - suc t + suc t ≡ m = omega arith in
-      let place : leaf / 2 ^ suc t < 2 ^ (m - suc t) = shr_below leaf (m - suc t) (suc t) (rw sum inside) in
+      let position : leaf / 2 ^ suc t < 2 ^ (m - suc t) = shr_below leaf (m - suc t) (suc t) (rw sum inside) in
       elim (contains_cases _ x _ (subst (λ (l : List (List ℕ)). Contains l x) (step_input t within) c)) [
-        | inl head ↦ subst (Contains (root_inputs m hashes)) head (children_among m hashes (m - suc t) (leaf / 2 ^ suc t) full (omega arith) place)
+        | inl head ↦ subst (Contains (root_inputs m hashes)) head (children_among m hashes (m - suc t) (leaf / 2 ^ suc t) full (omega arith) position)
         | inr rest ↦ path_among full inside t (omega arith) x rest
       ]
 

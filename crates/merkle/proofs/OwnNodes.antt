@@ -11,12 +11,12 @@ use Rattle.tagged_hash.proofs.HashLemmas.{length-double_sha256}
 use Rattle.merkle.specs.Inputs.{AreHashes, node_input, root_inputs, tree_inputs}
 use Rattle.merkle.specs.Known.{IsKnownInput, KnowsHashes}
 use Rattle.merkle.specs.OneTree.{KnownNodesAreOwn, KnowsTree}
-use Rattle.merkle.specs.Partial.{IsPartial, PartialState, is_padding, known_at, padding_hash, parent, place_in_row, row_of}
+use Rattle.merkle.specs.Partial.{IsPartial, PartialState, is_padding, known_at, padding_hash, parent, position_in_row, row_of}
 use Rattle.merkle.specs.Tree.{height, node, node_count, node_number, padded, padded_to, root, tree_nodes, tree_root}
 use Rattle.merkle.proofs.HeightLemmas.{height_room}
 use Rattle.merkle.proofs.InputLemmas.{AreOf, pair_same}
-use Rattle.merkle.proofs.KnownLemmas.{number_is, place_within, row_within}
-use Rattle.merkle.proofs.NodesLemmas.{inner_place}
+use Rattle.merkle.proofs.KnownLemmas.{number_is, position_within, row_within}
+use Rattle.merkle.proofs.NodesLemmas.{inner_position}
 use Rattle.merkle.proofs.OwnInputLemmas.{children_among, part_within}
 use Rattle.merkle.proofs.PaddingLemmas.{is_padding-before, is_padding-inside}
 use Rattle.merkle.proofs.PartialLemmas.{one_value}
@@ -27,10 +27,10 @@ abbrev pub own_node : List (List ℕ) → ℕ → List ℕ
 own_node leaves number = get_or (tree_nodes leaves) number []
 
 pub own_node_is : (leaves : List (List ℕ)) (number : ℕ) → number < node_count (length leaves)
-    → own_node leaves number ≡ node (height (length leaves)) (padded leaves) (row_of number) (place_in_row number)
+    → own_node leaves number ≡ node (height (length leaves)) (padded leaves) (row_of number) (position_in_row number)
 own_node_is leaves number inside =
     ap (own_node leaves) (number_is (length leaves) number inside)
-    ∙ tree_nodes_node leaves (row_of number) (place_in_row number) (row_within (length leaves) number inside) (place_within (length leaves) number inside)
+    ∙ tree_nodes_node leaves (row_of number) (position_in_row number) (row_within (length leaves) number inside) (position_within (length leaves) number inside)
 
 -- where it lies over empty leaves alone, it is the same in each tree of so many leaves
 pub own_padding : (leaves : List (List ℕ)) (number : ℕ) → is_padding (length leaves) number ≡ true
@@ -40,14 +40,14 @@ own_padding leaves number is =
     let m : ℕ = height n in
     let inside = is_padding-inside n number is in
     let row : ℕ = row_of number in
-    let place : ℕ = place_in_row number in
+    let position : ℕ = position_in_row number in
     let q : ℕ = m - row in
-    let start : ℕ = place * 2 ^ q in
+    let start : ℕ = position * 2 ^ q in
     let behind : n ≤ start = elim (cases_lt start n) [
       | inl before ↦ absurd (true≢false (sym is ∙ is_padding-before n number inside before))
       | inr there ↦ there
     ] in
-    let room : start + 2 ^ q ≤ 2 ^ m = part_within m row place (row_within n number inside) (place_within n number inside) in
+    let room : start + 2 ^ q ≤ 2 ^ m = part_within m row position (row_within n number inside) (position_within n number inside) in
     let mine : List (List ℕ) = padded leaves in
     let none : List (List ℕ) = padded_to (2 ^ m) [] in
     let mine_long : length mine ≡ 2 ^ m = length-padded_to (2 ^ m) leaves (height_room n) in
@@ -62,19 +62,19 @@ own_padding leaves number is =
     own_node_is leaves number inside ∙ ap (root q) same
 
 -- a node of a tree has 32 bytes
-node_long : (leaves : List (List ℕ)) → AreHashes leaves → (row place : ℕ) → row ≤ height (length leaves) → place < 2 ^ row
-    → length (node (height (length leaves)) (padded leaves) row place) ≡ 32
-node_long leaves hashes row place low inside =
+node_long : (leaves : List (List ℕ)) → AreHashes leaves → (row position : ℕ) → row ≤ height (length leaves) → position < 2 ^ row
+    → length (node (height (length leaves)) (padded leaves) row position) ≡ 32
+node_long leaves hashes row position low inside =
     let m : ℕ = height (length leaves) in
     elim (cases_lt row m) [
-      | inl inner ↦ ap length (node_split m (padded leaves) row place inner) ∙ length-double_sha256 _
+      | inl inner ↦ ap length (node_split m (padded leaves) row position inner) ∙ length-double_sha256 _
       | inr last ↦
           let same : row ≡ m = omega arith in
-          let within : place < 2 ^ m = rw (← same) inside in
-          rw same (ap length (node-leaf m (padded leaves) place)
-          ∙ elim (cases_lt place (length leaves)) [
-            | inl own ↦ ap length (padded_to-leaf (2 ^ m) leaves place own) ∙ hashes place [] own
-            | inr after ↦ ap length (padded_to-empty (2 ^ m) leaves place after within) ∙ length-double_sha256 _
+          let within : position < 2 ^ m = rw (← same) inside in
+          rw same (ap length (node-leaf m (padded leaves) position)
+          ∙ elim (cases_lt position (length leaves)) [
+            | inl own ↦ ap length (padded_to-leaf (2 ^ m) leaves position own) ∙ hashes position [] own
+            | inr after ↦ ap length (padded_to-empty (2 ^ m) leaves position after within) ∙ length-double_sha256 _
           ])
     ]
 
@@ -89,27 +89,27 @@ pub own_parent : (leaves : List (List ℕ)) → AreHashes leaves → (number : �
 own_parent leaves are number inner =
     let m : ℕ = height (length leaves) in
     let hashes : List (List ℕ) = padded leaves in
-    let found = inner_place m number inner in
+    let found = inner_position m number inner in
     let row : ℕ = found.0 in
-    let place : ℕ = found.1 in
+    let position : ℕ = found.1 in
     let low : row < m = found.2 in
-    let inside : place < 2 ^ row = found.3 in
-    let is : number ≡ node_number row place = found.4 in
+    let inside : position < 2 ^ row = found.3 in
+    let is : number ≡ node_number row position = found.4 in
     let double = next_power row in
-    let left_is : 2 * number + 1 ≡ node_number (row + 1) (2 * place) = omega (arith, is, double, pow_pos row) in
-    let right_is : 2 * number + 2 ≡ node_number (row + 1) (2 * place + 1) = omega (arith, is, double, pow_pos row) in
-    let here : own_node leaves number ≡ node m hashes row place = ap (own_node leaves) is ∙ tree_nodes_node leaves row place (omega arith) inside in
-    let left : own_node leaves (2 * number + 1) ≡ node m hashes (row + 1) (2 * place) =
-    ap (own_node leaves) left_is ∙ tree_nodes_node leaves (row + 1) (2 * place) (omega (arith, low)) (omega (arith, inside, double)) in
-    let right : own_node leaves (2 * number + 2) ≡ node m hashes (row + 1) (2 * place + 1) =
-    ap (own_node leaves) right_is ∙ tree_nodes_node leaves (row + 1) (2 * place + 1) (omega (arith, low)) (omega (arith, inside, double)) in
+    let left_is : 2 * number + 1 ≡ node_number (row + 1) (2 * position) = omega (arith, is, double, pow_pos row) in
+    let right_is : 2 * number + 2 ≡ node_number (row + 1) (2 * position + 1) = omega (arith, is, double, pow_pos row) in
+    let here : own_node leaves number ≡ node m hashes row position = ap (own_node leaves) is ∙ tree_nodes_node leaves row position (omega arith) inside in
+    let left : own_node leaves (2 * number + 1) ≡ node m hashes (row + 1) (2 * position) =
+    ap (own_node leaves) left_is ∙ tree_nodes_node leaves (row + 1) (2 * position) (omega (arith, low)) (omega (arith, inside, double)) in
+    let right : own_node leaves (2 * number + 2) ≡ node m hashes (row + 1) (2 * position + 1) =
+    ap (own_node leaves) right_is ∙ tree_nodes_node leaves (row + 1) (2 * position + 1) (omega (arith, low)) (omega (arith, inside, double)) in
     let full : length hashes ≡ 2 ^ m = length-padded_to (2 ^ m) leaves (height_room (length leaves)) in
     record {
-      left_long = ap length left ∙ node_long leaves are (row + 1) (2 * place) (omega (arith, low)) (omega (arith, inside, double));
-      right_long = ap length right ∙ node_long leaves are (row + 1) (2 * place + 1) (omega (arith, low)) (omega (arith, inside, double));
-      hash = here ∙ node_split m hashes row place low ∙ (λ i. node_hash (sym left i) (sym right i));
+      left_long = ap length left ∙ node_long leaves are (row + 1) (2 * position) (omega (arith, low)) (omega (arith, inside, double));
+      right_long = ap length right ∙ node_long leaves are (row + 1) (2 * position + 1) (omega (arith, low)) (omega (arith, inside, double));
+      hash = here ∙ node_split m hashes row position low ∙ (λ i. node_hash (sym left i) (sym right i));
       among = subst (Contains (tree_inputs leaves)) (λ i. node_input (sym left i) (sym right i))
-          (Contains-append_right _ (root_inputs m hashes) _ (children_among m hashes row place full low inside));
+          (Contains-append_right _ (root_inputs m hashes) _ (children_among m hashes row position full low inside));
     }
 
 -- ---- what is known

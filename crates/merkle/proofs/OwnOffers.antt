@@ -44,33 +44,33 @@ is_above (suc fuel) below number low = elim (cases_eq below number) [
   above_parent below number (suc rows) e other = (rows, sym (ancestor_next rows below) ∙ e)
 
 touched_first : (number : ℕ) (offer : ℕ × List ℕ) (offers : List (ℕ × List ℕ)) → IsAbove offer.0 number → IsTouched (offer ∷ offers) number
-touched_first number offer offers a = record { place = 0; below = offer.0; hash = offer.1; rows = a.0; offered = refl; above = a.1 }
+touched_first number offer offers a = record { position = 0; below = offer.0; hash = offer.1; rows = a.0; offered = refl; above = a.1 }
 
 touched_rest : (number : ℕ) (offer : ℕ × List ℕ) (offers : List (ℕ × List ℕ)) → IsTouched offers number → IsTouched (offer ∷ offers) number
-touched_rest number offer offers t = record { place = suc t.place; below = t.below; hash = t.hash; rows = t.rows; offered = t.offered; above = t.above }
+touched_rest number offer offers t = record { position = suc t.position; below = t.below; hash = t.hash; rows = t.rows; offered = t.offered; above = t.above }
 
 same_offer : (offer : ℕ × List ℕ) (below : ℕ) (hash : List ℕ) → Some offer ≡ Some (below, hash) → offer.0 ≡ below
 same_offer offer below hash e = cc
 
-touched_where : (number : ℕ) (offer : ℕ × List ℕ) (offers : List (ℕ × List ℕ)) (place below : ℕ) (hash : List ℕ) (rows : ℕ) → slice_get (offer ∷ offers) place ≡ Some (below, hash)
+touched_where : (number : ℕ) (offer : ℕ × List ℕ) (offers : List (ℕ × List ℕ)) (position below : ℕ) (hash : List ℕ) (rows : ℕ) → slice_get (offer ∷ offers) position ≡ Some (below, hash)
     → ancestor rows below ≡ number → IsAbove offer.0 number ⊎ IsTouched offers number
 touched_where number offer offers zero below hash rows at e = inl (rows, ap (ancestor rows) (same_offer offer below hash at) ∙ e)
-touched_where number offer offers (suc place) below hash rows at e = inr (record { place = place; below = below; hash = hash; rows = rows; offered = at; above = e })
+touched_where number offer offers (suc position) below hash rows at e = inr (record { position = position; below = below; hash = hash; rows = rows; offered = at; above = e })
 
 abbrev no_offers : List (ℕ × List ℕ)
 no_offers = []
 
-nothing_there : (place : ℕ) (offer : ℕ × List ℕ) → slice_get no_offers place ≡ Some offer → ⊥
+nothing_there : (position : ℕ) (offer : ℕ × List ℕ) → slice_get no_offers position ≡ Some offer → ⊥
 nothing_there zero offer e = cc
-nothing_there (suc place) offer e = cc
+nothing_there (suc position) offer e = cc
 
 pub is_touched : (offers : List (ℕ × List ℕ)) (number : ℕ) → IsTouched offers number ⊎ (IsTouched offers number → ⊥)
-is_touched [] number = inr (λ t. nothing_there t.place (t.below, t.hash) t.offered)
+is_touched [] number = inr (λ t. nothing_there t.position (t.below, t.hash) t.offered)
 is_touched (offer ∷ offers) number = elim (is_above (suc offer.0) offer.0 number (omega arith)) [
   | inl up ↦ inl (touched_first number offer offers up)
   | inr none ↦ elim (is_touched offers number) [
     | inl t ↦ inl (touched_rest number offer offers t)
-    | inr missing ↦ inr (λ t. elim (touched_where number offer offers t.place t.below t.hash t.rows t.offered t.above) [ inl up ↦ none up | inr rest ↦ missing rest ])
+    | inr missing ↦ inr (λ t. elim (touched_where number offer offers t.position t.below t.hash t.rows t.offered t.above) [ inl up ↦ none up | inr rest ↦ missing rest ])
   ]
 ]
 
@@ -111,10 +111,10 @@ module _ (p : PartialState) (leaves : List (List ℕ)) (offers : List (ℕ × Li
   taken_there number (inr k) = taken_kept number k.0 k.1 ∙ ap Some (known number k.0 k.1)
 
   touched_inside : (number : ℕ) → IsTouched offers number → number < node_count (length leaves)
-  touched_inside number t = let below = (own t.place t.below t.hash t.offered).0 in let low = ancestor_low t.rows t.below in let is = t.above in omega (arith, below, low, is)
+  touched_inside number t = let below = (own t.position t.below t.hash t.offered).0 in let low = ancestor_low t.rows t.below in let is = t.above in omega (arith, below, low, is)
 
   parent_touched : (number : ℕ) → IsTouched offers number → IsTouched offers (parent number)
-  parent_touched number t = record { place = t.place; below = t.below; hash = t.hash; rows = suc t.rows; offered = t.offered; above = ap parent t.above }
+  parent_touched number t = record { position = t.position; below = t.below; hash = t.hash; rows = suc t.rows; offered = t.offered; above = ap parent t.above }
 
   taken_joined : (number : ℕ) → IsTouched offers number → 0 < number → IsJoined taken number
   taken_joined number t some =
@@ -134,7 +134,7 @@ module _ (p : PartialState) (leaves : List (List ℕ)) (offers : List (ℕ × Li
   taken_is_extended = record {
     inside = λ k number hash e. subst (λ (n : ℕ). number < node_count n) (sym count) (own k number hash e).0;
     kept = taken_kept;
-    offered = λ k number hash e. taken_touched number (record { place = k; below = number; hash = hash; rows = 0; offered = e; above = refl }) ∙ ap Some (sym (own k number hash e).1);
+    offered = λ k number hash e. taken_touched number (record { position = k; below = number; hash = hash; rows = 0; offered = e; above = refl }) ∙ ap Some (sym (own k number hash e).1);
     joined = taken_joined;
     others = taken_other;
   }

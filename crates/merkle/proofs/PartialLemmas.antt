@@ -84,13 +84,13 @@ module _ (padding : Known) where
 zero_difference : (n : ℕ) → n - n ≡ 0
 zero_difference n = omega arith
 
-pub last_place : (added : List ℕ) (number : ℕ) → slice_index_or (added ++ number ∷ []) (length added) 0 ≡ number
-last_place added number =
+pub last_position : (added : List ℕ) (number : ℕ) → slice_index_or (added ++ number ∷ []) (length added) 0 ≡ number
+last_position added number =
     get_or-append_right added (number ∷ []) (length added) (length added) 0 refl (omega arith)
     ∙ ap (λ (k : ℕ). slice_index_or (number ∷ []) k 0) (zero_difference (length added))
 
 pub listed_last : (added : List ℕ) (number : ℕ) → IsListed (added ++ number ∷ []) number
-listed_last added number = (length added, omega (arith, length-append added (number ∷ [])), last_place added number)
+listed_last added number = (length added, omega (arith, length-append added (number ∷ [])), last_position added number)
 
 pub listed_before : (added : List ℕ) (last number : ℕ) → IsListed added number → IsListed (added ++ last ∷ []) number
 listed_before added last number l =
@@ -102,7 +102,7 @@ listed_cases added last number l =
       | inl below ↦ inl (l.0, below, sym (get_or_append_left added (last ∷ []) 0 l.0 below) ∙ l.2)
       | inr above ↦
           let e : l.0 ≡ length added = omega (arith, length-append added (last ∷ []), l.1) in
-          inr (sym l.2 ∙ ap (λ (k : ℕ). slice_index_or (added ++ last ∷ []) k 0) e ∙ last_place added last)
+          inr (sym l.2 ∙ ap (λ (k : ℕ). slice_index_or (added ++ last ∷ []) k 0) e ∙ last_position added last)
     ]
 
 -- what was added stays so after one node more
@@ -291,7 +291,7 @@ module _ (leaf_count : ℕ) (padding first : Known) (offers : List (ℕ × List 
 
     pub touched_told : (number : ℕ) → IsTouched offers number → b ≤ 2 * (number + 1) → (h : List ℕ) × (told number ≡ Some h)
     touched_told number t high =
-        let r = ancestor_told t.rows t.below t.place t.hash t.offered (omega (arith, t.above, high)) in
+        let r = ancestor_told t.rows t.below t.position t.hash t.offered (omega (arith, t.above, high)) in
         (r.0, ap told (sym t.above) ∙ r.1)
 
     -- a node that is not known is not known in any tree that takes the nodes

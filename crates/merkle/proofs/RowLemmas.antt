@@ -9,7 +9,7 @@ use Rattle.tagged_hash.specs.TaggedHash.{node_hash}
 use Rattle.merkle.specs.Partial.{IsExtended, IsTouched, Known, known_by, parent}
 use Rattle.merkle.specs.Tree.{node_count}
 use Rattle.merkle.specs.Taking.{grows_not, grows_one, GrowsBy, IsKept, IsListed, IsTold, IsUnjoinable, Joins}
-use Rattle.merkle.proofs.PartialLemmas.{IsUnderway, adds_keeps, forced_join, known_more, last_place, not_both, refused_join, told_more, underway_more}
+use Rattle.merkle.proofs.PartialLemmas.{IsUnderway, adds_keeps, forced_join, known_more, last_position, not_both, refused_join, told_more, underway_more}
 
 -- numbers of a row
 row_begins : (n row : ℕ) → n / 2 ^ row ≡ 1 → 2 ^ row ≤ n
@@ -61,10 +61,10 @@ last_or_below old new added added' number (grows_one none apart e) k below =
       | inl before ↦ inl before
       | inr after ↦
           let last : k ≡ length added = omega (arith, ap length e, length-append added (number ∷ []), below) in
-          inr (ap (λ (l : List ℕ). slice_index_or l k 0) e ∙ ap (λ (i : ℕ). slice_index_or (added ++ number ∷ []) i 0) last ∙ last_place added number)
+          inr (ap (λ (l : List ℕ). slice_index_or l k 0) e ∙ ap (λ (i : ℕ). slice_index_or (added ++ number ∷ []) i 0) last ∙ last_position added number)
     ]
 
--- the nodes of the row that stand at the first i places of the list are told with their siblings; those after the first so many are of
+-- the nodes of the row that stand at the first i positions of the list are told with their siblings; those after the first so many are of
 -- the row above
 pub record IsRow (leaf_count : ℕ) (padding first : Known) (offers : List (ℕ × List ℕ)) (row listed i : ℕ) (told : Known) (added : List ℕ) : Type 0 where
   pub long : listed ≤ length added
@@ -155,7 +155,7 @@ module _ (leaf_count : ℕ) (padding first : Known) (offers : List (ℕ × List 
 
     parent_touched : IsTouched offers (parent number)
     parent_touched = let t = number_touched in record {
-      place = t.place;
+      position = t.position;
       below = t.below;
       hash = t.hash;
       rows = suc t.rows;

@@ -10,7 +10,7 @@ use Rattle.std.proofs.lemmas.Option.{none-some}
 use Rattle.tagged_hash.specs.TaggedHash.{node_hash}
 use Rattle.merkle.specs.Path.{path_root}
 use Rattle.merkle.specs.Tree.{height, node_number, sibling}
-use Rattle.merkle.specs.Partial.{IsJoined, IsPartial, Known, KnownLeavesLead, PartialState, all_known, is_padding, known_at, known_by, known_siblings, leaf_number, only_root, padding, padding_hash, parent, place_in_row, row_of, starting, partial_state}
+use Rattle.merkle.specs.Partial.{IsJoined, IsPartial, Known, KnownLeavesLead, PartialState, all_known, is_padding, known_at, known_by, known_siblings, leaf_number, only_root, padding, padding_hash, parent, position_in_row, row_of, starting, partial_state}
 use Rattle.merkle.specs.Tree.{node_count}
 use Rattle.merkle.specs.Taking.{IsGrown, IsKept, IsListed}
 use Rattle.merkle.proofs.HeightLemmas.{height_is, height_room}
@@ -67,8 +67,8 @@ next m = omega arith
 padding-root : (n : ℕ) → 0 < n → padding n 0 ≡ None
 padding-root n some =
     let one : height 2 ≡ 1 = height_is 2 1 (omega arith) (λ k below. let e : k ≡ 0 = omega arith in rw e (omega arith)) in
-    let place : place_in_row 0 ≡ 0 = rw one refl in
-    padding-before n 0 (omega (arith, pow_pos (height n), pow-suc 2 (height n), ap (λ (k : ℕ). 2 ^ k) (next (height n)))) (rw place (omega arith))
+    let position : position_in_row 0 ≡ 0 = rw one refl in
+    padding-before n 0 (omega (arith, pow_pos (height n), pow-suc 2 (height n), ap (λ (k : ℕ). 2 ^ k) (next (height n)))) (rw position (omega arith))
 
 pub kept_root : (root : List ℕ) (n : ℕ) (told : Known) → 0 < n → told 0 ≡ Some root → ((q : ℕ) → q ≢ 0 → told q ≡ None) → IsKept n (padding n) root told
 kept_root root n told some first rest = record {
@@ -98,16 +98,16 @@ taken_out first told after added grown out rest q =
 
 -- ---- a leaf that is known
 
--- the row of a node, and its place, by its number
-pub number_row : (row place : ℕ) → place < 2 ^ row → row_of (node_number row place) ≡ row
-number_row row place inside =
-    let e : height (node_number row place + 2) ≡ row + 1 =
-    height_is (node_number row place + 2) (row + 1) (omega (arith, inside, ap (λ (k : ℕ). 2 ^ k) (next row), pow-suc 2 row))
+-- the row of a node, and its position, by its number
+pub number_row : (row position : ℕ) → position < 2 ^ row → row_of (node_number row position) ≡ row
+number_row row position inside =
+    let e : height (node_number row position + 2) ≡ row + 1 =
+    height_is (node_number row position + 2) (row + 1) (omega (arith, inside, ap (λ (k : ℕ). 2 ^ k) (next row), pow-suc 2 row))
     (λ k below. omega (arith, pow-le-pow_right {n = 2} (omega arith) {i = k} {j = row} (omega arith), pow_pos row)) in
     rw e (omega arith)
 
-pub number_place : (row place : ℕ) → place < 2 ^ row → place_in_row (node_number row place) ≡ place
-number_place row place inside = rw (number_row row place inside) (omega (arith, pow_pos row))
+pub number_position : (row position : ℕ) → position < 2 ^ row → position_in_row (node_number row position) ≡ position
+number_position row position inside = rw (number_row row position inside) (omega (arith, pow_pos row))
 
 module _ (p : PartialState) (leaf : ℕ) (hash : List ℕ) (sound : IsPartial p) (inside : leaf < p.leaf_count)
     (knows : known_at p (leaf_number p.leaf_count leaf) ≡ Some hash) where
@@ -118,8 +118,8 @@ module _ (p : PartialState) (leaf : ℕ) (hash : List ℕ) (sound : IsPartial p)
   room : leaf < 2 ^ height p.leaf_count
   room = omega (arith, inside, height_room p.leaf_count)
 
-  place_below : (t : ℕ) → t ≤ height p.leaf_count → leaf / 2 ^ t < 2 ^ (height p.leaf_count - t)
-  place_below t low =
+  position_below : (t : ℕ) → t ≤ height p.leaf_count → leaf / 2 ^ t < 2 ^ (height p.leaf_count - t)
+  position_below t low =
       let sum : height p.leaf_count - t + t ≡ height p.leaf_count = omega arith in
       shr_below leaf (height p.leaf_count - t) t (rw sum room)
 
@@ -127,11 +127,11 @@ module _ (p : PartialState) (leaf : ℕ) (hash : List ℕ) (sound : IsPartial p)
   own : (t : ℕ) → t ≤ height p.leaf_count → is_padding p.leaf_count (number t) ≡ false
   own t low =
       let row : ℕ = height p.leaf_count - t in
-      let place : ℕ = leaf / 2 ^ t in
-      let below : place < 2 ^ row = place_below t low in
+      let position : ℕ = leaf / 2 ^ t in
+      let below : position < 2 ^ row = position_below t low in
       let back : height p.leaf_count - row ≡ t = omega arith in
-      let first : place_in_row (number t) * 2 ^ (height p.leaf_count - row_of (number t)) ≡ place * 2 ^ t =
-      rw (number_place row place below, number_row row place below, back) refl in
+      let first : position_in_row (number t) * 2 ^ (height p.leaf_count - row_of (number t)) ≡ position * 2 ^ t =
+      rw (number_position row position below, number_row row position below, back) refl in
       grind (arith, nat_tests, first, div-mul-le_self leaf (2 ^ t), inside)
 
   half : (t : ℕ) → leaf / 2 ^ suc t ≡ leaf / 2 ^ t / 2
@@ -194,8 +194,8 @@ module _ (p : PartialState) (leaf : ℕ) (hash : List ℕ) (sound : IsPartial p)
   climbs : (t : ℕ) → t ≤ height p.leaf_count → known_at p (number t) ≡ Some (path_root t (leaf % 2 ^ t) hash (known_siblings p leaf))
   climbs zero low =
       let all : height p.leaf_count - 0 ≡ height p.leaf_count = omega arith in
-      let place : leaf / 1 ≡ leaf = omega arith in
-      rw (all, place) knows
+      let position : leaf / 1 ≡ leaf = omega arith in
+      rw (all, position) knows
   climbs (suc t) low = step t low (climbs t (omega arith))
 
   -- the siblings are known

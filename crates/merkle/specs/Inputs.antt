@@ -13,15 +13,15 @@ use Rattle.merkle.specs.Tree.{height, padded, root}
 abbrev pub node_input : List ℕ → List ℕ → List ℕ
 node_input left right = pair_input TreeNode left right
 
--- those of the nodes on the way from a hash at this place up to the root of 2 ^ m hashes
+-- those of the nodes on the way from a hash at this position up to the root of 2 ^ m hashes
 abbrev pub path_inputs : ℕ → ℕ → List ℕ → List (List ℕ) → List (List ℕ)
-path_inputs zero place hash siblings = []
-path_inputs (suc m) place hash siblings =
-    if nat_lt place (2 ^ m)
-    then node_input (path_root m place hash siblings) (slice_index_or siblings m [])
-    ∷ path_inputs m place hash siblings
-    else node_input (slice_index_or siblings m []) (path_root m (place - 2 ^ m) hash siblings)
-    ∷ path_inputs m (place - 2 ^ m) hash siblings
+path_inputs zero position hash siblings = []
+path_inputs (suc m) position hash siblings =
+    if nat_lt position (2 ^ m)
+    then node_input (path_root m position hash siblings) (slice_index_or siblings m [])
+    ∷ path_inputs m position hash siblings
+    else node_input (slice_index_or siblings m []) (path_root m (position - 2 ^ m) hash siblings)
+    ∷ path_inputs m (position - 2 ^ m) hash siblings
 
 -- those of all nodes above 2 ^ m hashes
 abbrev pub root_inputs : ℕ → List (List ℕ) → List (List ℕ)
@@ -46,27 +46,27 @@ abbrev pub AreAmong : List (List ℕ) → List (List ℕ) → Type 0
 AreAmong inputs these = (input : List ℕ) → Contains these input → Contains inputs input
 
 -- a path of hashes, all that is hashed on it among these inputs
-pub record IsPathAmong (inputs : List (List ℕ)) (m place : ℕ) (hash : List ℕ)
+pub record IsPathAmong (inputs : List (List ℕ)) (m position : ℕ) (hash : List ℕ)
     (siblings : List (List ℕ)) : Type 0 where
   pub hash_length : length hash ≡ 32
   pub sibling_lengths : (i : ℕ) → i < m → length (slice_index_or siblings i []) ≡ 32
-  pub among : AreAmong inputs (path_inputs m place hash siblings)
+  pub among : AreAmong inputs (path_inputs m position hash siblings)
 
--- a law: without a clash one hash alone leads from a place to a root
+-- a law: without a clash one hash alone leads from a position to a root
 abbrev pub PathsAgree : Type 0
 PathsAgree = (inputs : List (List ℕ)) → HasNoClash inputs
-    → (m place : ℕ) (first second : List ℕ) (these those : List (List ℕ))
-    → IsPathAmong inputs m place first these → IsPathAmong inputs m place second those
-    → path_root m place first these ≡ path_root m place second those → first ≡ second
+    → (m position : ℕ) (first second : List ℕ) (these those : List (List ℕ))
+    → IsPathAmong inputs m position first these → IsPathAmong inputs m position second those
+    → path_root m position first these ≡ path_root m position second those → first ≡ second
 
--- a law: without a clash the hash that leads from a place to the root of some hashes is the one
+-- a law: without a clash the hash that leads from a position to the root of some hashes is the one
 -- that stands there
 abbrev pub LeafAgrees : Type 0
 LeafAgrees = (inputs : List (List ℕ)) → HasNoClash inputs
-    → (m place : ℕ) (hashes : List (List ℕ)) (hash : List ℕ) (siblings : List (List ℕ))
-    → place < 2 ^ m → length hashes ≡ 2 ^ m → AreHashes hashes
-    → AreAmong inputs (root_inputs m hashes) → IsPathAmong inputs m place hash siblings
-    → root m hashes ≡ path_root m place hash siblings → hash ≡ slice_index_or hashes place []
+    → (m position : ℕ) (hashes : List (List ℕ)) (hash : List ℕ) (siblings : List (List ℕ))
+    → position < 2 ^ m → length hashes ≡ 2 ^ m → AreHashes hashes
+    → AreAmong inputs (root_inputs m hashes) → IsPathAmong inputs m position hash siblings
+    → root m hashes ≡ path_root m position hash siblings → hash ≡ slice_index_or hashes position []
 
 -- a law: what is hashed on a tree's own path is hashed for the tree
 abbrev pub OwnPathsAreWithin : Type 0

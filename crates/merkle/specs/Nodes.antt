@@ -13,7 +13,7 @@ ArePairs nodes = (i : ℕ) → 2 * i + 2 < length nodes
     → slice_index_or nodes i []
     ≡ node_hash (slice_index_or nodes (2 * i + 1) []) (slice_index_or nodes (2 * i + 2) [])
 
--- after so many leaves, a row goes on with the empty leaves of their places
+-- after so many leaves, a row goes on with the empty leaves of their positions
 abbrev pub IsPadded : ℕ → List (List ℕ) → Type 0
-IsPadded leaf_count row = (place : ℕ) → leaf_count ≤ place → place < length row
-    → slice_index_or row place [] ≡ empty_leaf_hash place
+IsPadded leaf_count row = (position : ℕ) → leaf_count ≤ position → position < length row
+    → slice_index_or row position [] ≡ empty_leaf_hash position

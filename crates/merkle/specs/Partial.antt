@@ -15,12 +15,12 @@ use Rattle.merkle.specs.Tree.{sibling_number, tree_root}
 abbrev pub parent : ℕ → ℕ
 parent number = (number - 1) / 2
 
--- the row of the node of a number, and its place in that row
+-- the row of the node of a number, and its position in that row
 abbrev pub row_of : ℕ → ℕ
 row_of number = height (number + 2) - 1
 
-abbrev pub place_in_row : ℕ → ℕ
-place_in_row number = number + 1 - 2 ^ row_of number
+abbrev pub position_in_row : ℕ → ℕ
+position_in_row number = number + 1 - 2 ^ row_of number
 
 -- the number of a leaf's node
 abbrev pub leaf_number : ℕ → ℕ → ℕ
@@ -30,12 +30,13 @@ leaf_number leaf_count leaf = node_number (height leaf_count) leaf
 abbrev pub is_padding : ℕ → ℕ → Bool
 is_padding leaf_count number =
     nat_lt number (node_count leaf_count)
-    && nat_le leaf_count (place_in_row number * 2 ^ (height leaf_count - row_of number))
+    && nat_le leaf_count (position_in_row number * 2 ^ (height leaf_count - row_of number))
 
 -- the hash of such a node: in each tree of so many leaves it is the same
 abbrev pub padding_hash : ℕ → ℕ → List ℕ
 padding_hash leaf_count number =
-    let m = height leaf_count in node m (padded_to (2 ^ m) []) (row_of number) (place_in_row number)
+    let m = height leaf_count in node m (padded_to (2 ^ m) []) (row_of number)
+    (position_in_row number)
 
 -- what is known of each node
 abbrev pub Known : Type 0
@@ -117,11 +118,11 @@ ancestor (suc rows) number = parent (ancestor rows number)
 
 -- the node of this number is offered, or above one that is
 pub record IsTouched (offers : List (ℕ × List ℕ)) (number : ℕ) : Type 0 where
-  pub place : ℕ
+  pub position : ℕ
   pub below : ℕ
   pub hash : List ℕ
   pub rows : ℕ
-  pub offered : slice_get offers place ≡ Some (below, hash)
+  pub offered : slice_get offers position ≡ Some (below, hash)
   pub above : ancestor rows below ≡ number
 
 -- What is known once these nodes are taken: what was known, the nodes offered and those above them,

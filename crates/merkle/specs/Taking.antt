@@ -76,13 +76,13 @@ pub data IsUnjoinable (padding old : Known) (number : ℕ) : Type 0 where
 unfoldable pub empty_leaves : ℕ → ℕ → List (List ℕ)
 empty_leaves first count = map empty_leaf_hash (range_with_len first count)
 
--- the node over empty leaves alone at a place of a row of a tree of so many leaves
+-- the node over empty leaves alone at a position of a row of a tree of so many leaves
 abbrev pub empty_node : ℕ → ℕ → ℕ → List ℕ
-empty_node leaf_count row place =
-    let m = height leaf_count in node m (padded_to (2 ^ m) []) row place
+empty_node leaf_count row position =
+    let m = height leaf_count in node m (padded_to (2 ^ m) []) row position
 
 -- These are nodes over empty leaves alone: each that is there is the one behind the last that has a
--- leaf below it, as many rows above the leaves as is its place here.
+-- leaf below it, as many rows above the leaves as is its position here.
 abbrev pub AreBeside : ℕ → List (Option (List ℕ)) → Type 0
 AreBeside leaf_count beside =
     (rows : ℕ) (hash : List ℕ) → slice_index_or beside rows None ≡ Some hash

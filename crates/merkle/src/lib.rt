@@ -1,8 +1,9 @@
 //! Merkle hash trees of Tahoe-LAFS immutable files.
 //!
-//! Leaves and nodes are hashes of 32 bytes. The leaves are padded to a power of two, place i by the
-//! empty leaf i, and a node above them is the tagged hash of its two children. Nodes are numbered
-//! row by row from the root, which is 0, so the children of node i are 2 i + 1 and 2 i + 2.
+//! Leaves and nodes are hashes of 32 bytes. The leaves are padded to a power of two, position i by
+//! the empty leaf i, and a node above them is the tagged hash of its two children. Nodes are
+//! numbered row by row from the root, which is 0, so the children of node i are 2 i + 1 and 2 i +
+//! 2.
 #![tactic(auto)]
 
 mod error;

@@ -10,9 +10,9 @@ use crate::rows::parents_from;
 use tagged_hash::{empty_leaf, pair};
 
 /// Whether hashes are all nodes of a tree, row by row from the root, whose leaves are the first
-/// `leaf_count` of the last row: each inner node the hash of its children, and the places after the
-/// leaves padded. There are as many hashes as such a tree has nodes, and at most 2^20 leaves. It
-/// takes no memory.
+/// `leaf_count` of the last row: each inner node the hash of its children, and the positions after
+/// the leaves padded. There are as many hashes as such a tree has nodes, and at most 2^20 leaves.
+/// It takes no memory.
 pub fn are_tree_nodes(nodes: &[[u8; 32]], leaf_count: u32) -> bool
     requires few { leaf_count ≤ max_leaves }
     requires nodes { length nodes.now ≡ node_count leaf_count }
@@ -68,17 +68,17 @@ fn is_padded(row: &[[u8; 32]], leaf_count: usize) -> bool
     requires { length row.now < 2 ^ 32 }
     ensures { IsTrue result ↔ IsPadded leaf_count row.now }
 {
-    for place in leaf_count..row.len() {
-        if !is_empty_leaf(&row[place], place as u32) {
+    for position in leaf_count..row.len() {
+        if !is_empty_leaf(&row[position], position as u32) {
             return false;
         }
     }
     true
 }
 
-// Whether a leaf is the empty leaf of this place.
-fn is_empty_leaf(leaf: &[u8; 32], place: u32) -> bool
-    ensures { IsTrue result ↔ (leaf.now ≡ empty_leaf_hash place) }
+// Whether a leaf is the empty leaf of this position.
+fn is_empty_leaf(leaf: &[u8; 32], position: u32) -> bool
+    ensures { IsTrue result ↔ (leaf.now ≡ empty_leaf_hash position) }
 {
-    *leaf == empty_leaf(place)
+    *leaf == empty_leaf(position)
 }

@@ -18,21 +18,25 @@ pub fn height(n: u32) -> u32
     32
 }
 
-/// The place of the other child of the same parent, in their row.
-pub fn sibling(place: u32) -> u32
-    ensures { result ≡ sibling place }
+/// The position of the other child of the same parent, in their row.
+pub fn sibling(position: u32) -> u32
+    ensures { result ≡ sibling position }
 {
-    if place % 2 == 0 { place + 1 } else { place - 1 }
+    if position % 2 == 0 {
+        position + 1
+    } else {
+        position - 1
+    }
 }
 
-/// The number of the node at a place of a row. The root is row 0, and row r has 2^r places.
-pub fn node_number(row: u32, place: u32) -> u32
+/// The number of the node at a position of a row. The root is row 0, and row r has 2^r positions.
+pub fn node_number(row: u32, position: u32) -> u32
     requires low { row < 32 }
-    requires inside { place < 2 ^ row }
-    ensures value { result ≡ node_number row place }
+    requires inside { position < 2 ^ row }
+    ensures value { result ≡ node_number row position }
     ensures below { result + 1 < 2 ^ (row + 1) }
 {
-    (1 << row) - 1 + place
+    (1 << row) - 1 + position
 }
 
 /// The number of the sibling of the node `i` rows above a leaf, in a tree of this height. The root
@@ -47,22 +51,22 @@ pub fn sibling_number(height: u32, leaf: u32, i: u32) -> u32
     node_number(height - i, sibling(leaf >> i))
 }
 
-/// The number at a place among those of the nodes that lead from a leaf to the root of a tree of
+/// The number at a position among those of the nodes that lead from a leaf to the root of a tree of
 /// this height, which rise. There are as many of them as the tree has rows, one more than its
 /// height.
-pub fn needed_number(height: u32, leaf: u32, place: u32) -> u32
+pub fn needed_number(height: u32, leaf: u32, position: u32) -> u32
     requires low { height < 32 }
     requires inside { leaf < 2 ^ height }
-    requires there { place ≤ height }
-    ensures value { result ≡ slice_index (needed_numbers height leaf) place }
+    requires there { position ≤ height }
+    ensures value { result ≡ slice_index (needed_numbers height leaf) position }
     ensures below { result + 1 < 2 ^ (height + 1) }
 {
     if height == 0 {
         return 0;
     }
-    if place + 1 < height {
-        return sibling_number(height, leaf, height - place - 1);
+    if position + 1 < height {
+        return sibling_number(height, leaf, height - position - 1);
     }
     let left = node_number(height, leaf / 2 * 2);
-    if place < height { left } else { left + 1 }
+    if position < height { left } else { left + 1 }
 }

@@ -2,7 +2,7 @@
 
 ghost use Rattle.merkle.specs.OneTree.{KnownNodesAreOwn, SiblingsAgree, TreesAgree};
 
-/// A law of the definitions: without a clash the siblings on two ways from one place to one root
+/// A law of the definitions: without a clash the siblings on two ways from one position to one root
 /// are the same. The law is the contract; the call does nothing.
 pub fn siblings_agree()
     ensures { SiblingsAgree }

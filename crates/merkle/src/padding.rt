@@ -102,20 +102,20 @@ impl Padding {
         }
         let height = height(self.leaf_count);
         let row = crate::numbers::height(number + 2) - 1;
-        let place = number + 1 - (1 << row);
-        match self.kept(height - row, place) {
+        let position = number + 1 - (1 << row);
+        match self.kept(height - row, position) {
             Some(hash) => Some(hash),
-            None => Some(padding_node(height, row, place)),
+            None => Some(padding_node(height, row, position)),
         }
     }
 
-    // The node so many rows above the leaves at this place, where it is kept.
-    fn kept(&self, rows: u32, place: u32) -> Option<[u8; 32]>
+    // The node so many rows above the leaves at this position, where it is kept.
+    fn kept(&self, rows: u32, position: u32) -> Option<[u8; 32]>
         requires { rows ≤ 20 }
         ensures { IfSome result (λ hash.
-            hash ≡ empty_node self.now (height self.now - rows) place) }
+            hash ≡ empty_node self.now (height self.now - rows) position) }
     {
-        if place == ((self.leaf_count - 1) >> rows) + 1 {
+        if position == ((self.leaf_count - 1) >> rows) + 1 {
             self.beside[rows as usize]
         } else {
             None
@@ -133,25 +133,25 @@ fn is_padding(leaf_count: u32, number: u32) -> bool
         return false;
     }
     let row = crate::numbers::height(number + 2) - 1;
-    let place = number + 1 - (1 << row);
-    place << (height - row) >= leaf_count
+    let position = number + 1 - (1 << row);
+    position << (height - row) >= leaf_count
 }
 
-// The node at a place of a row of a tree of this height that has empty leaves alone.
-fn padding_node(height: u32, row: u32, place: u32) -> [u8; 32]
+// The node at a position of a row of a tree of this height that has empty leaves alone.
+fn padding_node(height: u32, row: u32, position: u32) -> [u8; 32]
     requires low { height ≤ 20 }
     requires inside { row ≤ height }
-    requires there { place < 2 ^ row }
-    ensures { result ≡ node height (padded_to (2 ^ height) []) row place }
+    requires there { position < 2 ^ row }
+    ensures { result ≡ node height (padded_to (2 ^ height) []) row position }
 {
     if row == height {
-        return empty_leaf(place);
+        return empty_leaf(position);
     }
     if row + RUN_ROWS == height {
-        return node_over_run(RUN * place);
+        return node_over_run(RUN * position);
     }
-    let left = padding_node(height, row + 1, 2 * place);
-    let right = padding_node(height, row + 1, 2 * place + 1);
+    let left = padding_node(height, row + 1, 2 * position);
+    let right = padding_node(height, row + 1, 2 * position + 1);
     pair(&left, &right)
 }
 

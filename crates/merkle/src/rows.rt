@@ -44,7 +44,7 @@ pub(crate) fn empty_leaves_from(first: u32) -> [[u8; 32]; 8]
     requires { first + 8 ≤ 2 ^ 32 }
     ensures { (k : ℕ) → k < 8 → slice_index_or result k [] ≡ empty_leaf_hash (first + k) }
 {
-    let places = [
+    let positions = [
         decimal(first),
         decimal(first + 1),
         decimal(first + 2),
@@ -54,9 +54,9 @@ pub(crate) fn empty_leaves_from(first: u32) -> [[u8; 32]; 8]
         decimal(first + 6),
         decimal(first + 7),
     ];
-    let digits = places[0].len();
-    if have_length(&places, digits) {
-        return empty_leaves_of(&places, digits);
+    let digits = positions[0].len();
+    if have_length(&positions, digits) {
+        return empty_leaves_of(&positions, digits);
     }
     [
         empty_leaf(first),
@@ -70,36 +70,36 @@ pub(crate) fn empty_leaves_from(first: u32) -> [[u8; 32]; 8]
     ]
 }
 
-// A place in decimal.
-fn decimal(place: u32) -> DecimalText
-    ensures { result ≡ decimal place }
+// A position in decimal.
+fn decimal(position: u32) -> DecimalText
+    ensures { result ≡ decimal position }
 {
-    DecimalText::new(u64::from(place))
+    DecimalText::new(u64::from(position))
 }
 
 // Whether all of these have so many digits.
-fn have_length(places: &[DecimalText; 8], digits: usize) -> bool
-    ensures { IsTrue result → All (λ place. length place ≡ digits) places.now }
+fn have_length(positions: &[DecimalText; 8], digits: usize) -> bool
+    ensures { IsTrue result → All (λ position. length position ≡ digits) positions.now }
 {
-    places.iter().all(|place| place.len() == digits)
+    positions.iter().all(|position| position.len() == digits)
 }
 
-// The empty leaves of eight places, which have so many digits.
-fn empty_leaves_of(places: &[DecimalText; 8], digits: usize) -> [[u8; 32]; 8]
+// The empty leaves of eight positions, which have so many digits.
+fn empty_leaves_of(positions: &[DecimalText; 8], digits: usize) -> [[u8; 32]; 8]
     requires short { digits ≤ 20 }
-    requires long { All (λ place. length place ≡ digits) places.now }
+    requires long { All (λ position. length position ≡ digits) positions.now }
     ensures { (k : ℕ) → k < 8
-        → slice_index_or result k [] ≡ tagged_hash EmptyLeaf (slice_index_or places.now k []) }
+        → slice_index_or result k [] ≡ tagged_hash EmptyLeaf (slice_index_or positions.now k []) }
 {
     let messages: [&[u8]; 8] = [
-        places[0].as_bytes(),
-        places[1].as_bytes(),
-        places[2].as_bytes(),
-        places[3].as_bytes(),
-        places[4].as_bytes(),
-        places[5].as_bytes(),
-        places[6].as_bytes(),
-        places[7].as_bytes(),
+        positions[0].as_bytes(),
+        positions[1].as_bytes(),
+        positions[2].as_bytes(),
+        positions[3].as_bytes(),
+        positions[4].as_bytes(),
+        positions[5].as_bytes(),
+        positions[6].as_bytes(),
+        positions[7].as_bytes(),
     ];
     tagged_eight(Tag::EmptyLeaf, &messages, digits)
 }

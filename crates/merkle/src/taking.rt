@@ -62,19 +62,20 @@ pub(crate) fn take(
     Ok(())
 }
 
-// Whether the number at a place of a list is a right child's, and its left sibling's stands just
+// Whether the number at a position of a list is a right child's, and its left sibling's stands just
 // before it: the node above the two was added with the left one.
-fn follows_sibling(numbers: &[u32], place: usize) -> bool
-    requires inside { place < length numbers.now }
-    ensures { IsTrue result → (0 < place)
-        × (slice_index_or numbers.now (place - 1) 0 % 2 ≡ 1)
-        × (slice_index_or numbers.now place 0 ≡ slice_index_or numbers.now (place - 1) 0 + 1) }
+fn follows_sibling(numbers: &[u32], position: usize) -> bool
+    requires inside { position < length numbers.now }
+    ensures { IsTrue result → (0 < position)
+        × (slice_index_or numbers.now (position - 1) 0 % 2 ≡ 1)
+        × (slice_index_or numbers.now position 0 ≡ slice_index_or numbers.now
+        (position - 1) 0 + 1) }
 {
-    if place == 0 {
+    if position == 0 {
         return false;
     }
-    let before = numbers[place - 1];
-    before % 2 == 1 && before.checked_add(1) == Some(numbers[place])
+    let before = numbers[position - 1];
+    before % 2 == 1 && before.checked_add(1) == Some(numbers[position])
 }
 
 // Adds the node above another, which is the hash of its two children.

@@ -84,7 +84,7 @@ impl Tree {
     }
 }
 
-// Fills all nodes of a tree with `width` places for leaves.
+// Fills all nodes of a tree with `width` positions for leaves.
 pub(crate) fn fill(nodes: &mut [[u8; 32]], leaves: &[[u8; 32]], width: usize)
     requires wide { width ≤ max_leaves }
     requires power { width ≡ 2 ^ height (length leaves.now) }
@@ -122,7 +122,7 @@ fn fill_eight(nodes: &mut [[u8; 32]], first: usize)
     nodes[first..first + 8].copy_from_slice(&parents);
 }
 
-// Writes the leaves and, after them, the empty leaves of their places.
+// Writes the leaves and, after them, the empty leaves of their positions.
 fn pad(row: &mut [[u8; 32]], leaves: &[[u8; 32]])
     requires room { length leaves.now ≤ length row.old }
     requires few { length row.old < 2 ^ 32 }
@@ -145,8 +145,8 @@ pub(crate) fn needed_in(alloc: Global, height: u32, leaf: u32) -> Result<Vec<u32
     ensures { IfOk result (λ numbers. numbers.items ≡ needed_numbers height leaf) }
 {
     let mut numbers = Vec::with_capacity(alloc, height as usize + 1)?;
-    for place in 0..height + 1 {
-        numbers.push(needed_number(height, leaf, place))?;
+    for position in 0..height + 1 {
+        numbers.push(needed_number(height, leaf, position))?;
     }
     Ok(numbers)
 }

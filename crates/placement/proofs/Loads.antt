@@ -9,25 +9,25 @@ use Rattle.std.specs.List.{IsDistinct, AllByRecursion}
 use Rattle.placement.specs.Matching.{Pair}
 use Rattle.placement.specs.Plan.{load_of, IsLeastLoaded, IsSpread}
 
-pub at_place : (xs : List ℕ) (i : ℕ) → i < length xs → slice_get xs i ≡ Some (get_or xs i 0)
-at_place [] i l = absurd (omega arith)
-at_place (x ∷ xs) zero l = refl
-at_place (x ∷ xs) (suc i) l = at_place xs i (omega arith)
+pub at_position : (xs : List ℕ) (i : ℕ) → i < length xs → slice_get xs i ≡ Some (get_or xs i 0)
+at_position [] i l = absurd (omega arith)
+at_position (x ∷ xs) zero l = refl
+at_position (x ∷ xs) (suc i) l = at_position xs i (omega arith)
 
--- the place of the least load is that of the server with the fewest shares
-module _ (servers : List ℕ) (assigned : List Pair) (loads : List ℕ) (is : loads ≡ map (load_of assigned) servers) (place : ℕ) (within : place < length loads) where
+-- the position of the least load is that of the server with the fewest shares
+module _ (servers : List ℕ) (assigned : List Pair) (loads : List ℕ) (is : loads ≡ map (load_of assigned) servers) (position : ℕ) (within : position < length loads) where
   load_at : (i : ℕ) → i < length servers → get_or loads i 0 ≡ load_of assigned (get_or servers i 0)
   load_at i l = ap (λ ls. get_or ls i 0) is ∙ get_or-map (load_of assigned) servers i 0 0 l
 
   as_many : length loads ≡ length servers
   as_many = ap length is ∙ length-map servers (load_of assigned)
 
-  pub least_loaded : All (λ load. get_or loads place 0 ≤ load) loads → ((i : ℕ) → i < place → get_or loads place 0 < get_or loads i 0) → IsLeastLoaded servers assigned (get_or servers place 0)
+  pub least_loaded : All (λ load. get_or loads position 0 ≤ load) loads → ((i : ℕ) → i < position → get_or loads position 0 < get_or loads i 0) → IsLeastLoaded servers assigned (get_or servers position 0)
   least_loaded least first = record {
-    place = place;
-    is = at_place servers place (omega (arith, as_many));
-    least = λ i l. let here = load_at place (omega (arith, as_many)) in let there = load_at i l in let le = least i 0 (omega (arith, as_many)) in omega arith;
-    first = λ i l. let here = load_at place (omega (arith, as_many)) in let there = load_at i (omega (arith, as_many)) in let lt = first i l in omega arith;
+    position = position;
+    is = at_position servers position (omega (arith, as_many));
+    least = λ i l. let here = load_at position (omega (arith, as_many)) in let there = load_at i l in let le = least i 0 (omega (arith, as_many)) in omega arith;
+    first = λ i l. let here = load_at position (omega (arith, as_many)) in let there = load_at i (omega (arith, as_many)) in let lt = first i l in omega arith;
   }
 
 -- ---- one more share for a server
@@ -41,23 +41,23 @@ module _ (assigned : List Pair) (server share : ℕ) where
   loads_same [] apart = refl
   loads_same (x ∷ xs) apart = λ j. (load_push assigned (server, share) x ∙ ap (λ b. load_of assigned x + cond b 1 0) apart.0 ∙ add-zero (load_of assigned x)) j ∷ loads_same xs apart.1 j
 
-  apart_at : (x : ℕ) (xs : List ℕ) (place : ℕ) → AllByRecursion (λ other. eqb x other ≡ false) xs → slice_get xs place ≡ Some server → eqb server x ≡ false
-  apart_at x [] place apart at = absurd (cc)
+  apart_at : (x : ℕ) (xs : List ℕ) (position : ℕ) → AllByRecursion (λ other. eqb x other ≡ false) xs → slice_get xs position ≡ Some server → eqb server x ≡ false
+  apart_at x [] position apart at = absurd (cc)
   apart_at x (y ∷ ys) zero apart at = let same : y ≡ server = cc in subst (λ v. eqb v x ≡ false) same (nat_eq_equiv.symm y x ∙ apart.0)
-  apart_at x (y ∷ ys) (suc place) apart at = apart_at x ys place apart.1 at
+  apart_at x (y ∷ ys) (suc position) apart at = apart_at x ys position apart.1 at
 
-  pub loads_push : (servers : List ℕ) (place : ℕ) → IsDistinct eqb servers → slice_get servers place ≡ Some server
-      → map (load_of (assigned ++ (server, share) ∷ [])) servers ≡ set (map (load_of assigned) servers) place (load_of assigned server + 1)
+  pub loads_push : (servers : List ℕ) (position : ℕ) → IsDistinct eqb servers → slice_get servers position ≡ Some server
+      → map (load_of (assigned ++ (server, share) ∷ [])) servers ≡ set (map (load_of assigned) servers) position (load_of assigned server + 1)
   unfolding IsDistinct
-  loads_push [] place distinct at = absurd (cc)
+  loads_push [] position distinct at = absurd (cc)
   loads_push (x ∷ xs) zero distinct at =
       let same : x ≡ server = cc in
       let apart = subst (λ v. AllByRecursion (λ other. eqb v other ≡ false) xs) same distinct.0 in
       let more = load_push assigned (server, share) x ∙ ap (λ b. load_of assigned x + cond b 1 0) (eq-eqb server x (sym same)) ∙ ap (λ v. load_of assigned v + 1) same in
       λ j. more j ∷ loads_same xs apart j
-  loads_push (x ∷ xs) (suc place) distinct at =
-      let apart = apart_at x xs place distinct.0 at in
-      λ j. (load_push assigned (server, share) x ∙ ap (λ b. load_of assigned x + cond b 1 0) apart ∙ add-zero (load_of assigned x)) j ∷ loads_push xs place distinct.1 at j
+  loads_push (x ∷ xs) (suc position) distinct at =
+      let apart = apart_at x xs position distinct.0 at in
+      λ j. (load_push assigned (server, share) x ∙ ap (λ b. load_of assigned x + cond b 1 0) apart ∙ add-zero (load_of assigned x)) j ∷ loads_push xs position distinct.1 at j
 
 -- ---- one share after the other
 

@@ -43,11 +43,11 @@ load_of assigned server = count_by (λ p. nat_eq p.0 server) assigned
 
 -- no server has fewer shares assigned, and each earlier one has more
 pub record IsLeastLoaded (servers : List ℕ) (assigned : List Pair) (server : ℕ) : Type 0 where
-  pub place : ℕ
-  pub is : slice_get servers place ≡ Some server
+  pub position : ℕ
+  pub is : slice_get servers position ≡ Some server
   pub least : (i : ℕ) → i < length servers
       → load_of assigned server ≤ load_of assigned (slice_index servers i)
-  pub first : (i : ℕ) → i < place
+  pub first : (i : ℕ) → i < position
       → load_of assigned server < load_of assigned (slice_index servers i)
 
 -- the shares in their order, each with the server to which the fewest are assigned, those before it

@@ -240,7 +240,7 @@ fn all_shares(alloc: Global, n: u16) -> Result<Vec<u16>, AllocError>
     (0..n).collect(alloc)
 }
 
-/// Each server with the share at its place, until one side ends.
+/// Each server with the share at its position, until one side ends.
 fn pair_up(alloc: Global, servers: &[u16], shares: &[u16]) -> Result<Vec<(u16, u16)>, AllocError>
     ensures { IfOk result (λ pairs. pairs.items ≡ zip servers.now shares.now) }
 {
@@ -270,9 +270,9 @@ fn spread(
     let mut loads = loads_of(alloc, servers, &assigned)?;
     let mut leftovers = Vec::new(alloc);
     for share in spare {
-        let place = least_place(&loads);
-        leftovers.push((servers[place], *share))?;
-        loads[place] += 1;
+        let position = least_position(&loads);
+        leftovers.push((servers[position], *share))?;
+        loads[position] += 1;
     }
     Ok(leftovers)
 }
@@ -298,17 +298,17 @@ fn load_of(assigned: &[(u16, u16)], server: u16) -> usize
     assigned.iter().filter(|pair| pair.0 == server).count()
 }
 
-/// The place of the least load, the first of several.
-fn least_place(loads: &[usize]) -> usize
+/// The position of the least load, the first of several.
+fn least_position(loads: &[usize]) -> usize
     requires { 0 < length loads.now }
     ensures within { result < length loads.now }
     ensures least { All (λ load. slice_index loads.now result ≤ load) loads.now }
     ensures first { (i : ℕ) → i < result → slice_index loads.now result < slice_index loads.now i }
 {
     let mut least = 0;
-    for (place, load) in loads.iter().enumerate() {
+    for (position, load) in loads.iter().enumerate() {
         if *load < loads[least] {
-            least = place;
+            least = position;
         }
     }
     least

@@ -8,11 +8,11 @@ use Rattle.proved_parts.specs.Steps.{step_input}
 use Rattle.merkle.specs.Inputs.{node_input}
 use Rattle.merkle.proofs.InputLemmas.{pair_same}
 
-step_even : (place : ℕ) (a s : List ℕ) → place % 2 ≡ 0 → step_input place a s ≡ node_input a s
-step_even place a s even = rw even refl
+step_even : (position : ℕ) (a s : List ℕ) → position % 2 ≡ 0 → step_input position a s ≡ node_input a s
+step_even position a s even = rw even refl
 
-step_odd : (place : ℕ) (a s : List ℕ) → place % 2 ≡ 1 → step_input place a s ≡ node_input s a
-step_odd place a s odd = rw odd refl
+step_odd : (position : ℕ) (a s : List ℕ) → position % 2 ≡ 1 → step_input position a s ≡ node_input s a
+step_odd position a s odd = rw odd refl
 
 -- the node one row higher is the hash of the step's input
 pub path_step : (t leaf : ℕ) (hash : List ℕ) (siblings : List (List ℕ))
@@ -27,12 +27,12 @@ path_step t leaf hash siblings =
     ]
 
 -- the input of a step tells the node
-pub step_same : (place : ℕ) (a b s t : List ℕ) → length a ≡ 32 → length b ≡ 32 → length s ≡ 32 → length t ≡ 32
-    → step_input place a s ≡ step_input place b t → a ≡ b
-step_same place a b s t la lb ls lt e =
-    elim (cases_eq (place % 2) 0) [
-      | inl even ↦ (pair_same a b s t la lb ls lt (sym (step_even place a s even) ∙ e ∙ step_even place b t even)).0
+pub step_same : (position : ℕ) (a b s t : List ℕ) → length a ≡ 32 → length b ≡ 32 → length s ≡ 32 → length t ≡ 32
+    → step_input position a s ≡ step_input position b t → a ≡ b
+step_same position a b s t la lb ls lt e =
+    elim (cases_eq (position % 2) 0) [
+      | inl even ↦ (pair_same a b s t la lb ls lt (sym (step_even position a s even) ∙ e ∙ step_even position b t even)).0
       | inr more ↦
-          let odd : place % 2 ≡ 1 = omega arith in
-          (pair_same s t a b ls lt la lb (sym (step_odd place a s odd) ∙ e ∙ step_odd place b t odd)).1
+          let odd : position % 2 ≡ 1 = omega arith in
+          (pair_same s t a b ls lt la lb (sym (step_odd position a s odd) ∙ e ∙ step_odd position b t odd)).1
     ]

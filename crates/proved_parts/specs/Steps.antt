@@ -6,15 +6,15 @@ use Rattle.merkle.specs.Path.{LeadsBy}
 use Rattle.merkle.specs.Inputs.{node_input}
 use Rattle.proved_parts.specs.declared.evidence.EvidencePart.{EvidencePart}
 
--- the hash input of the node above one at this place and its sibling
+-- the hash input of the node above one at this position and its sibling
 abbrev pub step_input : ℕ → List ℕ → List ℕ → List ℕ
-step_input place node sibling =
-    if place % 2 == 0 then node_input node sibling else node_input sibling node
+step_input position node sibling =
+    if position % 2 == 0 then node_input node sibling else node_input sibling node
 
--- no tree has both, by these paths, at one place
+-- no tree has both, by these paths, at one position
 abbrev pub NeverMeet : ℕ → List ℕ → List ℕ → List (List ℕ) → List (List ℕ) → Type 0
-NeverMeet place first second these those = (count : ℕ) (root : List ℕ)
-    → LeadsBy count root place first these → ¬ LeadsBy count root place second those
+NeverMeet position first second these those = (count : ℕ) (root : List ℕ)
+    → LeadsBy count root position first these → ¬ LeadsBy count root position second those
 
 -- the two parts have one number, and not one segment
 pub record Differ (p q : EvidencePart) : Type 0 where

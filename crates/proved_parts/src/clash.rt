@@ -91,8 +91,8 @@ fn difference_of_rising<'a>(
     None
 }
 
-/// The first place, from this one on, of a part that has no lower number than this; the one behind
-/// the last where there is none.
+/// The first position, from this one on, of a part that has no lower number than this; the one
+/// behind the last where there is none.
 fn first_from(parts: &[EvidencePart], from: usize, number: u32) -> usize
     requires within { from ≤ length parts.now }
     ensures from { from ≤ result }
@@ -101,9 +101,9 @@ fn first_from(parts: &[EvidencePart], from: usize, number: u32) -> usize
         → slice_get parts.now k ≡ Some q → q.number < number }
     ensures there { (q : EvidencePart) → slice_get parts.now result ≡ Some q → number ≤ q.number }
 {
-    for place in from..parts.len() {
-        if parts[place].number >= number {
-            return place;
+    for position in from..parts.len() {
+        if parts[position].number >= number {
+            return position;
         }
     }
     parts.len()
@@ -197,10 +197,10 @@ fn clash_of_parts(
     )
 }
 
-/// A clash on the ways from two hashes at one place upward.
+/// A clash on the ways from two hashes at one position upward.
 fn clash_on_ways(
     alloc: Global,
-    place: u32,
+    position: u32,
     first: [u8; 32],
     second: [u8; 32],
     these: &[[u8; 32]],
@@ -209,11 +209,11 @@ fn clash_on_ways(
     requires { first ≢ second }
     ensures clash { IfOk result (λ found. IfSome found (λ c. IsClash c.0.items c.1.items)) }
     ensures none { IfOk result (λ found. IsNone found
-        → NeverMeet place first second these.now those.now) }
+        → NeverMeet position first second these.now those.now) }
 {
     let mut left = first;
     let mut right = second;
-    let mut at = place;
+    let mut at = position;
     for i in 0..these.len().min(those.len()) {
         let up = step(at, &left, &these[i]);
         let other = step(at, &right, &those[i]);
@@ -231,26 +231,26 @@ fn clash_on_ways(
 /// The clash of two steps that lead from different nodes to one.
 fn clash_of_steps(
     alloc: Global,
-    place: u32,
+    position: u32,
     left: &[u8; 32],
     mine: &[u8; 32],
     right: &[u8; 32],
     yours: &[u8; 32],
 ) -> Result<(Vec<u8>, Vec<u8>), AllocError>
     requires apart { left.now ≢ right.now }
-    requires meet { double_sha256 (step_input place left.now mine.now)
-        ≡ double_sha256 (step_input place right.now yours.now) }
+    requires meet { double_sha256 (step_input position left.now mine.now)
+        ≡ double_sha256 (step_input position right.now yours.now) }
     ensures { IfOk result (λ c. IsClash c.0.items c.1.items) }
 {
-    let text = step_text(alloc, place, left, mine)?;
-    Ok((text, step_text(alloc, place, right, yours)?))
+    let text = step_text(alloc, position, left, mine)?;
+    Ok((text, step_text(alloc, position, right, yours)?))
 }
 
-/// The hash of the node above one at this place and its sibling.
-fn step(place: u32, node: &[u8; 32], sibling: &[u8; 32]) -> [u8; 32]
-    ensures { result ≡ double_sha256 (step_input place node.now sibling.now) }
+/// The hash of the node above one at this position and its sibling.
+fn step(position: u32, node: &[u8; 32], sibling: &[u8; 32]) -> [u8; 32]
+    ensures { result ≡ double_sha256 (step_input position node.now sibling.now) }
 {
-    if place % 2 == 0 {
+    if position % 2 == 0 {
         pair(node, sibling)
     } else {
         pair(sibling, node)
@@ -260,13 +260,13 @@ fn step(place: u32, node: &[u8; 32], sibling: &[u8; 32]) -> [u8; 32]
 /// The hash input of that node.
 fn step_text(
     alloc: Global,
-    place: u32,
+    position: u32,
     node: &[u8; 32],
     sibling: &[u8; 32],
 ) -> Result<Vec<u8>, AllocError>
-    ensures { IfOk result (λ input. input.items ≡ step_input place node.now sibling.now) }
+    ensures { IfOk result (λ input. input.items ≡ step_input position node.now sibling.now) }
 {
-    if place % 2 == 0 {
+    if position % 2 == 0 {
         pair_text(alloc, node, sibling)
     } else {
         pair_text(alloc, sibling, node)

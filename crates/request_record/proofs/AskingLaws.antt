@@ -4,7 +4,7 @@ use Rattle.std.specs.Prelude.{slice_get}
 use Rattle.std.proofs.lemmas.Bool.{cases_lt}
 use Rattle.std.proofs.lemmas.List.{length-append}
 use Rattle.std.proofs.lemmas.Option.{slice_get_within}
-use Rattle.lemmas.proofs.Places.{get_push, get_last}
+use Rattle.lemmas.proofs.Positions.{get_push, get_last}
 use Rattle.wire.specs.declared.message.Body.{Body}
 use Rattle.wire.specs.declared.message.Message.{Message}
 use Rattle.request_record.specs.declared.requests.Asked.{Asked}
@@ -18,7 +18,7 @@ use Rattle.request_record.specs.Asking.{AreApart, AsksOnce, after_message, after
 abbrev AsksSame : Request → Request → Type 0
 AsksSame a b = (a.server ≡ b.server) × (a.asked ≡ b.asked)
 
--- each request asks what the one at its place asked
+-- each request asks what the one at its position asked
 abbrev AskSame : List Request → List Request → Type 0
 AskSame old new = (i : ℕ) (b : Request) → slice_get new i ≡ Some b → (a : Request) × (slice_get old i ≡ Some a) × AsksSame a b
 
@@ -31,23 +31,23 @@ once_same old new same once i j a b lt first second servers =
 
 -- ---- answers
 
-same_set : (old : List Request) (place : ℕ) (r : Request) (o : Outcome) → slice_get old place ≡ Some r → AskSame old (set old place (with_outcome r o))
-same_set [] place r o there i b e = absurd cc
+same_set : (old : List Request) (position : ℕ) (r : Request) (o : Outcome) → slice_get old position ≡ Some r → AskSame old (set old position (with_outcome r o))
+same_set [] position r o there i b e = absurd cc
 same_set (x ∷ xs) zero r o there zero b e = let is : x ≡ r = cc in let new : with_outcome r o ≡ b = cc in (x, refl, (ap (λ (q : Request). q.server) is ∙ ap (λ (q : Request). q.server) new, ap (λ (q : Request). q.asked) is ∙ ap (λ (q : Request). q.asked) new))
 same_set (x ∷ xs) zero r o there (suc i) b e = (b, e, (refl, refl))
-same_set (x ∷ xs) (suc place) r o there zero b e = (b, e, (refl, refl))
-same_set (x ∷ xs) (suc place) r o there (suc i) b e = same_set xs place r o there i b e
+same_set (x ∷ xs) (suc position) r o there zero b e = (b, e, (refl, refl))
+same_set (x ∷ xs) (suc position) r o there (suc i) b e = same_set xs position r o there i b e
 
 same_all : (old : List Request) → AskSame old old
 same_all old i b e = (b, e, (refl, refl))
 
-same_answered : (old : List Request) (place : ℕ) (o : Option Request) (body : Body) → slice_get old place ≡ o → AskSame old (answered_in old place o body)
-same_answered old place None body there = same_all old
-same_answered old place (Some r) body there = same_set old place r (Answered body) there
+same_answered : (old : List Request) (position : ℕ) (o : Option Request) (body : Body) → slice_get old position ≡ o → AskSame old (answered_in old position o body)
+same_answered old position None body there = same_all old
+same_answered old position (Some r) body there = same_set old position r (Answered body) there
 
 same_counted : (m : Message) (r : RequestsState) (o : Option ℕ) → AskSame r.entries (counted_at m r o).entries
 same_counted m r None = same_all r.entries
-same_counted m r (Some place) = same_answered r.entries place (slice_get r.entries place) m.body refl
+same_counted m r (Some position) = same_answered r.entries position (slice_get r.entries position) m.body refl
 
 pub once_answered : (from now : ℕ) (m : Message) (r : RequestsState) → AsksOnce r.entries → AsksOnce (after_message from m now r).entries
 once_answered from now m r once = once_same r.entries (after_message from m now r).entries (same_counted m (at now r) (counts_at from m (at now r))) once

@@ -1,7 +1,7 @@
 -- How a record goes on: by what is asked, by a message and by a tick.
 use Rattle.lemmas.proofs.Bools.{both}
 use Rattle.lemmas.proofs.Numbers.{same_number}
-use Rattle.lemmas.proofs.Places.{get_left, get_other, get_pushed, get_set, set_cases}
+use Rattle.lemmas.proofs.Positions.{get_left, get_other, get_pushed, get_set, set_cases}
 use Rattle.std.proofs.Common.{◌≡◌, ℕ, zero, suc, ◌+◌, ◌-◌, List, [], ◌∷◌, Bool, true, false, Option, Some, None, refl, sym, subst, ap, ◌∙◌, inl, inr, ◌⊎◌, arith}
 use Rattle.std.specs.Prelude.{◌==◌, ◌&&◌, max, not, slice_get, slice_set, option_map, if◌then◌else◌}
 use Rattle.std.proofs.lemmas.Bool.{cases_eq}
@@ -16,15 +16,15 @@ use Rattle.request_record.specs.Asking.{after_message, after_tick}
 use Rattle.request_record.specs.Record.{RequestsState, answered_in, asked_all, asked_more, at, awaits_at, counted, counted_at, first_outcome, first_request, fits, is_lost_at, is_outstanding, is_resent_at, resent_one, ticked, ticked_one, with_outcome, without, requests_state}
 use Rattle.request_record.specs.Follow.{Follows, IsSaid, Nothing, Said, StillAsks}
 
-itself : (entries : List Request) (place : ℕ) (r : Request) → slice_get entries place ≡ Some r → StillAsks entries place r
-itself entries place r e = record { request = r; at = e; server = refl; asked = refl }
+itself : (entries : List Request) (position : ℕ) (r : Request) → slice_get entries position ≡ Some r → StillAsks entries position r
+itself entries position r e = record { request = r; at = e; server = refl; asked = refl }
 
 -- the same entries
 pub follows_same : (New : Said) (r s : RequestsState) → s.session ≡ r.session → s.entries ≡ r.entries → Follows New r s
 follows_same New r s session entries = record {
   session_is = session;
-  keeps = λ place q e. itself s.entries place q (ap (λ (l : List Request). slice_get l place) entries ∙ e);
-  answers = λ place t said e o. inl (record { request = t; at = ap (λ (l : List Request). slice_get l place) (sym entries) ∙ e; answered = o; server = refl; asked = refl });
+  keeps = λ position q e. itself s.entries position q (ap (λ (l : List Request). slice_get l position) entries ∙ e);
+  answers = λ position t said e o. inl (record { request = t; at = ap (λ (l : List Request). slice_get l position) (sym entries) ∙ e; answered = o; server = refl; asked = refl });
 }
 
 pub follows_itself : (New : Said) (r : RequestsState) → Follows New r r
@@ -33,13 +33,13 @@ follows_itself New r = follows_same New r r refl refl
 pub follows_on : (New : Said) (a b c : RequestsState) → Follows New a b → Follows Nothing b c → Follows New a c
 follows_on New a b c f g = record {
   session_is = g.session_is ∙ f.session_is;
-  keeps = λ place r e.
-      let s = f.keeps place r e in
-      let t = g.keeps place s.request s.at in record { request = t.request; at = t.at; server = t.server ∙ s.server; asked = t.asked ∙ s.asked };
-  answers = λ place s said e o. elim (g.answers place s said e o) [
-    | inl w ↦ elim (f.answers place w.request said w.at w.answered) [
+  keeps = λ position r e.
+      let s = f.keeps position r e in
+      let t = g.keeps position s.request s.at in record { request = t.request; at = t.at; server = t.server ∙ s.server; asked = t.asked ∙ s.asked };
+  answers = λ position s said e o. elim (g.answers position s said e o) [
+    | inl w ↦ elim (f.answers position w.request said w.at w.answered) [
       | inl v ↦ inl (record { request = v.request; at = v.at; answered = v.answered; server = v.server ∙ w.server; asked = v.asked ∙ w.asked })
-      | inr n ↦ inr (subst (λ (x : Asked). New place s.server x said) w.asked (subst (λ (x : ℕ). New place x w.request.asked said) w.server n))
+      | inr n ↦ inr (subst (λ (x : Asked). New position s.server x said) w.asked (subst (λ (x : ℕ). New position x w.request.asked said) w.server n))
     ]
     | inr n ↦ absurd n
   ];
@@ -56,8 +56,8 @@ not_answered (Aborting share) said e = absurd cc
 follows_more : (server : ℕ) (asked : Asked) (r : RequestsState) → Follows Nothing r (asked_more server asked r)
 follows_more server asked r = record {
   session_is = refl;
-  keeps = λ place q e. record { request = q; at = get_left r.entries (first_request server asked r.clock ∷ []) place q e; server = refl; asked = refl };
-  answers = λ place s said e o. elim (get_pushed r.entries (first_request server asked r.clock) s place e) [
+  keeps = λ position q e. record { request = q; at = get_left r.entries (first_request server asked r.clock ∷ []) position q e; server = refl; asked = refl };
+  answers = λ position s said e o. elim (get_pushed r.entries (first_request server asked r.clock) s position e) [
     | inl h ↦ inl (record { request = s; at = h; answered = o; server = refl; asked = refl })
     | inr h ↦ absurd (not_answered asked said (ap (λ (x : Request). x.outcome) h.1 ∙ o))
   ];
@@ -86,7 +86,7 @@ module _ (from : ℕ) (m : Message) (r : RequestsState) where
       let new : Request = with_outcome q (Answered m.body) in
       record {
         session_is = refl;
-        keeps = λ place p e. elim (cases_eq place (m.number - 1)) [
+        keeps = λ position p e. elim (cases_eq position (m.number - 1)) [
           | inl here ↦ (let same : q ≡ p = same_Some q p (sym at ∙ ap (slice_get r.entries) (sym here) ∙ e) in
               record {
                 request = new;
@@ -94,9 +94,9 @@ module _ (from : ℕ) (m : Message) (r : RequestsState) where
                 server = ap (λ (x : Request). x.server) same;
                 asked = ap (λ (x : Request). x.asked) same;
               })
-          | inr other ↦ record { request = p; at = get_other r.entries (m.number - 1) place new other ∙ e; server = refl; asked = refl }
+          | inr other ↦ record { request = p; at = get_other r.entries (m.number - 1) position new other ∙ e; server = refl; asked = refl }
         ];
-        answers = λ place s said e o. elim (set_cases r.entries (m.number - 1) place new s e) [
+        answers = λ position s said e o. elim (set_cases r.entries (m.number - 1) position new s e) [
           | inl h ↦
               let body : m.body ≡ said = (let is : Answered m.body ≡ Answered said = ap (λ (x : Request). x.outcome) h.1 ∙ o in cc) in
               let asked : s.asked ≡ q.asked = ap (λ (x : Request). x.asked) (sym h.1) in
@@ -148,11 +148,11 @@ some_of now (Some r) s e = (r, refl, same_Some s (ticked_one now r) (sym e))
 follows_ticked : (now : ℕ) (r : RequestsState) → Follows Nothing r (ticked now r)
 follows_ticked now r = record {
   session_is = refl;
-  keeps = λ place q e.
+  keeps = λ position q e.
       let t = ticks_one now q in
-      record { request = ticked_one now q; at = slice_get-map (ticked_one now) r.entries place ∙ ap (option_map (ticked_one now)) e; server = t.server; asked = t.asked };
-  answers = λ place s said e o.
-      let was = some_of now (slice_get r.entries place) s (sym (slice_get-map (ticked_one now) r.entries place) ∙ e) in
+      record { request = ticked_one now q; at = slice_get-map (ticked_one now) r.entries position ∙ ap (option_map (ticked_one now)) e; server = t.server; asked = t.asked };
+  answers = λ position s said e o.
+      let was = some_of now (slice_get r.entries position) s (sym (slice_get-map (ticked_one now) r.entries position) ∙ e) in
       let t : Ticks was.0 s = subst (Ticks was.0) (sym was.2) (ticks_one now was.0) in
       elim t.outcome [
         | inl same ↦ inl (record { request = was.0; at = was.1; answered = sym same ∙ o; server = sym t.server; asked = sym t.asked })

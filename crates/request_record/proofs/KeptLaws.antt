@@ -38,19 +38,19 @@ ticked_data now (r ∷ rs) =
     ap (λ (d : Option (List ℕ)). d ∷ map data_of (map (ticked_one now) rs)) (ticked_one_data now r)
     ∙ ap (λ (ds : List (Option (List ℕ))). data_of r ∷ ds) (ticked_data now rs)
 
--- ---- the bytes at a place
+-- ---- the bytes at a position
 
 -- lists whose parts say the same have as much
 pub as_many : {V : Type 0} (f : V → Option (List ℕ)) (kept : List V) (entries : List Request) → map f kept ≡ map data_of entries → length kept ≡ length entries
 as_many f kept entries same = sym (length-map kept f) ∙ ap length same ∙ length-map entries data_of
 
-same_at : {V : Type 0} (f : V → Option (List ℕ)) (kept : List V) (entries : List Request) (place : ℕ) → map f kept ≡ map data_of entries → option_map f (slice_get kept place) ≡ option_map data_of (slice_get entries place)
-same_at f kept entries place same =
-    sym (slice_get-map f kept place) ∙ ap (λ (ds : List (Option (List ℕ))). slice_get ds place) same ∙ slice_get-map data_of entries place
+same_at : {V : Type 0} (f : V → Option (List ℕ)) (kept : List V) (entries : List Request) (position : ℕ) → map f kept ≡ map data_of entries → option_map f (slice_get kept position) ≡ option_map data_of (slice_get entries position)
+same_at f kept entries position same =
+    sym (slice_get-map f kept position) ∙ ap (λ (ds : List (Option (List ℕ))). slice_get ds position) same ∙ slice_get-map data_of entries position
 
-data_found : (entries : List Request) (place : ℕ) (bytes : List ℕ) (o : Option Request) → slice_get entries place ≡ o → option_map data_of o ≡ Some (Some bytes) → IsDataAt entries place bytes
-data_found entries place bytes None there e = absurd cc
-data_found entries place bytes (Some r) there e = record { request = r; there = there; answer = answered r.outcome (ap_some e) }
+data_found : (entries : List Request) (position : ℕ) (bytes : List ℕ) (o : Option Request) → slice_get entries position ≡ o → option_map data_of o ≡ Some (Some bytes) → IsDataAt entries position bytes
+data_found entries position bytes None there e = absurd cc
+data_found entries position bytes (Some r) there e = record { request = r; there = there; answer = answered r.outcome (ap_some e) }
   where
     ap_some : Some (data_of r) ≡ Some (Some bytes) → data_of r ≡ Some bytes
     ap_some e = cc
@@ -65,47 +65,47 @@ data_found entries place bytes (Some r) there e = record { request = r; there = 
     answered Unawaited e = absurd cc
     answered Lost e = absurd cc
 
-data_at : {V : Type 0} (f : V → Option (List ℕ)) (kept : List V) (entries : List Request) (place : ℕ) (bytes : List ℕ) → map f kept ≡ map data_of entries
-    → option_map f (slice_get kept place) ≡ Some (Some bytes) → IsDataAt entries place bytes
-data_at f kept entries place bytes same e = data_found entries place bytes (slice_get entries place) refl (sym (same_at f kept entries place same) ∙ e)
+data_at : {V : Type 0} (f : V → Option (List ℕ)) (kept : List V) (entries : List Request) (position : ℕ) (bytes : List ℕ) → map f kept ≡ map data_of entries
+    → option_map f (slice_get kept position) ≡ Some (Some bytes) → IsDataAt entries position bytes
+data_at f kept entries position bytes same e = data_found entries position bytes (slice_get entries position) refl (sym (same_at f kept entries position same) ∙ e)
 
-pub data_is : {V : Type 0} (f : V → Option (List ℕ)) (kept : List V) (entries : List Request) (place : ℕ) (bytes : List ℕ) → map f kept ≡ map data_of entries
-    → IsDataAt entries place bytes → option_map f (slice_get kept place) ≡ Some (Some bytes)
-data_is f kept entries place bytes same d =
-    same_at f kept entries place same ∙ ap (option_map data_of) d.there ∙ ap (λ (o : Outcome). Some (data_as o)) d.answer
+pub data_is : {V : Type 0} (f : V → Option (List ℕ)) (kept : List V) (entries : List Request) (position : ℕ) (bytes : List ℕ) → map f kept ≡ map data_of entries
+    → IsDataAt entries position bytes → option_map f (slice_get kept position) ≡ Some (Some bytes)
+data_is f kept entries position bytes same d =
+    same_at f kept entries position same ∙ ap (option_map data_of) d.there ∙ ap (λ (o : Outcome). Some (data_as o)) d.answer
 
--- what is kept at a place, in an option of its own
-pub data_here : {V : Type 0} (f : V → Option (List ℕ)) (kept : List V) (entries : List Request) (place : ℕ) (bytes : List ℕ) (v : V) → map f kept ≡ map data_of entries
-    → place < length kept → v ≡ get_or kept place v → f v ≡ Some bytes → IsDataAt entries place bytes
-data_here f kept entries place bytes v same lt is brings =
-    data_at f kept entries place bytes same (ap (option_map f) (slice_get_read kept (length kept) place v refl lt is) ∙ ap (λ (b : Option (List ℕ)). Some b) brings)
+-- what is kept at a position, in an option of its own
+pub data_here : {V : Type 0} (f : V → Option (List ℕ)) (kept : List V) (entries : List Request) (position : ℕ) (bytes : List ℕ) (v : V) → map f kept ≡ map data_of entries
+    → position < length kept → v ≡ get_or kept position v → f v ≡ Some bytes → IsDataAt entries position bytes
+data_here f kept entries position bytes v same lt is brings =
+    data_at f kept entries position bytes same (ap (option_map f) (slice_get_read kept (length kept) position v refl lt is) ∙ ap (λ (b : Option (List ℕ)). Some b) brings)
 
--- where nothing is kept of a place, no Data answered its request
-pub none_here : {V : Type 0} (f : V → Option (List ℕ)) (kept : List V) (entries : List Request) (place : ℕ) (bytes : List ℕ) (v : V) → map f kept ≡ map data_of entries
-    → place < length kept → v ≡ get_or kept place v → f v ≡ None → IsDataAt entries place bytes → ⊥
-none_here f kept entries place bytes v same lt is none found =
-    let e : Some (Some bytes) ≡ Some None = sym (data_is f kept entries place bytes same found) ∙ ap (option_map f) (slice_get_read kept (length kept) place v refl lt is) ∙ ap (λ (b : Option (List ℕ)). Some b) none in
+-- where nothing is kept of a position, no Data answered its request
+pub none_here : {V : Type 0} (f : V → Option (List ℕ)) (kept : List V) (entries : List Request) (position : ℕ) (bytes : List ℕ) (v : V) → map f kept ≡ map data_of entries
+    → position < length kept → v ≡ get_or kept position v → f v ≡ None → IsDataAt entries position bytes → ⊥
+none_here f kept entries position bytes v same lt is none found =
+    let e : Some (Some bytes) ≡ Some None = sym (data_is f kept entries position bytes same found) ∙ ap (option_map f) (slice_get_read kept (length kept) position v refl lt is) ∙ ap (λ (b : Option (List ℕ)). Some b) none in
     absurd cc
 
 -- ---- answers
 
-pub counted_there : (from : ℕ) (m : Message) (r : RequestsState) (place : ℕ) → counts_at from m r ≡ Some place → place < length r.entries
-counted_there from m r place e =
-    let a : Awaits r.entries place = counts_is from m r place e in
-    slice_get_within r.entries place a.request a.there
+pub counted_there : (from : ℕ) (m : Message) (r : RequestsState) (position : ℕ) → counts_at from m r ≡ Some position → position < length r.entries
+counted_there from m r position e =
+    let a : Awaits r.entries position = counts_is from m r position e in
+    slice_get_within r.entries position a.request a.there
 
--- what came is at its place
-pub counted_data : {V : Type 0} (f : V → Option (List ℕ)) (kept : List V) (from : ℕ) (m : Message) (now : ℕ) (r : RequestsState) (place : ℕ) (more : V) → counts_at from m r ≡ Some place
-    → f more ≡ data_in m.body → map f kept ≡ map data_of r.entries → map f (set kept place more) ≡ map data_of (after_message from m now r).entries
-counted_data f kept from m now r place more counts is same =
-    let a : Awaits r.entries place = counts_is from m r place counts in
-    let new : (after_message from m now r).entries ≡ slice_set r.entries place (with_outcome a.request (Answered m.body)) =
-    ap (λ (o : Option ℕ). (counted_at m (at now r) o).entries) counts ∙ ap (λ (o : Option Request). answered_in r.entries place o m.body) a.there
+-- what came is at its position
+pub counted_data : {V : Type 0} (f : V → Option (List ℕ)) (kept : List V) (from : ℕ) (m : Message) (now : ℕ) (r : RequestsState) (position : ℕ) (more : V) → counts_at from m r ≡ Some position
+    → f more ≡ data_in m.body → map f kept ≡ map data_of r.entries → map f (set kept position more) ≡ map data_of (after_message from m now r).entries
+counted_data f kept from m now r position more counts is same =
+    let a : Awaits r.entries position = counts_is from m r position counts in
+    let new : (after_message from m now r).entries ≡ slice_set r.entries position (with_outcome a.request (Answered m.body)) =
+    ap (λ (o : Option ℕ). (counted_at m (at now r) o).entries) counts ∙ ap (λ (o : Option Request). answered_in r.entries position o m.body) a.there
     in
-    map-set f kept place more
-    ∙ ap (λ (ds : List (Option (List ℕ))). set ds place (f more)) same
-    ∙ ap (set (map data_of r.entries) place) is
-    ∙ sym (map-set data_of r.entries place (with_outcome a.request (Answered m.body)))
+    map-set f kept position more
+    ∙ ap (λ (ds : List (Option (List ℕ))). set ds position (f more)) same
+    ∙ ap (set (map data_of r.entries) position) is
+    ∙ sym (map-set data_of r.entries position (with_outcome a.request (Answered m.body)))
     ∙ ap (map data_of) (sym new)
 
 -- ---- ticks that may be refused memory

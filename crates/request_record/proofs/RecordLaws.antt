@@ -9,8 +9,8 @@ use Rattle.std.proofs.lemmas.List.Sums.{sum_by-append, sum_by-set}
 use Rattle.std.proofs.lemmas.List.Elements.{All-nil, All-cons, All-head, All-tail, All-push, All-weaker, All-append, All-set, All-map, All-same}
 use Rattle.std.proofs.lemmas.Option.{get_or_from_slice_get, slice_get-map}
 use Rattle.lemmas.proofs.Options.{chosen}
-pub use Rattle.lemmas.proofs.Places.{get_push, get_last}
-use Rattle.lemmas.proofs.Places.{get_set_other}
+pub use Rattle.lemmas.proofs.Positions.{get_push, get_last}
+use Rattle.lemmas.proofs.Positions.{get_set_other}
 use Rattle.lemmas.proofs.Bools.{both, not_both}
 use Rattle.wire.specs.declared.message.Body.{Body}
 use Rattle.wire.specs.declared.message.Message.{Message}
@@ -19,7 +19,7 @@ use Rattle.request_record.specs.declared.requests.Asked.TheVariants.{Holdings, A
 use Rattle.request_record.specs.declared.requests.Outcome.{Outcome}
 use Rattle.request_record.specs.declared.requests.Outcome.TheVariants.{Unawaited, Outstanding, Answered, Lost}
 use Rattle.request_record.specs.declared.requests.Request.{Request}
-use Rattle.request_record.specs.Record.{RequestsState, IsRecord, IsIndexed, AreSettled, AreInOrder, fits, is_outstanding, with_outcome, first_outcome, first_request, asked_more, asked_all, awaits_at, counts_at, without, without_lost, passed, age_of, is_lost_at, is_resent_at, is_lost_in, resent_one, ticked_one, places_from, resent_places, lost_places, IsSentFew, is_current, is_current_in, outstanding_count}
+use Rattle.request_record.specs.Record.{RequestsState, IsRecord, IsIndexed, AreSettled, AreInOrder, fits, is_outstanding, with_outcome, first_outcome, first_request, asked_more, asked_all, awaits_at, counts_at, without, without_lost, passed, age_of, is_lost_at, is_resent_at, is_lost_in, resent_one, ticked_one, positions_from, resent_positions, lost_positions, IsSentFew, is_current, is_current_in, outstanding_count}
 use Rattle.request_record.proofs.StepLaws.{count_cons, waiting_one}
 use Rattle.request_record.specs.Asking.{asks_of, begun, fresh}
 
@@ -29,7 +29,7 @@ abbrev pub IsQuiet : Request → Type 0
 IsQuiet r = is_outstanding r.outcome ≡ false
 
 abbrev IsCurrentIn : List Request → ℕ → Type 0
-IsCurrentIn entries place = is_current_in (slice_get entries place) ≡ true
+IsCurrentIn entries position = is_current_in (slice_get entries position) ≡ true
 
 -- what a filter keeps, where what it tests gives more
 all_kept : {X : Type 0} (P Q : X → Type 0) (test : X → Bool) → ((x : X) → P x → test x ≡ true → Q x) → (xs : List X) → All P xs → All Q (filter test xs)
@@ -57,11 +57,11 @@ count_le (r ∷ rs) = omega (arith, count_cons r rs, one_at_most (is_outstanding
 few_push : (server now : ℕ) (asked : Asked) (entries : List Request) → All IsSentFew entries → All IsSentFew (entries ++ first_request server asked now ∷ [])
 few_push server now asked entries few = All-push IsSentFew entries (first_request server asked now) few (omega arith, omega arith)
 
-there_push : (entries : List Request) (r : Request) (outgoing : List ℕ) → All (λ place. place < length entries) outgoing → All (λ place. place < length (entries ++ r ∷ [])) (outgoing ++ length entries ∷ [])
+there_push : (entries : List Request) (r : Request) (outgoing : List ℕ) → All (λ position. position < length entries) outgoing → All (λ position. position < length (entries ++ r ∷ [])) (outgoing ++ length entries ∷ [])
 there_push entries r outgoing there =
     let len : length (entries ++ r ∷ []) ≡ length entries + 1 = length-append entries (r ∷ []) in
-    All-push (λ place. place < length (entries ++ r ∷ [])) outgoing (length entries)
-    (All-weaker (λ place. place < length entries) (λ place. place < length (entries ++ r ∷ [])) (λ place lt. omega (arith, lt, len)) outgoing there)
+    All-push (λ position. position < length (entries ++ r ∷ [])) outgoing (length entries)
+    (All-weaker (λ position. position < length entries) (λ position. position < length (entries ++ r ∷ [])) (λ position lt. omega (arith, lt, len)) outgoing there)
     (omega (arith, len))
 
 pub first_current : (asked : Asked) → is_current (first_outcome asked) ≡ true
@@ -72,7 +72,7 @@ first_current (Closing share) = refl
 first_current (Reading share offset len) = refl
 first_current (Aborting share) = refl
 
-current_push : (entries : List Request) (r : Request) (outgoing : List ℕ) → is_current r.outcome ≡ true → All (λ place. place < length entries) outgoing → All (IsCurrentIn entries) outgoing → All (IsCurrentIn (entries ++ r ∷ [])) (outgoing ++ length entries ∷ [])
+current_push : (entries : List Request) (r : Request) (outgoing : List ℕ) → is_current r.outcome ≡ true → All (λ position. position < length entries) outgoing → All (IsCurrentIn entries) outgoing → All (IsCurrentIn (entries ++ r ∷ [])) (outgoing ++ length entries ∷ [])
 current_push entries r outgoing new there current =
     All-push (IsCurrentIn (entries ++ r ∷ [])) outgoing (length entries)
     (λ k d lt. ap is_current_in (get_push entries r (get_or outgoing k d) (there k d lt)) ∙ current k d lt)
@@ -85,17 +85,17 @@ asked_right server asked r right = record {
   current = current_push r.entries (first_request server asked r.clock) r.outgoing (first_current asked) right.there right.current;
 }
 
-settled_push : (place : ℕ) (entries : List Request) (r : Request) → AreSettled place entries → AreSettled place (entries ++ r ∷ [])
-settled_push place entries r s = record {
+settled_push : (position : ℕ) (entries : List Request) (r : Request) → AreSettled position entries → AreSettled position (entries ++ r ∷ [])
+settled_push position entries r s = record {
   within = omega (arith, s.within, length-append entries (r ∷ []));
-  settled = All-same IsQuiet (take place (entries ++ r ∷ [])) (take place entries) (take-append-le place entries (r ∷ []) s.within) s.settled;
+  settled = All-same IsQuiet (take position (entries ++ r ∷ [])) (take position entries) (take-append-le position entries (r ∷ []) s.within) s.settled;
 }
 
-pub asked_indexed : (n more place sent : ℕ) (entries : List Request) (r : Request) (outgoing new : List ℕ) → IsIndexed n place sent entries outgoing → more ≡ cond (is_outstanding r.outcome) 1 0
-    → AreInOrder sent (entries ++ r ∷ []) new → IsIndexed (n + more) place sent (entries ++ r ∷ []) new
-asked_indexed n more place sent entries r outgoing new i e order = record {
+pub asked_indexed : (n more position sent : ℕ) (entries : List Request) (r : Request) (outgoing new : List ℕ) → IsIndexed n position sent entries outgoing → more ≡ cond (is_outstanding r.outcome) 1 0
+    → AreInOrder sent (entries ++ r ∷ []) new → IsIndexed (n + more) position sent (entries ++ r ∷ []) new
+asked_indexed n more position sent entries r outgoing new i e order = record {
   counts = omega (arith, count_push entries r, i.counts, e);
-  before = settled_push place entries r i.before;
+  before = settled_push position entries r i.before;
   within = omega (arith, i.within, length-append entries (r ∷ []));
   order = order;
 }
@@ -115,67 +115,67 @@ begun_more servers i session now lt =
 -- ---- answers
 
 -- a request that an answer counts for is there and waits
-pub record Awaits (entries : List Request) (place : ℕ) : Type 0 where
+pub record Awaits (entries : List Request) (position : ℕ) : Type 0 where
   pub request : Request
-  pub there : slice_get entries place ≡ Some request
+  pub there : slice_get entries position ≡ Some request
   pub waits : is_outstanding request.outcome ≡ true
 
-awaits_is : (from : ℕ) (body : Body) (entries : List Request) (place : ℕ) (o : Option Request) → slice_get entries place ≡ o → awaits_at from body o ≡ true → Awaits entries place
-awaits_is from body entries place None there e = absurd cc
-awaits_is from body entries place (Some r) there e =
+awaits_is : (from : ℕ) (body : Body) (entries : List Request) (position : ℕ) (o : Option Request) → slice_get entries position ≡ o → awaits_at from body o ≡ true → Awaits entries position
+awaits_is from body entries position None there e = absurd cc
+awaits_is from body entries position (Some r) there e =
     let t = both (is_outstanding r.outcome && (r.server == from)) (fits r.asked body) e in
     record { request = r; there = there; waits = (both (is_outstanding r.outcome) (r.server == from) t.0).0 }
 
-pub counts_is : (from : ℕ) (m : Message) (s : RequestsState) (place : ℕ) → counts_at from m s ≡ Some place → Awaits s.entries place
-counts_is from m s place e =
+pub counts_is : (from : ℕ) (m : Message) (s : RequestsState) (position : ℕ) → counts_at from m s ≡ Some position → Awaits s.entries position
+counts_is from m s position e =
     let at = slice_get s.entries (m.number - 1) in
-    let t = chosen ((m.session == s.session) && not (m.number == 0) && awaits_at from m.body at) (m.number - 1) place e in
+    let t = chosen ((m.session == s.session) && not (m.number == 0) && awaits_at from m.body at) (m.number - 1) position e in
     let last = (both ((m.session == s.session) && not (m.number == 0)) (awaits_at from m.body at) t.0).1 in
     subst (Awaits s.entries) t.1 (awaits_is from m.body s.entries (m.number - 1) at refl last)
 
 -- the entries after an answer
-abbrev pub settled : (entries : List Request) (place : ℕ) → Awaits entries place → Body → List Request
-settled entries place a body = slice_set entries place (with_outcome a.request (Answered body))
+abbrev pub settled : (entries : List Request) (position : ℕ) → Awaits entries position → Body → List Request
+settled entries position a body = slice_set entries position (with_outcome a.request (Answered body))
 
-pub count_settled : (entries : List Request) (place : ℕ) (a : Awaits entries place) (body : Body) → place < length entries → outstanding_count (settled entries place a body) + 1 ≡ outstanding_count entries
-count_settled entries place a body lt =
+pub count_settled : (entries : List Request) (position : ℕ) (a : Awaits entries position) (body : Body) → position < length entries → outstanding_count (settled entries position a body) + 1 ≡ outstanding_count entries
+count_settled entries position a body lt =
     let f : Request → ℕ = λ q. cond (is_outstanding q.outcome) 1 0 in
-    let e = sum_by-set f entries place (with_outcome a.request (Answered body)) a.request lt in
-    let was : f (get_or entries place a.request) ≡ 1 = ap f (get_or_from_slice_get entries place a.request a.request a.there) ∙ ap (λ (b : Bool). cond b 1 0) a.waits in
+    let e = sum_by-set f entries position (with_outcome a.request (Answered body)) a.request lt in
+    let was : f (get_or entries position a.request) ≡ 1 = ap f (get_or_from_slice_get entries position a.request a.request a.there) ∙ ap (λ (b : Bool). cond b 1 0) a.waits in
     omega (arith, e, was)
 
-few_settled : (entries : List Request) (place : ℕ) (a : Awaits entries place) (body : Body) → place < length entries → All IsSentFew entries → All IsSentFew (settled entries place a body)
-few_settled entries place a body lt few =
-    let was : IsSentFew a.request = subst IsSentFew (get_or_from_slice_get entries place a.request a.request a.there) (few place a.request lt) in
-    All-set IsSentFew entries place (with_outcome a.request (Answered body)) was few
+few_settled : (entries : List Request) (position : ℕ) (a : Awaits entries position) (body : Body) → position < length entries → All IsSentFew entries → All IsSentFew (settled entries position a body)
+few_settled entries position a body lt few =
+    let was : IsSentFew a.request = subst IsSentFew (get_or_from_slice_get entries position a.request a.request a.there) (few position a.request lt) in
+    All-set IsSentFew entries position (with_outcome a.request (Answered body)) was few
 
-pub answered_right : (r : RequestsState) (place : ℕ) (a : Awaits r.entries place) (body : Body) → place < length r.entries → IsRecord r
-    → (new : RequestsState) → new.entries ≡ settled r.entries place a body → new.outgoing ≡ without place r.outgoing → IsRecord new
-answered_right r place a body lt right new entries-are outgoing-are =
-    let len : length new.entries ≡ length r.entries = ap length entries-are ∙ length-set r.entries place (with_outcome a.request (Answered body)) in
-    let there : All (λ p. p < length new.entries) (without place r.outgoing) = all_kept (λ p. p < length r.entries) (λ p. p < length new.entries) (λ (p : ℕ). not (p == place)) (λ p h e. omega (arith, h, len)) r.outgoing right.there in
-    let current : All (IsCurrentIn (settled r.entries place a body)) (without place r.outgoing) = all_kept (IsCurrentIn r.entries) (IsCurrentIn (settled r.entries place a body)) (λ (p : ℕ). not (p == place)) (λ p h e. ap is_current_in (get_set_other r.entries place p (with_outcome a.request (Answered body)) (λ same. not_both (p == place) (eq-eqb p place same) e)) ∙ h) r.outgoing right.current in
+pub answered_right : (r : RequestsState) (position : ℕ) (a : Awaits r.entries position) (body : Body) → position < length r.entries → IsRecord r
+    → (new : RequestsState) → new.entries ≡ settled r.entries position a body → new.outgoing ≡ without position r.outgoing → IsRecord new
+answered_right r position a body lt right new entries-are outgoing-are =
+    let len : length new.entries ≡ length r.entries = ap length entries-are ∙ length-set r.entries position (with_outcome a.request (Answered body)) in
+    let there : All (λ p. p < length new.entries) (without position r.outgoing) = all_kept (λ p. p < length r.entries) (λ p. p < length new.entries) (λ (p : ℕ). not (p == position)) (λ p h e. omega (arith, h, len)) r.outgoing right.there in
+    let current : All (IsCurrentIn (settled r.entries position a body)) (without position r.outgoing) = all_kept (IsCurrentIn r.entries) (IsCurrentIn (settled r.entries position a body)) (λ (p : ℕ). not (p == position)) (λ p h e. ap is_current_in (get_set_other r.entries position p (with_outcome a.request (Answered body)) (λ same. not_both (p == position) (eq-eqb p position same) e)) ∙ h) r.outgoing right.current in
     record {
-      few = subst (All IsSentFew) (sym entries-are) (few_settled r.entries place a body lt right.few);
+      few = subst (All IsSentFew) (sym entries-are) (few_settled r.entries position a body lt right.few);
       there = subst (All (λ p. p < length new.entries)) (sym outgoing-are) there;
-      current = subst (λ (es : List Request). All (IsCurrentIn es) new.outgoing) (sym entries-are) (subst (All (IsCurrentIn (settled r.entries place a body))) (sym outgoing-are) current);
+      current = subst (λ (es : List Request). All (IsCurrentIn es) new.outgoing) (sym entries-are) (subst (All (IsCurrentIn (settled r.entries position a body))) (sym outgoing-are) current);
     }
 
-settled_set : (from place : ℕ) (entries : List Request) (r : Request) → IsQuiet r → AreSettled from entries → AreSettled from (set entries place r)
-settled_set from place entries r quiet s = record {
-  within = omega (arith, s.within, length-set entries place r);
-  settled = elim (cases_lt place from) [
-    | inl lt ↦ All-same IsQuiet (take from (set entries place r)) (set (take from entries) place r) (take-set-lt from entries place r lt) (All-set IsQuiet (take from entries) place r quiet s.settled)
-    | inr le ↦ All-same IsQuiet (take from (set entries place r)) (take from entries) (take-set-le from entries place r le) s.settled
+settled_set : (from position : ℕ) (entries : List Request) (r : Request) → IsQuiet r → AreSettled from entries → AreSettled from (set entries position r)
+settled_set from position entries r quiet s = record {
+  within = omega (arith, s.within, length-set entries position r);
+  settled = elim (cases_lt position from) [
+    | inl lt ↦ All-same IsQuiet (take from (set entries position r)) (set (take from entries) position r) (take-set-lt from entries position r lt) (All-set IsQuiet (take from entries) position r quiet s.settled)
+    | inr le ↦ All-same IsQuiet (take from (set entries position r)) (take from entries) (take-set-le from entries position r le) s.settled
   ];
 }
 
-pub answered_indexed : (n from place sent : ℕ) (entries : List Request) (a : Awaits entries place) (body : Body) (outgoing new : List ℕ) → place < length entries → IsIndexed (n + 1) from sent entries outgoing
-    → AreInOrder sent (settled entries place a body) new → IsIndexed n from sent (settled entries place a body) new
-answered_indexed n from place sent entries a body outgoing new lt i order = record {
-  counts = omega (arith, count_settled entries place a body lt, i.counts);
-  before = settled_set from place entries (with_outcome a.request (Answered body)) refl i.before;
-  within = omega (arith, i.within, length-set entries place (with_outcome a.request (Answered body)));
+pub answered_indexed : (n from position sent : ℕ) (entries : List Request) (a : Awaits entries position) (body : Body) (outgoing new : List ℕ) → position < length entries → IsIndexed (n + 1) from sent entries outgoing
+    → AreInOrder sent (settled entries position a body) new → IsIndexed n from sent (settled entries position a body) new
+answered_indexed n from position sent entries a body outgoing new lt i order = record {
+  counts = omega (arith, count_settled entries position a body lt, i.counts);
+  before = settled_set from position entries (with_outcome a.request (Answered body)) refl i.before;
+  within = omega (arith, i.within, length-set entries position (with_outcome a.request (Answered body)));
   order = order;
 }
 
@@ -195,13 +195,13 @@ few_one now r few = go (is_lost_at now r) (is_resent_at now r) refl
 pub few_ticked : (now : ℕ) (entries : List Request) → All IsSentFew entries → All IsSentFew (map (ticked_one now) entries)
 few_ticked now entries few = All-map IsSentFew (ticked_one now) entries (All-weaker IsSentFew (λ r. IsSentFew (ticked_one now r)) (few_one now) entries few)
 
--- the places of those that pass a test are below their number
-pub places_there : (test : Request → Bool) (place : ℕ) (entries : List Request) (n : ℕ) → place + length entries ≤ n → All (λ p. p < n) (places_from test place entries)
-places_there test place [] n le = All-nil (λ p. p < n)
-places_there test place (r ∷ rs) n le = go (test r) (places_there test (place + 1) rs n (omega arith))
+-- the positions of those that pass a test are below their number
+pub positions_there : (test : Request → Bool) (position : ℕ) (entries : List Request) (n : ℕ) → position + length entries ≤ n → All (λ p. p < n) (positions_from test position entries)
+positions_there test position [] n le = All-nil (λ p. p < n)
+positions_there test position (r ∷ rs) n le = go (test r) (positions_there test (position + 1) rs n (omega arith))
   where
-    go : (b : Bool) → All (λ p. p < n) (places_from test (place + 1) rs) → All (λ p. p < n) (cond b (place ∷ places_from test (place + 1) rs) (places_from test (place + 1) rs))
-    go true rest = All-cons (λ p. p < n) place (places_from test (place + 1) rs) (omega arith) rest
+    go : (b : Bool) → All (λ p. p < n) (positions_from test (position + 1) rs) → All (λ p. p < n) (cond b (position ∷ positions_from test (position + 1) rs) (positions_from test (position + 1) rs))
+    go true rest = All-cons (λ p. p < n) position (positions_from test (position + 1) rs) (omega arith) rest
     go false rest = rest
 
 outstanding_current : (o : Outcome) → is_outstanding o ≡ true → is_current o ≡ true
@@ -214,23 +214,23 @@ resent_waits : (now : ℕ) (r : Request) → is_resent_at now r ≡ true → is_
 resent_waits now r e = (both (is_outstanding r.outcome) (nat_lt (age_of now r) 20) (both (is_outstanding r.outcome && nat_lt (age_of now r) 20) (nat_lt r.marks (passed (age_of now r))) e).0).0
 
 abbrev IsCurrentFrom : ℕ → List Request → ℕ → Type 0
-IsCurrentFrom place rs p = (place ≤ p) × IsCurrentIn rs (p - place)
+IsCurrentFrom position rs p = (position ≤ p) × IsCurrentIn rs (p - position)
 
-resent_current : (now place : ℕ) (rs : List Request) → All (IsCurrentFrom place rs) (places_from (is_resent_at now) place rs)
-resent_current now place [] = All-nil (IsCurrentFrom place [])
-resent_current now place (r ∷ rs) = go (is_resent_at now r) refl (All-weaker (IsCurrentFrom (place + 1) rs) (IsCurrentFrom place (r ∷ rs)) behind (places_from (is_resent_at now) (place + 1) rs) (resent_current now (place + 1) rs))
+resent_current : (now position : ℕ) (rs : List Request) → All (IsCurrentFrom position rs) (positions_from (is_resent_at now) position rs)
+resent_current now position [] = All-nil (IsCurrentFrom position [])
+resent_current now position (r ∷ rs) = go (is_resent_at now r) refl (All-weaker (IsCurrentFrom (position + 1) rs) (IsCurrentFrom position (r ∷ rs)) behind (positions_from (is_resent_at now) (position + 1) rs) (resent_current now (position + 1) rs))
   where
-    behind : (p : ℕ) → IsCurrentFrom (place + 1) rs p → IsCurrentFrom place (r ∷ rs) p
+    behind : (p : ℕ) → IsCurrentFrom (position + 1) rs p → IsCurrentFrom position (r ∷ rs) p
     behind p h =
-        let next : p - place ≡ suc (p - (place + 1)) = omega (arith, h.0) in
+        let next : p - position ≡ suc (p - (position + 1)) = omega (arith, h.0) in
         (omega (arith, h.0), ap (λ (k : ℕ). is_current_in (slice_get (r ∷ rs) k)) next ∙ h.1)
 
-    go : (b : Bool) → is_resent_at now r ≡ b → All (IsCurrentFrom place (r ∷ rs)) (places_from (is_resent_at now) (place + 1) rs)
-        → All (IsCurrentFrom place (r ∷ rs)) (cond b (place ∷ places_from (is_resent_at now) (place + 1) rs) (places_from (is_resent_at now) (place + 1) rs))
+    go : (b : Bool) → is_resent_at now r ≡ b → All (IsCurrentFrom position (r ∷ rs)) (positions_from (is_resent_at now) (position + 1) rs)
+        → All (IsCurrentFrom position (r ∷ rs)) (cond b (position ∷ positions_from (is_resent_at now) (position + 1) rs) (positions_from (is_resent_at now) (position + 1) rs))
     go true e rest =
-        let first : place - place ≡ 0 = omega arith in
-        let here : IsCurrentFrom place (r ∷ rs) place = (omega arith, ap (λ (k : ℕ). is_current_in (slice_get (r ∷ rs) k)) first ∙ outstanding_current r.outcome (resent_waits now r e)) in
-        All-cons (IsCurrentFrom place (r ∷ rs)) place (places_from (is_resent_at now) (place + 1) rs) here rest
+        let first : position - position ≡ 0 = omega arith in
+        let here : IsCurrentFrom position (r ∷ rs) position = (omega arith, ap (λ (k : ℕ). is_current_in (slice_get (r ∷ rs) k)) first ∙ outstanding_current r.outcome (resent_waits now r e)) in
+        All-cons (IsCurrentFrom position (r ∷ rs)) position (positions_from (is_resent_at now) (position + 1) rs) here rest
     go false e rest = rest
 
 ticked_current : (now : ℕ) (o : Option Request) → is_current_in o ≡ true → not (is_lost_in now o) ≡ true → is_current_in (option_map (ticked_one now) o) ≡ true
@@ -242,14 +242,14 @@ ticked_current now (Some r) h e = go (is_lost_at now r) (is_resent_at now r) e
     go false true stays = h
     go false false stays = h
 
-pub ticked_right : (now : ℕ) (r : RequestsState) → IsRecord r → (new : RequestsState) → new.entries ≡ map (ticked_one now) r.entries → new.outgoing ≡ without_lost now r.entries (r.outgoing ++ resent_places now r.entries) → IsRecord new
+pub ticked_right : (now : ℕ) (r : RequestsState) → IsRecord r → (new : RequestsState) → new.entries ≡ map (ticked_one now) r.entries → new.outgoing ≡ without_lost now r.entries (r.outgoing ++ resent_positions now r.entries) → IsRecord new
 ticked_right now r right new entries-are outgoing-are =
     let len : length new.entries ≡ length r.entries = ap length entries-are ∙ length-map r.entries (ticked_one now) in
-    let all = r.outgoing ++ resent_places now r.entries in
+    let all = r.outgoing ++ resent_positions now r.entries in
     let test : ℕ → Bool = λ p. not (is_lost_in now (slice_get r.entries p)) in
-    let were_there : All (λ p. p < length r.entries) all = All-append (λ p. p < length r.entries) r.outgoing (resent_places now r.entries) right.there (places_there (is_resent_at now) 0 r.entries (length r.entries) (omega arith)) in
-    let again : All (IsCurrentIn r.entries) (resent_places now r.entries) = All-weaker (IsCurrentFrom 0 r.entries) (IsCurrentIn r.entries) (λ p h. subst (IsCurrentIn r.entries) (let e : p - 0 ≡ p = omega arith in e) h.1) (resent_places now r.entries) (resent_current now 0 r.entries) in
-    let were_current : All (IsCurrentIn r.entries) all = All-append (IsCurrentIn r.entries) r.outgoing (resent_places now r.entries) right.current again in
+    let were_there : All (λ p. p < length r.entries) all = All-append (λ p. p < length r.entries) r.outgoing (resent_positions now r.entries) right.there (positions_there (is_resent_at now) 0 r.entries (length r.entries) (omega arith)) in
+    let again : All (IsCurrentIn r.entries) (resent_positions now r.entries) = All-weaker (IsCurrentFrom 0 r.entries) (IsCurrentIn r.entries) (λ p h. subst (IsCurrentIn r.entries) (let e : p - 0 ≡ p = omega arith in e) h.1) (resent_positions now r.entries) (resent_current now 0 r.entries) in
+    let were_current : All (IsCurrentIn r.entries) all = All-append (IsCurrentIn r.entries) r.outgoing (resent_positions now r.entries) right.current again in
     let there : All (λ p. p < length new.entries) (without_lost now r.entries all) = all_kept (λ p. p < length r.entries) (λ p. p < length new.entries) test (λ p h e. omega (arith, h, len)) all were_there in
     let current : All (IsCurrentIn (map (ticked_one now) r.entries)) (without_lost now r.entries all) = all_kept (IsCurrentIn r.entries) (IsCurrentIn (map (ticked_one now) r.entries)) test (λ p h e. ap is_current_in (slice_get-map (ticked_one now) r.entries p) ∙ ticked_current now (slice_get r.entries p) h e) all were_current in
     record {
@@ -259,22 +259,22 @@ ticked_right now r right new entries-are outgoing-are =
     }
 
 -- how many a tick finds lost
-pub count_ticked : (now place : ℕ) (entries : List Request) → outstanding_count (map (ticked_one now) entries) + length (places_from (is_lost_at now) place entries) ≡ outstanding_count entries
-count_ticked now place [] = refl
-count_ticked now place (r ∷ rs) = go (is_lost_at now r) (is_resent_at now r) refl (count_ticked now (place + 1) rs)
+pub count_ticked : (now position : ℕ) (entries : List Request) → outstanding_count (map (ticked_one now) entries) + length (positions_from (is_lost_at now) position entries) ≡ outstanding_count entries
+count_ticked now position [] = refl
+count_ticked now position (r ∷ rs) = go (is_lost_at now r) (is_resent_at now r) refl (count_ticked now (position + 1) rs)
   where
     rest : List ℕ
-    rest = places_from (is_lost_at now) (place + 1) rs
+    rest = positions_from (is_lost_at now) (position + 1) rs
 
     go : (lost again : Bool) → is_lost_at now r ≡ lost → outstanding_count (map (ticked_one now) rs) + length rest ≡ outstanding_count rs
-        → outstanding_count (cond lost (with_outcome r Lost) (cond again (resent_one now r) r) ∷ map (ticked_one now) rs) + length (cond lost (place ∷ rest) rest) ≡ outstanding_count (r ∷ rs)
+        → outstanding_count (cond lost (with_outcome r Lost) (cond again (resent_one now r) r) ∷ map (ticked_one now) rs) + length (cond lost (position ∷ rest) rest) ≡ outstanding_count (r ∷ rs)
     go true again e others =
         let waits : waiting_one r ≡ 1 = ap (λ (b : Bool). cond b 1 0) (both (is_outstanding r.outcome) (nat_le 20 (age_of now r)) e).0 in
         omega (arith, others, waits, count_cons r rs, count_cons (with_outcome r Lost) (map (ticked_one now) rs))
     go false true e others = omega (arith, others, count_cons r rs, count_cons (resent_one now r) (map (ticked_one now) rs))
     go false false e others = omega (arith, others, count_cons r rs, count_cons r (map (ticked_one now) rs))
 
--- ---- those that are settled before a place
+-- ---- those that are settled before a position
 
 pub lost_quiet : (now : ℕ) (r : Request) → IsQuiet r → is_lost_at now r ≡ false
 lost_quiet now r quiet = rw quiet refl
@@ -292,18 +292,18 @@ ticked_behind now (suc n) (r ∷ rs) quiet =
     ap (λ (es : List Request). r ∷ es) (ticked_behind now n rs (All-tail IsQuiet r (take n rs) quiet))
     ∙ ap (λ (q : Request). q ∷ map (ticked_one now) rs) (sym (ticked_quiet now r (All-head IsQuiet r (take n rs) quiet)))
 
-places_behind : (test : Request → Bool) → ((r : Request) → IsQuiet r → test r ≡ false) → (n place : ℕ) (entries : List Request) → All IsQuiet (take n entries) → places_from test (place + n) (drop n entries) ≡ places_from test place entries
-places_behind test none zero place entries quiet = ap (λ (p : ℕ). places_from test p entries) (omega arith)
-places_behind test none (suc n) place [] quiet = refl
-places_behind test none (suc n) place (r ∷ rs) quiet =
-    let at : place + suc n ≡ place + 1 + n = omega arith in
-    rw (none r (All-head IsQuiet r (take n rs) quiet)) (ap (λ (p : ℕ). places_from test p (drop n rs)) at ∙ places_behind test none n (place + 1) rs (All-tail IsQuiet r (take n rs) quiet))
+positions_behind : (test : Request → Bool) → ((r : Request) → IsQuiet r → test r ≡ false) → (n position : ℕ) (entries : List Request) → All IsQuiet (take n entries) → positions_from test (position + n) (drop n entries) ≡ positions_from test position entries
+positions_behind test none zero position entries quiet = ap (λ (p : ℕ). positions_from test p entries) (omega arith)
+positions_behind test none (suc n) position [] quiet = refl
+positions_behind test none (suc n) position (r ∷ rs) quiet =
+    let at : position + suc n ≡ position + 1 + n = omega arith in
+    rw (none r (All-head IsQuiet r (take n rs) quiet)) (ap (λ (p : ℕ). positions_from test p (drop n rs)) at ∙ positions_behind test none n (position + 1) rs (All-tail IsQuiet r (take n rs) quiet))
 
-pub resent_behind : (now n : ℕ) (entries : List Request) → AreSettled n entries → places_from (is_resent_at now) n (drop n entries) ≡ resent_places now entries
-resent_behind now n entries s = ap (λ (p : ℕ). places_from (is_resent_at now) p (drop n entries)) (omega arith) ∙ places_behind (is_resent_at now) (resent_quiet now) n 0 entries s.settled
+pub resent_behind : (now n : ℕ) (entries : List Request) → AreSettled n entries → positions_from (is_resent_at now) n (drop n entries) ≡ resent_positions now entries
+resent_behind now n entries s = ap (λ (p : ℕ). positions_from (is_resent_at now) p (drop n entries)) (omega arith) ∙ positions_behind (is_resent_at now) (resent_quiet now) n 0 entries s.settled
 
-pub lost_behind : (now n : ℕ) (entries : List Request) → AreSettled n entries → places_from (is_lost_at now) n (drop n entries) ≡ lost_places now entries
-lost_behind now n entries s = ap (λ (p : ℕ). places_from (is_lost_at now) p (drop n entries)) (omega arith) ∙ places_behind (is_lost_at now) (lost_quiet now) n 0 entries s.settled
+pub lost_behind : (now n : ℕ) (entries : List Request) → AreSettled n entries → positions_from (is_lost_at now) n (drop n entries) ≡ lost_positions now entries
+lost_behind now n entries s = ap (λ (p : ℕ). positions_from (is_lost_at now) p (drop n entries)) (omega arith) ∙ positions_behind (is_lost_at now) (lost_quiet now) n 0 entries s.settled
 
 pub settled_front : (n : ℕ) (entries others : List Request) → AreSettled n entries → AreSettled n (take n entries ++ others)
 settled_front n entries others s =

@@ -15,7 +15,7 @@ asked_joined (ask ∷ asks) more r = asked_joined asks more (asked_more ask.0 as
 -- A request that is sent is as it was.
 pub sent_entries : (old new : RequestsState) (o : Option ℕ) → TakesNext old o new → new.entries ≡ old.entries
 sent_entries old new None t = ap (λ (r : RequestsState). r.entries) t.1
-sent_entries old new (Some place) t = ap (λ (r : RequestsState). r.entries) t.1
+sent_entries old new (Some position) t = ap (λ (r : RequestsState). r.entries) t.1
 
 -- A message that does not count changes no request.
 pub uncounted : (from : ℕ) (m : Message) (now : ℕ) (s : RequestsState) → counts_at from m s ≡ None → (after_message from m now s).entries ≡ s.entries

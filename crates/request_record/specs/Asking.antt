@@ -9,7 +9,7 @@ use Rattle.request_record.specs.declared.requests.Asked.TheVariants.{Holdings, A
 use Rattle.request_record.specs.declared.requests.Asked.TheVariants.{Writing, Closing}
 use Rattle.request_record.specs.declared.requests.Asked.TheVariants.{Reading, Aborting}
 use Rattle.request_record.specs.declared.requests.Request.{Request}
-use Rattle.request_record.specs.Record.{RequestsState, asked_all, at, counted, lost_places}
+use Rattle.request_record.specs.Record.{RequestsState, asked_all, at, counted, lost_positions}
 use Rattle.request_record.specs.Record.{outstanding_count}
 use Rattle.request_record.specs.Record.{ticked}
 
@@ -32,9 +32,9 @@ after_message from m now r = counted from m (at now r)
 abbrev pub after_tick : ℕ → RequestsState → RequestsState
 after_tick now r = ticked (max r.clock now) r
 
--- the places of the requests that a tick finds lost
+-- the positions of the requests that a tick finds lost
 abbrev pub lost_by_tick : ℕ → RequestsState → List ℕ
-lost_by_tick now r = lost_places (max r.clock now) r.entries
+lost_by_tick now r = lost_positions (max r.clock now) r.entries
 
 -- a request waits for its answer, or is to be sent
 abbrev pub HasWork : RequestsState → Type 0
@@ -70,30 +70,30 @@ abbrev pub IsWriting : Asked → Type 0
 IsWriting (Writing n offset len) = Unit {0}
 IsWriting asked = ⊥
 
--- the message of the request at a place: its number is the place, counted from 1
+-- the message of the request at a position: its number is the position, counted from 1
 abbrev pub message_at : ℕ → Body → RequestsState → Message
-message_at place body r = record { session = r.session; number = place + 1; body = body }
+message_at position body r = record { session = r.session; number = position + 1; body = body }
 
 -- the record after its first request to send was sent
 abbrev pub one_sent : RequestsState → RequestsState
 one_sent r = record r { outgoing = drop 1 r.outgoing }
 
--- the message of the request at a place, to the server that it asks, for a file of this storage
+-- the message of the request at a position, to the server that it asks, for a file of this storage
 -- index
-pub record IsFrame (index : List ℕ) (r : RequestsState) (place node : ℕ) (m : Message) : Type 0
+pub record IsFrame (index : List ℕ) (r : RequestsState) (position node : ℕ) (m : Message) : Type 0
   where
     pub request : Request
-    pub there : slice_get r.entries place ≡ Some request
+    pub there : slice_get r.entries position ≡ Some request
     pub server : node ≡ request.server
     pub body : Body
     pub spelled : Spells index request.asked body
-    pub message : m ≡ message_at place body r
+    pub message : m ≡ message_at position body r
 
 -- The first request to send is sent. Where none is, there is none to send, or the first is a
 -- Writing, whose bytes the record does not know.
 abbrev pub SendsFirst : List ℕ → RequestsState → Option (ℕ × Message) → RequestsState → Type 0
 SendsFirst index old None new = (new ≡ old)
-    × ((place : ℕ) (r : Request) → slice_get old.outgoing 0 ≡ Some place
-    → slice_get old.entries place ≡ Some r → IsWriting r.asked)
-SendsFirst index old (Some f) new = (place : ℕ) × (slice_get old.outgoing 0 ≡ Some place)
-    × IsFrame index old place f.0 f.1 × (new ≡ one_sent old)
+    × ((position : ℕ) (r : Request) → slice_get old.outgoing 0 ≡ Some position
+    → slice_get old.entries position ≡ Some r → IsWriting r.asked)
+SendsFirst index old (Some f) new = (position : ℕ) × (slice_get old.outgoing 0 ≡ Some position)
+    × IsFrame index old position f.0 f.1 × (new ≡ one_sent old)

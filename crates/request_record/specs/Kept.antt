@@ -13,10 +13,10 @@ abbrev pub data_in : Body → Option (List ℕ)
 data_in (Data bytes) = Some bytes
 data_in body = None
 
--- the request at a place was answered by a Data with these bytes
-pub record IsDataAt (entries : List Request) (place : ℕ) (bytes : List ℕ) : Type 0 where
+-- the request at a position was answered by a Data with these bytes
+pub record IsDataAt (entries : List Request) (position : ℕ) (bytes : List ℕ) : Type 0 where
   pub request : Request
-  pub there : slice_get entries place ≡ Some request
+  pub there : slice_get entries position ≡ Some request
   pub answer : request.outcome ≡ Answered (Data bytes)
 
 -- ---- words of private clauses

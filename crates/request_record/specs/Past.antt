@@ -13,10 +13,10 @@ after_step (Asked before request) =
       steps = before.value.steps + 1;
       requests = before.value.requests ++ request.value ∷ [];
     }
-after_step (Settled before place request) =
+after_step (Settled before position request) =
     record {
       steps = before.value.steps + 1;
-      requests = slice_set before.value.requests place request.value;
+      requests = slice_set before.value.requests position request.value;
     }
 after_step (Ticked before now) =
     record {

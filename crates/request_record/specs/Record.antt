@@ -18,7 +18,7 @@ use Rattle.request_record.specs.declared.requests.Outcome.TheVariants.{Answered,
 use Rattle.request_record.specs.declared.requests.Request.{Request}
 use Rattle.request_record.specs.Limits.{lost_age, mark_seconds, most_marks}
 
--- the requests in order; request n is at place n - 1; the places still to send, in order; the
+-- the requests in order; request n is at position n - 1; the positions still to send, in order; the
 -- latest time
 pub record RequestsState : Type 0 where
   pub session : ℕ
@@ -108,18 +108,18 @@ abbrev pub asked_all : List (ℕ × Asked) → RequestsState → RequestsState
 asked_all [] r = r
 asked_all (ask ∷ asks) r = asked_all asks (asked_more ask.0 ask.1 r)
 
--- the first of the places to send is taken
+-- the first of the positions to send is taken
 abbrev pub TakesNext : RequestsState → Option ℕ → RequestsState → Type 0
 TakesNext old None new = (old.outgoing ≡ []) × (new ≡ old)
-TakesNext old (Some place) new =
-    (old.outgoing ≡ place ∷ new.outgoing)
+TakesNext old (Some position) new =
+    (old.outgoing ≡ position ∷ new.outgoing)
     × (new ≡ record {
       session = old.session;
       entries = old.entries;
       outgoing = new.outgoing;
       clock = old.clock;
     })
-    × (place < length old.entries)
+    × (position < length old.entries)
 
 -- ---- answers
 
@@ -141,7 +141,7 @@ abbrev pub awaits_at : ℕ → Body → Option Request → Bool
 awaits_at from body None = false
 awaits_at from body (Some r) = awaits from body r
 
--- the place of the request that a message answers, where it counts
+-- the position of the request that a message answers, where it counts
 abbrev pub counts_at : ℕ → Message → RequestsState → Option ℕ
 counts_at from m r =
     if (m.session == r.session) && not (m.number == 0)
@@ -150,21 +150,22 @@ counts_at from m r =
     else None
 
 abbrev pub answered_in : List Request → ℕ → Option Request → Body → List Request
-answered_in entries place None body = entries
-answered_in entries place (Some r) body = slice_set entries place (with_outcome r (Answered body))
+answered_in entries position None body = entries
+answered_in entries position (Some r) body = slice_set entries position
+    (with_outcome r (Answered body))
 
--- these places without one
+-- these positions without one
 abbrev pub without : ℕ → List ℕ → List ℕ
-without place places = filter (λ (p : ℕ). not (p == place)) places
+without position positions = filter (λ (p : ℕ). not (p == position)) positions
 
 -- What is answered is kept with its answer, and is not sent any more.
 abbrev pub counted_at : Message → RequestsState → Option ℕ → RequestsState
 counted_at m r None = r
-counted_at m r (Some place) =
+counted_at m r (Some position) =
     record {
       session = r.session;
-      entries = answered_in r.entries place (slice_get r.entries place) m.body;
-      outgoing = without place r.outgoing;
+      entries = answered_in r.entries position (slice_get r.entries position) m.body;
+      outgoing = without position r.outgoing;
       clock = r.clock;
     }
 
@@ -207,28 +208,29 @@ ticked_one now r =
     then with_outcome r Lost
     else (if is_resent_at now r then resent_one now r else r)
 
--- the places of the requests that pass a test, the first of them at this place
-abbrev pub places_from : (Request → Bool) → ℕ → List Request → List ℕ
-places_from test place [] = []
-places_from test place (r ∷ rs) =
-    if test r then place ∷ places_from test (place + 1) rs else places_from test (place + 1) rs
+-- the positions of the requests that pass a test, the first of them at this position
+abbrev pub positions_from : (Request → Bool) → ℕ → List Request → List ℕ
+positions_from test position [] = []
+positions_from test position (r ∷ rs) =
+    if test r then position ∷ positions_from test (position + 1) rs else positions_from test
+    (position + 1) rs
 
--- the places of those that a tick sends again
-abbrev pub resent_places : ℕ → List Request → List ℕ
-resent_places now entries = places_from (is_resent_at now) 0 entries
+-- the positions of those that a tick sends again
+abbrev pub resent_positions : ℕ → List Request → List ℕ
+resent_positions now entries = positions_from (is_resent_at now) 0 entries
 
--- the places of those that a tick finds lost
-abbrev pub lost_places : ℕ → List Request → List ℕ
-lost_places now entries = places_from (is_lost_at now) 0 entries
+-- the positions of those that a tick finds lost
+abbrev pub lost_positions : ℕ → List Request → List ℕ
+lost_positions now entries = positions_from (is_lost_at now) 0 entries
 
 abbrev pub is_lost_in : ℕ → Option Request → Bool
 is_lost_in now None = false
 is_lost_in now (Some r) = is_lost_at now r
 
--- these places without those of lost requests
+-- these positions without those of lost requests
 abbrev pub without_lost : ℕ → List Request → List ℕ → List ℕ
-without_lost now entries places =
-    filter (λ (place : ℕ). not (is_lost_in now (slice_get entries place))) places
+without_lost now entries positions =
+    filter (λ (position : ℕ). not (is_lost_in now (slice_get entries position))) positions
 
 -- The record after a tick. What is lost is not sent any more.
 abbrev pub ticked : ℕ → RequestsState → RequestsState
@@ -236,7 +238,7 @@ ticked now r =
     record {
       session = r.session;
       entries = map (ticked_one now) r.entries;
-      outgoing = without_lost now r.entries (r.outgoing ++ resent_places now r.entries);
+      outgoing = without_lost now r.entries (r.outgoing ++ resent_positions now r.entries);
       clock = now;
     }
 
@@ -262,15 +264,15 @@ is_current_in (Some r) = is_current r.outcome
 -- was answered or lost.
 pub record IsRecord (r : RequestsState) : Type 0 where
   pub few : All IsSentFew r.entries
-  pub there : All (λ place. place < length r.entries) r.outgoing
-  pub current : All (λ place. is_current_in (slice_get r.entries place) ≡ true) r.outgoing
+  pub there : All (λ position. position < length r.entries) r.outgoing
+  pub current : All (λ position. is_current_in (slice_get r.entries position) ≡ true) r.outgoing
 
 -- ---- words of private clauses
 
--- no request before this place waits for an answer
-pub record AreSettled (place : ℕ) (entries : List Request) : Type 0 where
-  pub within : place ≤ length entries
-  pub settled : All (λ (r : Request). is_outstanding r.outcome ≡ false) (take place entries)
+-- no request before this position waits for an answer
+pub record AreSettled (position : ℕ) (entries : List Request) : Type 0 where
+  pub within : position ≤ length entries
+  pub settled : All (λ (r : Request). is_outstanding r.outcome ≡ false) (take position entries)
 
 -- was it sent again, after its first sending? Only such a sending uses up a mark.
 abbrev pub was_sent_again : Request → Bool
@@ -280,21 +282,21 @@ abbrev pub was_sent_again_in : Option Request → Bool
 was_sent_again_in None = false
 was_sent_again_in (Some r) = was_sent_again r
 
--- the place behind the last first sending, once the request at this place is sent: it stays where
--- this is no first sending
+-- the position behind the last first sending, once the request at this position is sent: it stays
+-- where this is no first sending
 abbrev pub sent_to : Option Request → ℕ → ℕ → ℕ
-sent_to request place sent = if was_sent_again_in request then sent else place + 1
+sent_to request position sent = if was_sent_again_in request then sent else position + 1
 
--- Of the requests to send, those not sent before come in the order of their places, the first of
--- them not before this place.
+-- Of the requests to send, those not sent before come in the order of their positions, the first of
+-- them not before this position.
 abbrev pub AreInOrder : ℕ → List Request → List ℕ → Type 0
 AreInOrder sent entries [] = Unit {0}
-AreInOrder sent entries (place ∷ places) =
-    (was_sent_again_in (slice_get entries place) ≡ false → sent ≤ place)
-    × AreInOrder (sent_to (slice_get entries place) place sent) entries places
+AreInOrder sent entries (position ∷ positions) =
+    (was_sent_again_in (slice_get entries position) ≡ false → sent ≤ position)
+    × AreInOrder (sent_to (slice_get entries position) position sent) entries positions
 
--- what is kept beside the record: how many requests wait, a place before which none does, and one
--- before which only those sent again are to send
+-- what is kept beside the record: how many requests wait, a position before which none does, and
+-- one before which only those sent again are to send
 pub record IsIndexed
     (outstanding settled sent : ℕ) (entries : List Request) (outgoing : List ℕ) : Type 0 where
   pub counts : outstanding ≡ outstanding_count entries

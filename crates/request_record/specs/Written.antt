@@ -25,6 +25,6 @@ kept (Some r) = if is_written r then None else Some r
 abbrev pub kept_of : List Request → List Request
 kept_of entries = filter (λ (r : Request). not (is_written r)) entries
 
--- the request at a place is in memory
+-- the request at a position is in memory
 abbrev pub IsKeptAt : List Request → ℕ → Type 0
-IsKeptAt entries place = IsSome (kept (slice_get entries place))
+IsKeptAt entries position = IsSome (kept (slice_get entries position))

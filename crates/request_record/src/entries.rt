@@ -1,16 +1,17 @@
-//! The requests of a record by their places. In memory is each that was not written.
+//! The requests of a record by their positions. In memory is each that was not written.
 
 ghost use Rattle.std.specs.Prelude.{◌≡◌, ◌≤◌, ◌<◌, ◌∷◌, ◌++◌, ◌^◌, [], length, map, take, drop};
 ghost use Rattle.std.specs.Prelude.{slice_get, slice_set, option_map, Some, false};
 ghost use Rattle.std.specs.Prelude.{All, IfOk, OnOk, OnErr};
-ghost use Rattle.request_record.specs.Record.{with_outcome, ticked_one, resent_places, lost_places};
+ghost use Rattle.request_record.specs.Record.{with_outcome, ticked_one, resent_positions};
+ghost use Rattle.request_record.specs.Record.{lost_positions};
 ghost use Rattle.request_record.specs.Record.{AreSettled, IsSentFew};
 ghost use Rattle.request_record.specs.Written.{is_written, kept, kept_of, IsKeptAt};
 ghost use Rattle.request_record.specs.declared.requests.Request.{Request};
 
 use crate::past::Past;
-use crate::places::{
-    find_lost, find_resent, first_waiting, has_place, index_of, let_go, request_here, settle,
+use crate::positions::{
+    find_lost, find_resent, first_waiting, has_position, index_of, let_go, request_here, settle,
     tick_from,
 };
 use crate::requests::{Outcome, Request};
@@ -18,15 +19,15 @@ use std::alloc::{AllocError, Global};
 use std::collections::VecDeque;
 use std::marker::Model;
 
-/// A request in memory, with its place.
+/// A request in memory, with its position.
 #[derive(Drop)]
 pub struct Entry {
-    pub(crate) place: usize,
+    pub(crate) position: usize,
     pub request: Request,
 }
 
 /// The requests of a record, in order. Contracts see all of them. In memory is each that was not
-/// written, with its place: a place is found by halving.
+/// written, with its position: a position is found by halving.
 #[derive(Drop)]
 pub(crate) struct Entries {
     kept: Vec<Entry>,
@@ -67,28 +68,28 @@ impl Entries {
         self.len
     }
 
-    /// The request at a place, while it is in memory.
-    pub(crate) fn get(&self, place: usize) -> Option<&Request>
-        ensures { option_map (λ r. r.now) result ≡ kept (slice_get self.now place) }
+    /// The request at a position, while it is in memory.
+    pub(crate) fn get(&self, position: usize) -> Option<&Request>
+        ensures { option_map (λ r. r.now) result ≡ kept (slice_get self.now position) }
     {
-        let at = index_of(self.kept.as_slice(), place);
-        request_here(self.kept.as_slice(), at, place)
+        let at = index_of(self.kept.as_slice(), position);
+        request_here(self.kept.as_slice(), at, position)
     }
 
-    /// The request at a place, which is in memory.
-    pub(crate) fn request(&self, place: usize) -> &Request
-        requires { IsKeptAt self.now place }
-        ensures { slice_get self.now place ≡ Some result.now }
+    /// The request at a position, which is in memory.
+    pub(crate) fn request(&self, position: usize) -> &Request
+        requires { IsKeptAt self.now position }
+        ensures { slice_get self.now position ≡ Some result.now }
     {
-        let at = index_of(self.kept.as_slice(), place);
+        let at = index_of(self.kept.as_slice(), position);
         &self.kept[at].request
     }
 
-    /// The requests from a place on that are in memory.
-    pub(crate) fn kept_since(&self, place: usize) -> &[Entry]
-        ensures { map (λ e. e.request) result.now ≡ kept_of (drop place self.now) }
+    /// The requests from a position on that are in memory.
+    pub(crate) fn kept_since(&self, position: usize) -> &[Entry]
+        ensures { map (λ e. e.request) result.now ≡ kept_of (drop position self.now) }
     {
-        let at = index_of(self.kept.as_slice(), place);
+        let at = index_of(self.kept.as_slice(), position);
         &self.kept.as_slice()[at..]
     }
 
@@ -99,54 +100,54 @@ impl Entries {
         ensures err { OnErr result (self.new ≡ self.old) }
         ensures fits { OnOk result (length self.new < 2 ^ 64) }
     {
-        let place = self.len;
-        if place == usize::MAX {
+        let position = self.len;
+        if position == usize::MAX {
             return Err(AllocError);
         }
         self.kept.reserve(1)?;
         self.past = self.past.asked(&request);
-        self.kept.push_reserved(Entry { place, request });
-        self.len = place + 1;
+        self.kept.push_reserved(Entry { position, request });
+        self.len = position + 1;
         Ok(())
     }
 
-    /// The request at a place, which was not written, is settled so. If it is written now, it is
+    /// The request at a position, which was not written, is settled so. If it is written now, it is
     /// let go.
-    pub(crate) fn settle(&mut self, place: usize, outcome: Outcome)
-        ensures { (r : Request) → slice_get self.old place ≡ Some r → is_written r ≡ false
-            → self.new ≡ slice_set self.old place (with_outcome r outcome) }
+    pub(crate) fn settle(&mut self, position: usize, outcome: Outcome)
+        ensures { (r : Request) → slice_get self.old position ≡ Some r → is_written r ≡ false
+            → self.new ≡ slice_set self.old position (with_outcome r outcome) }
     {
-        let at = index_of(self.kept.as_slice(), place);
-        if has_place(self.kept.as_slice(), at, place) {
+        let at = index_of(self.kept.as_slice(), position);
+        if has_position(self.kept.as_slice(), at, position) {
             settle(&mut self.kept, at, outcome);
-            self.past = self.past.settled(place, &self.kept[at].request);
+            self.past = self.past.settled(position, &self.kept[at].request);
             let_go(&mut self.kept, at);
         }
     }
 
-    /// The places of the requests that a tick at this second sends again. None before this place
-    /// waits.
+    /// The positions of the requests that a tick at this second sends again. None before this
+    /// position waits.
     pub(crate) fn find_resent(&self, from: usize, now: u64) -> Result<VecDeque<usize>, AllocError>
         requires { AreSettled from self.now }
-        ensures { IfOk result (λ places. places.items ≡ resent_places now self.now) }
+        ensures { IfOk result (λ positions. positions.items ≡ resent_positions now self.now) }
     {
         let alloc = *self.kept.allocator();
         let at = index_of(self.kept.as_slice(), from);
         find_resent(alloc, &self.kept.as_slice()[at..], now)
     }
 
-    /// The places of the requests that a tick at this second finds lost. None before this place
-    /// waits.
+    /// The positions of the requests that a tick at this second finds lost. None before this
+    /// position waits.
     pub(crate) fn find_lost(&self, from: usize, now: u64) -> Result<Vec<usize>, AllocError>
         requires { AreSettled from self.now }
-        ensures { IfOk result (λ places. places.items ≡ lost_places now self.now) }
+        ensures { IfOk result (λ positions. positions.items ≡ lost_positions now self.now) }
     {
         let alloc = *self.kept.allocator();
         let at = index_of(self.kept.as_slice(), from);
         find_lost(alloc, &self.kept.as_slice()[at..], now)
     }
 
-    /// Each request takes note of a tick at this second. None before this place waits.
+    /// Each request takes note of a tick at this second. None before this position waits.
     pub(crate) fn tick(&mut self, from: usize, now: u64)
         requires few { All IsSentFew self.old }
         requires settled { AreSettled from self.old }
@@ -157,7 +158,7 @@ impl Entries {
         self.past = self.past.ticked(now);
     }
 
-    /// The place of the first request that waits, or the end. None before this place waits.
+    /// The position of the first request that waits, or the end. None before this position waits.
     pub(crate) fn first_waiting(&self, from: usize) -> usize
         requires { AreSettled from self.now }
         ensures { AreSettled result self.now }

@@ -11,17 +11,17 @@ ghost use Rattle.request_record.specs.Written.{kept, kept_of, IsKeptAt};
 
 use crate::entries::{Entries, Entry};
 use crate::kept::Kept;
-use crate::places::{drop_lost, sent_to, unqueue};
+use crate::positions::{drop_lost, sent_to, unqueue};
 use crate::requests::{Asked, Outcome, Request};
 use std::alloc::{AllocError, Global};
 use std::collections::VecDeque;
 use std::marker::Model;
 use wire::message::{Body, Message, NodeId, StorageIndex};
 
-/// An answer that counted: the place of its request and, where it is a `Data`, its bytes.
+/// An answer that counted: the position of its request and, where it is a `Data`, its bytes.
 #[derive(Drop)]
 pub struct Counted {
-    pub place: usize,
+    pub position: usize,
     pub bytes: Option<Vec<u8>>,
 }
 
@@ -42,9 +42,9 @@ pub struct Ledger {
     clock: u64,
     /// How many requests wait for their answers.
     outstanding: usize,
-    /// No request before this place waits for its answer.
+    /// No request before this position waits for its answer.
     settled: usize,
-    /// Before this place only requests that were sent again are to send.
+    /// Before this position only requests that were sent again are to send.
     sent: usize,
 }
 
@@ -108,7 +108,7 @@ impl Ledger {
         self.clock
     }
 
-    /// How many requests were asked: request `n` is at place `n - 1`.
+    /// How many requests were asked: request `n` is at position `n - 1`.
     pub fn len(&self) -> usize
         ensures value { result ≡ length self.now.entries }
         ensures right { IsRecord self.now }
@@ -116,26 +116,27 @@ impl Ledger {
         self.entries.len()
     }
 
-    /// The request at a place, while it is in memory: what was written is not.
-    pub fn request_at(&self, place: usize) -> Option<&Request>
-        ensures { option_map (λ r. r.now) result ≡ kept (slice_get self.now.entries place) }
+    /// The request at a position, while it is in memory: what was written is not.
+    pub fn request_at(&self, position: usize) -> Option<&Request>
+        ensures { option_map (λ r. r.now) result ≡ kept (slice_get self.now.entries position) }
     {
-        self.entries.get(place)
+        self.entries.get(position)
     }
 
-    /// The request at a place, which is in memory.
-    pub fn request(&self, place: usize) -> &Request
-        requires { IsKeptAt self.now.entries place }
-        ensures { slice_get self.now.entries place ≡ Some result.now }
+    /// The request at a position, which is in memory.
+    pub fn request(&self, position: usize) -> &Request
+        requires { IsKeptAt self.now.entries position }
+        ensures { slice_get self.now.entries position ≡ Some result.now }
     {
-        self.entries.request(place)
+        self.entries.request(position)
     }
 
-    /// The requests from a place on that are in memory, in order: all but those that were written.
-    pub fn kept_since(&self, place: usize) -> &[Entry]
-        ensures { map (λ e. e.request) result.now ≡ kept_of (drop place self.now.entries) }
+    /// The requests from a position on that are in memory, in order: all but those that were
+    /// written.
+    pub fn kept_since(&self, position: usize) -> &[Entry]
+        ensures { map (λ e. e.request) result.now ≡ kept_of (drop position self.now.entries) }
     {
-        self.entries.kept_since(place)
+        self.entries.kept_since(position)
     }
 
     /// Records a request, and puts it at the end of those to send.
@@ -143,27 +144,27 @@ impl Ledger {
         ensures ok { OnOk result (self.new ≡ asked_more server asked self.old) }
         ensures err { OnErr result (self.new ≡ self.old) }
     {
-        let place = self.entries.len();
+        let position = self.entries.len();
         let request = Request::new(server, asked, self.clock);
         let waiting = usize::from(request.is_outstanding());
         self.outgoing.reserve(1)?;
         self.entries.push(request)?;
-        self.outgoing.push_back_reserved(place);
+        self.outgoing.push_back_reserved(position);
         self.outstanding += waiting;
         Ok(())
     }
 
-    /// The place of the request that a message from a server answers, where the answer counts.
+    /// The position of the request that a message from a server answers, where the answer counts.
     pub fn counts_at(&self, from: NodeId, message: &Message) -> Option<usize>
         ensures value { result ≡ counts_at from message.now self.now }
-        ensures there { IfSome result (λ place. place < length self.now.entries) }
+        ensures there { IfSome result (λ position. position < length self.now.entries) }
     {
         if message.session != self.session || message.number == 0 {
             return None;
         }
-        let place = (message.number - 1) as usize;
-        match self.entries.get(place) {
-            Some(request) if request.awaits(from, &message.body) => Some(place),
+        let position = (message.number - 1) as usize;
+        match self.entries.get(position) {
+            Some(request) if request.awaits(from, &message.body) => Some(position),
             _ => None,
         }
     }
@@ -176,33 +177,33 @@ impl Ledger {
     }
 
     /// Takes a message from a server over: keeps it where it answers a request and counts, and says
-    /// at which place. The bytes of a `Data` are handed back, with no copy, and are not kept. The
-    /// request is not sent any more.
+    /// at which position. The bytes of a `Data` are handed back, with no copy, and are not kept.
+    /// The request is not sent any more.
     pub fn take_answer(&mut self, from: NodeId, message: Message, now: u64) -> Option<Counted>
-        ensures place { option_map (λ c. c.place) result ≡ counts_at from message self.old }
+        ensures position { option_map (λ c. c.position) result ≡ counts_at from message self.old }
         ensures bytes { IfSome result (λ c. option_map (λ v. v.items) c.bytes
             ≡ data_in message.body) }
         ensures record { self.new ≡ after_message from message now self.old }
     {
-        let Some(place) = self.counts_at(from, &message) else {
+        let Some(position) = self.counts_at(from, &message) else {
             self.pass(now);
             return None;
         };
-        unqueue(&mut self.outgoing, &self.entries, self.sent, place);
+        unqueue(&mut self.outgoing, &self.entries, self.sent, position);
         let (kept, bytes) = Kept::of(message.body);
-        self.entries.settle(place, Outcome::Answered(kept));
+        self.entries.settle(position, Outcome::Answered(kept));
         self.outstanding -= 1;
         self.clock = self.clock.max(now);
-        Some(Counted { place, bytes })
+        Some(Counted { position, bytes })
     }
 
     /// Takes note of a tick: a request that is due is sent again, one that is 20 seconds old is
-    /// lost, and not sent any more. Gives the places of those that it finds lost.
+    /// lost, and not sent any more. Gives the positions of those that it finds lost.
     pub fn tick(&mut self, now: u64) -> Result<Vec<usize>, AllocError>
-        ensures lost { IfOk result (λ places. places.items ≡ lost_by_tick now self.old) }
+        ensures lost { IfOk result (λ positions. positions.items ≡ lost_by_tick now self.old) }
         ensures ok { OnOk result (self.new ≡ after_tick now self.old) }
         ensures err { OnErr result (self.new ≡ self.old) }
-        ensures kept { IfOk result (λ places. All (IsKeptAt self.new.entries) places.items) }
+        ensures kept { IfOk result (λ positions. All (IsKeptAt self.new.entries) positions.items) }
     {
         let now = self.clock.max(now);
         let mut resent = self.entries.find_resent(self.settled, now)?;
@@ -230,10 +231,10 @@ impl Ledger {
         0 < self.outstanding || 0 < self.outgoing.len()
     }
 
-    /// The place of the first request to send.
+    /// The position of the first request to send.
     pub fn first(&self) -> Option<usize>
         ensures value { result ≡ slice_get self.now.outgoing 0 }
-        ensures there { IfSome result (λ place. place < length self.now.entries) }
+        ensures there { IfSome result (λ position. position < length self.now.entries) }
         ensures kept { IfSome result (IsKeptAt self.now.entries) }
     {
         self.outgoing.front().copied()
@@ -243,9 +244,9 @@ impl Ledger {
     pub fn take_next(&mut self) -> Option<usize>
         ensures { TakesNext self.old result self.new }
     {
-        let place = self.outgoing.pop_front()?;
-        self.sent = sent_to(&self.entries, place, self.sent);
-        Some(place)
+        let position = self.outgoing.pop_front()?;
+        self.sent = sent_to(&self.entries, position, self.sent);
+        Some(position)
     }
 
     /// Sends the first request to send, for the file of this storage index: gives the server that
@@ -254,11 +255,11 @@ impl Ledger {
     pub fn send_next(&mut self, index: StorageIndex) -> Option<(NodeId, Message)>
         ensures { SendsFirst index self.old result self.new }
     {
-        let place = self.first()?;
-        let request = self.request(place);
+        let position = self.first()?;
+        let request = self.request(position);
         let server = request.server;
         let body = request.asked.body(index)?;
-        let message = self.message_at(place, body);
+        let message = self.message_at(position, body);
         self.take_next();
         Some((server, message))
     }
@@ -270,15 +271,15 @@ impl Ledger {
         self.outgoing.len()
     }
 
-    /// The message of the request at a place, which says this.
-    pub fn message_at(&self, place: usize, body: Body) -> Message
-        requires { place < length self.now.entries }
-        ensures { result ≡ message_at place body self.now }
+    /// The message of the request at a position, which says this.
+    pub fn message_at(&self, position: usize, body: Body) -> Message
+        requires { position < length self.now.entries }
+        ensures { result ≡ message_at position body self.now }
     {
         let _len = self.entries.len();
         Message {
             session: self.session,
-            number: place as u64 + 1,
+            number: position as u64 + 1,
             body,
         }
     }

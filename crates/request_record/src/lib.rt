@@ -8,5 +8,5 @@ pub mod laws;
 pub mod ledger;
 pub mod operation;
 mod past;
-mod places;
+mod positions;
 pub mod requests;

@@ -22,7 +22,7 @@ enum Step {
     Nothing,
     /// One more request.
     Asked(Snapshot<Past>, Snapshot<Request>),
-    /// The request at a place is this now.
+    /// The request at a position is this now.
     Settled(Snapshot<Past>, usize, Snapshot<Request>),
     /// Each took note of a tick at this second.
     Ticked(Snapshot<Past>, u64),
@@ -65,11 +65,11 @@ impl Past {
         }
     }
 
-    /// The request at a place is this now.
-    pub(crate) fn settled(&self, place: usize, request: &Request) -> Past
-        ensures { result.requests ≡ slice_set self.now.requests place request.now }
+    /// The request at a position is this now.
+    pub(crate) fn settled(&self, position: usize, request: &Request) -> Past
+        ensures { result.requests ≡ slice_set self.now.requests position request.now }
     {
-        let step = Step::Settled(Snapshot::of(self), place, Snapshot::of(request));
+        let step = Step::Settled(Snapshot::of(self), position, Snapshot::of(request));
         Past {
             step: Snapshot::of(&step),
         }

@@ -59,7 +59,7 @@ pub enum Outcome {
     Lost,
 }
 
-/// One request. Its number is its place in the record, counted from 1.
+/// One request. Its number is its position in the record, counted from 1.
 #[derive(Drop)]
 pub struct Request {
     /// The server asked.
@@ -218,7 +218,7 @@ impl Request {
 #[derive(Drop)]
 pub struct Requests {
     ledger: Ledger,
-    /// At each request's place the bytes of the `Data` that answered it.
+    /// At each request's position the bytes of the `Data` that answered it.
     bytes: Vec<Option<Vec<u8>>>,
 }
 
@@ -283,7 +283,7 @@ impl Requests {
         self.ledger.clock()
     }
 
-    /// How many requests were asked: request `n` is at place `n - 1`.
+    /// How many requests were asked: request `n` is at position `n - 1`.
     pub fn len(&self) -> usize
         ensures value { result ≡ length self.now.entries }
         ensures right { IsRecord self.now }
@@ -291,28 +291,28 @@ impl Requests {
         self.ledger.len()
     }
 
-    /// The request at a place, while it is in memory: what was written is not.
-    pub fn request_at(&self, place: usize) -> Option<&Request>
-        ensures { option_map (λ r. r.now) result ≡ kept (slice_get self.now.entries place) }
+    /// The request at a position, while it is in memory: what was written is not.
+    pub fn request_at(&self, position: usize) -> Option<&Request>
+        ensures { option_map (λ r. r.now) result ≡ kept (slice_get self.now.entries position) }
     {
-        self.ledger.request_at(place)
+        self.ledger.request_at(position)
     }
 
-    /// The request at a place, which is in memory.
-    pub fn request(&self, place: usize) -> &Request
-        requires { IsKeptAt self.now.entries place }
-        ensures { slice_get self.now.entries place ≡ Some result.now }
+    /// The request at a position, which is in memory.
+    pub fn request(&self, position: usize) -> &Request
+        requires { IsKeptAt self.now.entries position }
+        ensures { slice_get self.now.entries position ≡ Some result.now }
     {
-        self.ledger.request(place)
+        self.ledger.request(position)
     }
 
-    /// The bytes of the `Data` that answered the request at a place.
-    pub fn bytes_at(&self, place: usize) -> Option<&[u8]>
-        ensures some { IfSome result (λ bytes. IsDataAt self.now.entries place bytes.now) }
+    /// The bytes of the `Data` that answered the request at a position.
+    pub fn bytes_at(&self, position: usize) -> Option<&[u8]>
+        ensures some { IfSome result (λ bytes. IsDataAt self.now.entries position bytes.now) }
         ensures none { IfNone result ((bytes : List ℕ)
-            → IsDataAt self.now.entries place bytes → ⊥) }
+            → IsDataAt self.now.entries position bytes → ⊥) }
     {
-        match self.bytes.get(place)? {
+        match self.bytes.get(position)? {
             Some(bytes) => Some(bytes.as_slice()),
             None => None,
         }
@@ -329,32 +329,32 @@ impl Requests {
         Ok(())
     }
 
-    /// The place of the request that a message from a server answers, where the answer counts.
+    /// The position of the request that a message from a server answers, where the answer counts.
     pub fn counts_at(&self, from: NodeId, message: &Message) -> Option<usize>
         ensures value { result ≡ counts_at from message.now self.now }
-        ensures there { IfSome result (λ place. place < length self.now.entries) }
+        ensures there { IfSome result (λ position. position < length self.now.entries) }
     {
         self.ledger.counts_at(from, message)
     }
 
     /// Takes a message from a server over: keeps it where it answers a request and counts, with no
-    /// copy, and says at which place. The request is not sent any more.
+    /// copy, and says at which position. The request is not sent any more.
     pub fn take_answer(&mut self, from: NodeId, message: Message, now: u64) -> Option<usize>
-        ensures place { result ≡ counts_at from message self.old }
+        ensures position { result ≡ counts_at from message self.old }
         ensures record { self.new ≡ after_message from message now self.old }
     {
-        let Counted { place, bytes } = self.ledger.take_answer(from, message, now)?;
-        self.bytes[place] = bytes;
-        Some(place)
+        let Counted { position, bytes } = self.ledger.take_answer(from, message, now)?;
+        self.bytes[position] = bytes;
+        Some(position)
     }
 
     /// Takes note of a tick: a request that is due is sent again, one that is 20 seconds old is
-    /// lost, and not sent any more. Gives the places of those that it finds lost.
+    /// lost, and not sent any more. Gives the positions of those that it finds lost.
     pub fn tick(&mut self, now: u64) -> Result<Vec<usize>, AllocError>
-        ensures lost { IfOk result (λ places. places.items ≡ lost_by_tick now self.old) }
+        ensures lost { IfOk result (λ positions. positions.items ≡ lost_by_tick now self.old) }
         ensures ok { OnOk result (self.new ≡ after_tick now self.old) }
         ensures err { OnErr result (self.new ≡ self.old) }
-        ensures kept { IfOk result (λ places. All (IsKeptAt self.new.entries) places.items) }
+        ensures kept { IfOk result (λ positions. All (IsKeptAt self.new.entries) positions.items) }
     {
         self.ledger.tick(now)
     }
@@ -373,10 +373,10 @@ impl Requests {
         self.ledger.has_work()
     }
 
-    /// The place of the first request to send.
+    /// The position of the first request to send.
     pub fn first(&self) -> Option<usize>
         ensures value { result ≡ slice_get self.now.outgoing 0 }
-        ensures there { IfSome result (λ place. place < length self.now.entries) }
+        ensures there { IfSome result (λ position. position < length self.now.entries) }
         ensures kept { IfSome result (IsKeptAt self.now.entries) }
     {
         self.ledger.first()
@@ -403,11 +403,11 @@ impl Requests {
         self.ledger.outgoing_len()
     }
 
-    /// The message of the request at a place, which says this.
-    pub fn message_at(&self, place: usize, body: Body) -> Message
-        requires { place < length self.now.entries }
-        ensures { result ≡ message_at place body self.now }
+    /// The message of the request at a position, which says this.
+    pub fn message_at(&self, position: usize, body: Body) -> Message
+        requires { position < length self.now.entries }
+        ensures { result ≡ message_at position body self.now }
     {
-        self.ledger.message_at(place, body)
+        self.ledger.message_at(position, body)
     }
 }

@@ -14,7 +14,7 @@ use Rattle.wire.specs.declared.message.HeldShare.{HeldShare}
 use Rattle.wire.specs.declared.message.Message.{Message}
 use Rattle.wire.specs.declared.message.ShareId.{ShareId}
 use Rattle.share_store.specs.Calls.{shelf_calls}
-use Rattle.share_store.specs.Shelf.{Place, Shelf, bytes_at, closed_at, digest_at, held, is_under, place_of, same_place}
+use Rattle.share_store.specs.Shelf.{ShareKey, Shelf, bytes_at, closed_at, digest_at, held, is_under, key_of, same_key}
 use Rattle.share_store.specs.declared.shelf.ClosedShare.{ClosedShare}
 use Rattle.share_store.proofs.ShelfLaws.{same_is}
 use Rattle.server_core.specs.ServerState.{Does, ListsHoldings, ServerState, ReadsShare, Serves, line_of, read_line}
@@ -28,7 +28,7 @@ under_own index share low =
     let two : nat_le share 255 ≡ true = grind (arith, nat_tests, low) in
     (λ i. one i && two i)
 
-kept_in : (test : Place × ClosedShare → Bool) (es : List (Place × ClosedShare)) (e : Place × ClosedShare) → Contains es e → test e ≡ true → Contains (filter test es) e
+kept_in : (test : ShareKey × ClosedShare → Bool) (es : List (ShareKey × ClosedShare)) (e : ShareKey × ClosedShare) → Contains es e → test e ≡ true → Contains (filter test es) e
 kept_in test [] e c t = absurd (omega (arith, c.1))
 kept_in test (x ∷ xs) e (zero, low, is) t =
     let passes : test x ≡ true = ap test is ∙ t in
@@ -40,17 +40,17 @@ kept_in test (x ∷ xs) e (suc k, low, is) t =
       | inr fails ↦ rw fails rest
     ]
 
-mapped_in : (f : Place × ClosedShare → HeldShare) (es : List (Place × ClosedShare)) (e : Place × ClosedShare) → Contains es e → Contains (map f es) (f e)
+mapped_in : (f : ShareKey × ClosedShare → HeldShare) (es : List (ShareKey × ClosedShare)) (e : ShareKey × ClosedShare) → Contains es e → Contains (map f es) (f e)
 mapped_in f [] e c = absurd (omega (arith, c.1))
 mapped_in f (x ∷ xs) e (zero, low, is) = (zero, omega arith, ap f is)
 mapped_in f (x ∷ xs) e (suc k, low, is) = let rest = mapped_in f xs e (k, omega (arith, low), is) in (suc rest.0, omega (arith, rest.1), rest.2)
 
 closed_is_held : (s : Shelf) (id : ShareId) (c : ClosedShare) → id.share ≤ 255 → closed_at id s.closed ≡ Some c → Contains (held id.index s.closed) (record { share = id.share; digest = c.digest })
 closed_is_held s id c low found =
-    let entry : Place × ClosedShare = (place_of id, c) in
-    let there : Contains s.closed entry = Contains-from_lookup {eq = same_place} same_is (place_of id) c s.closed found in
-    mapped_in (λ (e : Place × ClosedShare). record { share = e.0.1; digest = e.1.digest }) (filter (λ (e : Place × ClosedShare). is_under id.index e.0) s.closed) entry
-    (kept_in (λ (e : Place × ClosedShare). is_under id.index e.0) s.closed entry there (under_own id.index id.share low))
+    let entry : ShareKey × ClosedShare = (key_of id, c) in
+    let there : Contains s.closed entry = Contains-from_lookup {eq = same_key} same_is (key_of id) c s.closed found in
+    mapped_in (λ (e : ShareKey × ClosedShare). record { share = e.0.1; digest = e.1.digest }) (filter (λ (e : ShareKey × ClosedShare). is_under id.index e.0) s.closed) entry
+    (kept_in (λ (e : ShareKey × ClosedShare). is_under id.index e.0) s.closed entry there (under_own id.index id.share low))
 
 -- ---- an answer to an Ask
 

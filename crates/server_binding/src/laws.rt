@@ -9,8 +9,9 @@ pub fn asks_list_all()
     ensures { AsksListAll }
 {}
 
-/// A law of the definitions: a read of a closed share is answered by its bytes at the place asked,
-/// as many as asked for, and fewer at its end. The law is the contract; the call does nothing.
+/// A law of the definitions: a read of a closed share is answered by its bytes at the position
+/// asked, as many as asked for, and fewer at its end. The law is the contract; the call does
+/// nothing.
 pub fn reads_bring_closed()
     ensures { ReadsBringClosed }
 {}

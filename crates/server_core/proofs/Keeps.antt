@@ -9,7 +9,7 @@ use Rattle.wire.specs.declared.message.ShareId.{ShareId}
 use Rattle.wire.specs.declared.message.HeldShare.{HeldShare}
 use Rattle.tagged_hash.specs.TaggedHash.{share_digest}
 use Rattle.share_store.specs.declared.shelf.ClosedShare.{ClosedShare}
-use Rattle.share_store.specs.Shelf.{Shelf, Place, closed_at, digest_at, written, with_closed}
+use Rattle.share_store.specs.Shelf.{Shelf, ShareKey, closed_at, digest_at, written, with_closed}
 use Rattle.server_core.specs.declared.error.ServerFault.{ServerFault}
 use Rattle.server_core.specs.declared.error.ServerFault.TheVariants.{OutOfMemory, StoreFault}
 use Rattle.server_core.specs.declared.bucket.Gathered.{Gathered}
@@ -43,7 +43,7 @@ kept_at old new bs m outcome h s a = record {
 kept_with : (old new : ServerState Shelf) (bs : List Bucket) (m : Message) (outcome : Outcome) → new.store.closed ≡ old.store.closed → new.buckets ≡ bs → AreSound old.store.closed new.store.opened bs → Answers new.store m outcome → Keeps old m outcome new
 kept_with old new bs m outcome e b s a = record {
   stays = same_closed old.store new.store e;
-  sound = subst (λ (x : List (Place × ClosedShare)). AreSound x new.store.opened new.buckets) (sym e) (subst (λ (x : List Bucket). AreSound old.store.closed new.store.opened x) (sym b) s);
+  sound = subst (λ (x : List (ShareKey × ClosedShare)). AreSound x new.store.opened new.buckets) (sym e) (subst (λ (x : List Bucket). AreSound old.store.closed new.store.opened x) (sym b) s);
   answers = a;
 }
 
@@ -128,7 +128,7 @@ writes_keep old new t m id b bytes (Ok None) s at asked tells d = absurd d
 closed_keep : (old new : ServerState Shelf) (m : Message) (id : ShareId) (digest : List ℕ) (outcome : Outcome) → IsSound old → digest ≡ share_digest (written id old.store.opened) → digest_at id old.store.closed ≡ None → new.store.closed ≡ with_closed old.store id digest → ((other : ShareId) → Rattle.server_core.specs.Buckets.same_id other id ≡ false → written other new.store.opened ≡ written other old.store.opened) → new.buckets ≡ ended id old.buckets → Answers new.store m outcome → Keeps old m outcome new
 closed_keep old new m id digest outcome s right none closed others b a = record {
   stays = λ other c e. ap (closed_at other) closed ∙ closed_stays old.store id digest none other c e;
-  sound = subst (λ (x : List (Place × ClosedShare)). AreSound x new.store.opened new.buckets) (sym closed)
+  sound = subst (λ (x : List (ShareKey × ClosedShare)). AreSound x new.store.opened new.buckets) (sym closed)
       (subst (λ (x : List Bucket). AreSound (with_closed old.store id digest) new.store.opened x) (sym b)
       (ended_sound (with_closed old.store id digest) old.store.opened new.store.opened old.buckets id others (closing_sound old.store old.buckets id digest right s)));
   answers = a;
@@ -278,13 +278,13 @@ ticks_keep old new now s d = record {
       (filter_sound old.store.closed old.store.opened old.buckets (is_fresh_at (max old.clock now)) s));
 }
 
-nothing_sound : (closed : List (Place × ClosedShare)) (opened : List (Place × List ℕ)) → AreRight closed → AreSound closed opened []
+nothing_sound : (closed : List (ShareKey × ClosedShare)) (opened : List (ShareKey × List ℕ)) → AreRight closed → AreSound closed opened []
 nothing_sound closed opened right = record { right = right; apart = tt; few = omega arith; gathered = λ id b e. absurd cc }
 
 pub restarts_keep : RestartsKeep
 restarts_keep old new s d = record {
   stays = restarts_leave_closed old new d;
-  sound = subst (λ (x : List (Place × ClosedShare)). AreSound x new.store.opened new.buckets) (sym d.store)
+  sound = subst (λ (x : List (ShareKey × ClosedShare)). AreSound x new.store.opened new.buckets) (sym d.store)
       (subst (λ (x : List Bucket). AreSound old.store.closed new.store.opened x) (sym d.buckets)
       (nothing_sound old.store.closed new.store.opened s.right));
 }

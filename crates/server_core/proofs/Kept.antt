@@ -9,7 +9,7 @@ use Rattle.tagged_hash.specs.TaggedHasher.{Holds}
 use Rattle.tagged_hash.specs.declared.hasher.TaggedHasher.{TaggedHasher}
 use Rattle.tagged_hash.specs.declared.tag.Tag.TheVariants.{WholeShare}
 use Rattle.share_store.specs.declared.shelf.ClosedShare.{ClosedShare}
-use Rattle.share_store.specs.Shelf.{Shelf, Place, place_of, closed_at, digest_at, written, OthersStay, with_closed}
+use Rattle.share_store.specs.Shelf.{Shelf, ShareKey, key_of, closed_at, digest_at, written, OthersStay, with_closed}
 use Rattle.share_store.proofs.ShelfLaws.{sorted_with}
 use Rattle.server_core.specs.declared.bucket.Gathered.{Gathered}
 use Rattle.server_core.specs.declared.bucket.Gathered.TheVariants.{Part, Whole}
@@ -21,15 +21,15 @@ use Rattle.server_core.proofs.Shares.{same_agrees, found_new, found_other}
 use Rattle.server_core.proofs.Listed.{KeepsId, eq_of_same, other_of, bucket_push, bucket_push_other, apart_push, changed_other, changed_same, changed_none, apart_changed, length_changed, apart_filter, filtered_found, length_filter, ended_same, ended_other}
 
 -- every other open share is as it was
-abbrev pub OthersSame : ShareId → List (Place × List ℕ) → List (Place × List ℕ) → Type 0
+abbrev pub OthersSame : ShareId → List (ShareKey × List ℕ) → List (ShareKey × List ℕ) → Type 0
 OthersSame id old new = (other : ShareId) → same_id other id ≡ false → written other new ≡ written other old
 
-pub others_same : (id : ShareId) (old new : List (Place × List ℕ)) → OthersStay id old new → OthersSame id old new
-others_same id old new o other apart = o (place_of other) (same_agrees id other ∙ other_of other id apart)
+pub others_same : (id : ShareId) (old new : List (ShareKey × List ℕ)) → OthersStay id old new → OthersSame id old new
+others_same id old new o other apart = o (key_of other) (same_agrees id other ∙ other_of other id apart)
 
 -- ---- changes of the buckets
 
-pub changed_sound : (closed : List (Place × ClosedShare)) (old new : List (Place × List ℕ)) (bs : List Bucket) (id : ShareId) (f : Bucket → Bucket) → KeepsId f → OthersSame id old new → ((b : Bucket) → bucket_at id bs ≡ Some b → IsWritten (f b) (written id new)) → AreSound closed old bs → AreSound closed new (changed id f bs)
+pub changed_sound : (closed : List (ShareKey × ClosedShare)) (old new : List (ShareKey × List ℕ)) (bs : List Bucket) (id : ShareId) (f : Bucket → Bucket) → KeepsId f → OthersSame id old new → ((b : Bucket) → bucket_at id bs ≡ Some b → IsWritten (f b) (written id new)) → AreSound closed old bs → AreSound closed new (changed id f bs)
 changed_sound closed old new bs id f k others here s = record {
   right = s.right;
   apart = apart_changed id f bs k s.apart;
@@ -49,7 +49,7 @@ changed_sound closed old new bs id f k others here s = record {
       subst (λ (i : ShareId). IsWritten c (written i new)) (sym it) (at_it other c it (bucket_at id bs) refl (subst (λ (i : ShareId). bucket_at i (changed id f bs) ≡ Some c) it e))
   by other c e false is = subst (λ (w : List ℕ). IsWritten c w) (sym (others other is)) (s.gathered other c (sym (changed_other id other f bs k is) ∙ e))
 
-pub ended_sound : (closed : List (Place × ClosedShare)) (old new : List (Place × List ℕ)) (bs : List Bucket) (id : ShareId) → OthersSame id old new → AreSound closed old bs → AreSound closed new (ended id bs)
+pub ended_sound : (closed : List (ShareKey × ClosedShare)) (old new : List (ShareKey × List ℕ)) (bs : List Bucket) (id : ShareId) → OthersSame id old new → AreSound closed old bs → AreSound closed new (ended id bs)
 ended_sound closed old new bs id others s = record {
   right = s.right;
   apart = apart_filter _ bs s.apart;
@@ -62,7 +62,7 @@ ended_sound closed old new bs id others s = record {
       absurd cc
   by other c e false is = subst (λ (w : List ℕ). IsWritten c w) (sym (others other is)) (s.gathered other c (sym (ended_other id other bs is) ∙ e))
 
-pub filter_sound : (closed : List (Place × ClosedShare)) (opened : List (Place × List ℕ)) (bs : List Bucket) (p : Bucket → Bool) → AreSound closed opened bs → AreSound closed opened (filter p bs)
+pub filter_sound : (closed : List (ShareKey × ClosedShare)) (opened : List (ShareKey × List ℕ)) (bs : List Bucket) (p : Bucket → Bool) → AreSound closed opened bs → AreSound closed opened (filter p bs)
 filter_sound closed opened bs p s = record {
   right = s.right;
   apart = apart_filter p bs s.apart;
@@ -70,7 +70,7 @@ filter_sound closed opened bs p s = record {
   gathered = λ other c e. s.gathered other c (filtered_found p other bs c s.apart e);
 }
 
-pub push_sound : (closed : List (Place × ClosedShare)) (opened : List (Place × List ℕ)) (bs : List Bucket) (b : Bucket) → IsNothing b.gathered → bucket_at b.id bs ≡ None → length bs < most_buckets → AreSound closed opened bs → AreSound closed opened (bs ++ b ∷ [])
+pub push_sound : (closed : List (ShareKey × ClosedShare)) (opened : List (ShareKey × List ℕ)) (bs : List Bucket) (b : Bucket) → IsNothing b.gathered → bucket_at b.id bs ≡ None → length bs < most_buckets → AreSound closed opened bs → AreSound closed opened (bs ++ b ∷ [])
 push_sound closed opened bs b empty none room s = record {
   right = s.right;
   apart = apart_push bs b none s.apart;
@@ -122,10 +122,10 @@ abbrev new_share : Shelf → ShareId → List ℕ → ClosedShare
 new_share s id digest = record { bytes = written id s.opened; digest = digest }
 
 pub closed_new : (s : Shelf) (id : ShareId) (digest : List ℕ) → closed_at id (with_closed s id digest) ≡ Some (new_share s id digest)
-closed_new s id digest = found_new (place_of id) (new_share s id digest) s.closed
+closed_new s id digest = found_new (key_of id) (new_share s id digest) s.closed
 
 pub closed_other : (s : Shelf) (id other : ShareId) (digest : List ℕ) → same_id other id ≡ false → closed_at other (with_closed s id digest) ≡ closed_at other s.closed
-closed_other s id other digest apart = found_other (place_of other) (place_of id) (new_share s id digest) s.closed (same_agrees other id ∙ apart)
+closed_other s id other digest apart = found_other (key_of other) (key_of id) (new_share s id digest) s.closed (same_agrees other id ∙ apart)
 
 pub closed_stays : (s : Shelf) (id : ShareId) (digest : List ℕ) → digest_at id s.closed ≡ None → (other : ShareId) (c : ClosedShare) → closed_at other s.closed ≡ Some c → closed_at other (with_closed s id digest) ≡ Some c
 closed_stays s id digest none other c e = by (same_id other id) refl
@@ -139,7 +139,7 @@ closed_stays s id digest none other c e = by (same_id other id) refl
 pub closing_sound : (s : Shelf) (bs : List Bucket) (id : ShareId) (digest : List ℕ) → digest ≡ share_digest (written id s.opened) → AreSound s.closed s.opened bs → AreSound (with_closed s id digest) s.opened bs
 closing_sound s bs id digest right sound = record {
   right = record {
-    rising = sorted_with (place_of id) (new_share s id digest) s.closed sound.right.rising;
+    rising = sorted_with (key_of id) (new_share s id digest) s.closed sound.right.rising;
     digests = λ other c e. by other c e (same_id other id) refl;
   };
   apart = sound.apart;

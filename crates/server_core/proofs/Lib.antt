@@ -1,4 +1,4 @@
-pub mod Places
+pub mod Positions
 pub mod Shares
 pub mod Listed
 pub mod Kept

@@ -6,7 +6,7 @@ use Rattle.wire.specs.declared.message.Body.{Body}
 use Rattle.wire.specs.declared.message.Body.TheVariants.{Ask, Have, Allocate, Granted, Already, Busy, Full, Write, Wrote, WrongOffset, Close, Closed, NotComplete, Abort, Read, Data, NoShare}
 use Rattle.wire.specs.declared.message.Message.{Message}
 use Rattle.wire.specs.declared.message.ShareId.{ShareId}
-use Rattle.share_store.specs.Shelf.{Shelf, place_of, written, OthersStay}
+use Rattle.share_store.specs.Shelf.{Shelf, key_of, written, OthersStay}
 use Rattle.server_core.specs.declared.error.ServerFault.TheVariants.{OutOfMemory, StoreFault}
 use Rattle.server_core.specs.declared.bucket.Gathered.{Gathered}
 use Rattle.server_core.specs.declared.bucket.Gathered.TheVariants.{Part, Whole}
@@ -158,7 +158,7 @@ same_bytes : (from session : ℕ) (old : ServerState Shelf) (new : Shelf) → ne
 same_bytes from session old new e id b at not_own = ap (λ (t : Shelf). written id t.opened) e
 
 owned_bytes : (from session : ℕ) (old : ServerState Shelf) (new : Shelf) (id : ShareId) → Owns from session id old.buckets → OthersStay id old.store.opened new.opened → OthersBytesStay from session old new
-owned_bytes from session old new id own o other b at not_own = o (place_of other) (same_agrees id other ∙ other_of other id (not_mine from session old.buckets id other b own at not_own))
+owned_bytes from session old new id own o other b at not_own = o (key_of other) (same_agrees id other ∙ other_of other id (not_mine from session old.buckets id other b own at not_own))
 
 pub others_bytes : (old new : ServerState Shelf) (line : Line) (t from : ℕ) (m : Message) (outcome : Outcome) → IsOwnLine from m.session old.buckets line → Does shelf_calls line t old m outcome new → OthersBytesStay from m.session old new.store
 others_bytes old new Silent t from m (Ok None) own d = same_bytes from m.session old new.store d.store

@@ -15,8 +15,8 @@ use Rattle.std.proofs.lemmas.List.Elements.{All-from_recursion}
 use Rattle.wire.specs.declared.message.ShareId.{ShareId}
 use Rattle.wire.specs.declared.message.HeldShare.{HeldShare}
 use Rattle.share_store.specs.declared.shelf.ClosedShare.{ClosedShare}
-use Rattle.share_store.specs.Shelf.{Place, place_of, order, same_place, at, digest_at, held}
-use Rattle.share_store.proofs.PlaceLaws.{order_total}
+use Rattle.share_store.specs.Shelf.{ShareKey, key_of, order, same_key, at, digest_at, held}
+use Rattle.share_store.proofs.KeyLaws.{order_total}
 use Rattle.share_store.proofs.ShelfLaws.{at_with, held_told}
 use Rattle.server_core.specs.Buckets.{same_id}
 
@@ -28,21 +28,21 @@ is_eq-then Less p = refl
 is_eq-then Equal p = refl
 is_eq-then Greater p = refl
 
--- shares are the same where their places are
-pub same_agrees : (a b : ShareId) → same_place (place_of a) (place_of b) ≡ same_id a b
+-- shares are the same where their positions are
+pub same_agrees : (a b : ShareId) → same_key (key_of a) (key_of b) ≡ same_id a b
 same_agrees a b =
     is_eq-then (slice_cmp nat_cmp a.index b.index) (nat_cmp a.share b.share)
     ∙ ap (λ (x : Bool). x && is_eq (nat_cmp a.share b.share)) (is_eq-slice_cmp a.index b.index)
     ∙ ap (λ (x : Bool). bytes_eq a.index b.index && x) (is_eq-nat a.share b.share)
 
--- what was put at a place is found there
-pub found_new : (place : Place) (c : ClosedShare) (cs : List (Place × ClosedShare)) → at place (insert_entry order cs place c) ≡ Some c
-found_new place c cs = at_with place place c cs ∙ ap (λ o. cond (is_eq o) (Some c) (at place cs)) (tied_itself order_total place)
+-- what was put at a position is found there
+pub found_new : (position : ShareKey) (c : ClosedShare) (cs : List (ShareKey × ClosedShare)) → at position (insert_entry order cs position c) ≡ Some c
+found_new position c cs = at_with position position c cs ∙ ap (λ o. cond (is_eq o) (Some c) (at position cs)) (tied_itself order_total position)
 
 -- and nothing else changes
-pub found_other : (other place : Place) (c : ClosedShare) (cs : List (Place × ClosedShare)) → same_place other place ≡ false → at other (insert_entry order cs place c) ≡ at other cs
-found_other other place c cs apart = at_with other place c cs ∙ ap (λ (t : Bool). cond t (Some c) (at other cs)) apart
+pub found_other : (other position : ShareKey) (c : ClosedShare) (cs : List (ShareKey × ClosedShare)) → same_key other position ≡ false → at other (insert_entry order cs position c) ≡ at other cs
+found_other other position c cs apart = at_with other position c cs ∙ ap (λ (t : Bool). cond t (Some c) (at other cs)) apart
 
 -- what is listed is closed, with that digest
-pub listed : (index : List ℕ) (cs : List (Place × ClosedShare)) → IsStrictlySortedBy order (keys_of cs) → All (λ (h : HeldShare). digest_at (record { index = index; share = h.share }) cs ≡ Some h.digest) (held index cs)
+pub listed : (index : List ℕ) (cs : List (ShareKey × ClosedShare)) → IsStrictlySortedBy order (keys_of cs) → All (λ (h : HeldShare). digest_at (record { index = index; share = h.share }) cs ≡ Some h.digest) (held index cs)
 listed index cs sorted = All-from_recursion (λ (h : HeldShare). digest_at (record { index = index; share = h.share }) cs ≡ Some h.digest) (held index cs) (held_told index cs sorted)

@@ -108,18 +108,18 @@ ended id bs = filter (λ (b : Bucket). not (same_id b.id id)) bs
 abbrev pub promised : List Bucket → ℕ
 promised bs = sum (map (λ (b : Bucket). b.length) bs)
 
--- ---- places
+-- ---- positions
 
-abbrev pub place_after : Option ℕ → Option ℕ
-place_after None = None
-place_after (Some n) = Some (n + 1)
+abbrev pub position_after : Option ℕ → Option ℕ
+position_after None = None
+position_after (Some n) = Some (n + 1)
 
--- a place, counted from n on
-abbrev pub place_from : ℕ → Option ℕ → Option ℕ
-place_from n None = None
-place_from n (Some k) = Some (n + k)
+-- a position, counted from n on
+abbrev pub position_from : ℕ → Option ℕ → Option ℕ
+position_from n None = None
+position_from n (Some k) = Some (n + k)
 
 -- where the bucket of a share stands
-abbrev pub place_of : ShareId → List Bucket → Option ℕ
-place_of id [] = None
-place_of id (b ∷ bs) = if same_id b.id id then Some 0 else place_after (place_of id bs)
+abbrev pub position_of : ShareId → List Bucket → Option ℕ
+position_of id [] = None
+position_of id (b ∷ bs) = if same_id b.id id then Some 0 else position_after (position_of id bs)

@@ -11,7 +11,7 @@ use Rattle.wire.specs.declared.message.ShareId.{ShareId}
 use Rattle.wire.specs.declared.message.HeldShare.{HeldShare}
 use Rattle.tagged_hash.specs.TaggedHash.{share_digest}
 use Rattle.share_store.specs.declared.shelf.ClosedShare.{ClosedShare}
-use Rattle.share_store.specs.Shelf.{Shelf, Place, AreRising, closed_at, digest_at, written}
+use Rattle.share_store.specs.Shelf.{Shelf, ShareKey, AreRising, closed_at, digest_at, written}
 use Rattle.share_store.specs.Shelf.{Restarts}
 use Rattle.share_store.specs.Calls.{shelf_calls}
 use Rattle.server_core.specs.declared.bucket.Bucket.{Bucket}
@@ -50,18 +50,18 @@ abbrev pub IsWritten : Bucket → List ℕ → Type 0
 IsWritten b bytes = IsNothing b.gathered ⊎ Gathers b.length b.gathered bytes
 
 -- Each closed share has the digest of its bytes.
-abbrev pub HaveDigests : List (Place × ClosedShare) → Type 0
+abbrev pub HaveDigests : List (ShareKey × ClosedShare) → Type 0
 HaveDigests closed =
     (id : ShareId) (c : ClosedShare) → closed_at id closed ≡ Some c
     → c.digest ≡ share_digest c.bytes
 
 -- The closed shares stand in order, and have the digests of their bytes.
-pub record AreRight (closed : List (Place × ClosedShare)) : Type 0 where
+pub record AreRight (closed : List (ShareKey × ClosedShare)) : Type 0 where
   pub rising : AreRising closed
   pub digests : HaveDigests closed
 
 -- The closed shares are right, and each bucket gathers what was written.
-pub record AreSound (closed : List (Place × ClosedShare)) (opened : List (Place × List ℕ))
+pub record AreSound (closed : List (ShareKey × ClosedShare)) (opened : List (ShareKey × List ℕ))
     (buckets : List Bucket) : Type 0 where
   pub right : AreRight closed
   pub apart : AreApart buckets

@@ -2,7 +2,8 @@
 
 ghost use Rattle.std.specs.Prelude.{◌≡◌, ◌<◌, ◌-◌, ◌∷◌, ◌++◌, [], filter, length, slice_get};
 ghost use Rattle.std.specs.Prelude.{IfNone, IfSome, None, OnErr, OnOk, Some};
-ghost use Rattle.server_core.specs.Buckets.{GoesOn, HasRoom, bucket_at, changed, ended, place_of};
+ghost use Rattle.server_core.specs.Buckets.{GoesOn, HasRoom, bucket_at, changed, ended};
+ghost use Rattle.server_core.specs.Buckets.{position_of};
 ghost use Rattle.server_core.specs.Buckets.{promised, touched, with_bytes};
 ghost use Rattle.server_core.specs.ServerState.{is_fresh_at};
 ghost use Rattle.server_core.specs.declared.bucket.Bucket.{Bucket};
@@ -61,7 +62,7 @@ impl Buckets {
     pub fn find(&self, id: ShareId) -> Option<(usize, &Bucket)>
         ensures none { IfNone result (bucket_at id self.now ≡ None) }
         ensures some { IfSome result (λ found. bucket_at id self.now ≡ Some found.1.now) }
-        ensures place { IfSome result (λ found. place_of id self.now ≡ Some found.0) }
+        ensures position { IfSome result (λ found. position_of id self.now ≡ Some found.0) }
         ensures within { IfSome result (λ found. found.0 < length self.now) }
         ensures there { IfSome result (λ found. slice_get self.now found.0 ≡ Some found.1.now) }
     {
@@ -89,35 +90,35 @@ impl Buckets {
         Ok(())
     }
 
-    /// The bucket at a place was touched.
-    pub fn touch(&mut self, place: usize, now: u64)
-        requires { place < length self.old }
-        ensures { (id : ShareId) → place_of id self.old ≡ Some place
+    /// The bucket at a position was touched.
+    pub fn touch(&mut self, position: usize, now: u64)
+        requires { position < length self.old }
+        ensures { (id : ShareId) → position_of id self.old ≡ Some position
             → self.new ≡ changed id (touched now) self.old }
     {
-        self.open[place].touched = now;
+        self.open[position].touched = now;
     }
 
-    /// Adds bytes to the bucket at a place.
-    pub fn push(&mut self, place: usize, bytes: &[u8], now: u64)
-        requires room { IfSome (slice_get self.old place)
+    /// Adds bytes to the bucket at a position.
+    pub fn push(&mut self, position: usize, bytes: &[u8], now: u64)
+        requires room { IfSome (slice_get self.old position)
             (λ b. HasRoom b.length (length bytes.now) b.gathered) }
-        requires within { place < length self.old }
-        ensures { (id : ShareId) (b : Bucket) → place_of id self.old ≡ Some place
+        requires within { position < length self.old }
+        ensures { (id : ShareId) (b : Bucket) → position_of id self.old ≡ Some position
             → bucket_at id self.old ≡ Some b → (gathered : Gathered)
             × GoesOn b.length bytes.now b.gathered gathered
             × (self.new ≡ changed id (with_bytes now gathered) self.old) }
     {
-        self.open[place].push(bytes, now);
+        self.open[position].push(bytes, now);
     }
 
-    /// Ends the bucket at a place.
-    pub fn end(&mut self, place: usize)
-        requires { place < length self.old }
-        ensures { (id : ShareId) → place_of id self.old ≡ Some place
+    /// Ends the bucket at a position.
+    pub fn end(&mut self, position: usize)
+        requires { position < length self.old }
+        ensures { (id : ShareId) → position_of id self.old ≡ Some position
             → self.new ≡ ended id self.old }
     {
-        let _ = self.open.remove(place);
+        let _ = self.open.remove(position);
     }
 
     /// Drops those that were not touched for 600 seconds.
@@ -140,13 +141,13 @@ impl Buckets {
 fn find_in(buckets: &[Bucket], id: ShareId) -> Option<(usize, &Bucket)>
     ensures none { IfNone result (bucket_at id buckets.now ≡ None) }
     ensures some { IfSome result (λ found. bucket_at id buckets.now ≡ Some found.1.now) }
-    ensures place { IfSome result (λ found. place_of id buckets.now ≡ Some found.0) }
+    ensures position { IfSome result (λ found. position_of id buckets.now ≡ Some found.0) }
     ensures within { IfSome result (λ found. found.0 < length buckets.now) }
     ensures there { IfSome result (λ found. slice_get buckets.now found.0 ≡ Some found.1.now) }
 {
-    for (place, bucket) in buckets.iter().enumerate() {
+    for (position, bucket) in buckets.iter().enumerate() {
         if bucket.id == id {
-            return Some((place, bucket));
+            return Some((position, bucket));
         }
     }
     None

@@ -166,11 +166,11 @@ impl<S: Store> Server<S> {
         if let Some(digest) = self.store.closed(&id) {
             return Ok(Body::Already(digest));
         }
-        if let Some((place, bucket)) = self.buckets.find(id) {
+        if let Some((position, bucket)) = self.buckets.find(id) {
             if !bucket.is_owned(from, session) || bucket.length != length {
                 return Ok(Body::Busy);
             }
-            self.buckets.touch(place, now);
+            self.buckets.touch(position, now);
             return Ok(Body::Granted);
         }
         if self.is_full(length) {
@@ -202,7 +202,7 @@ impl<S: Store> Server<S> {
         if let Some(digest) = self.store.closed(&id) {
             return Ok(Body::Already(digest));
         }
-        let Some((place, bucket)) = self.buckets.find(id) else {
+        let Some((position, bucket)) = self.buckets.find(id) else {
             return Ok(Body::NoShare);
         };
         if !bucket.is_owned(from, session) {
@@ -211,16 +211,16 @@ impl<S: Store> Server<S> {
         let so_far = bucket.bytes_so_far();
         let room = bucket.length.get().saturating_sub(so_far);
         if offset != so_far || room < bytes.len() as u64 {
-            self.buckets.touch(place, now);
+            self.buckets.touch(position, now);
             return Ok(Body::WrongOffset(so_far));
         }
         match self.store.write(&id, offset, bytes) {
             Ok(()) => {
-                self.buckets.push(place, bytes, now);
+                self.buckets.push(position, bytes, now);
                 Ok(Body::Wrote(offset + bytes.len() as u64))
             }
             Err(StoreError::StoreFault) => {
-                self.buckets.end(place);
+                self.buckets.end(position);
                 Err(ServerFault::StoreFault)
             }
             Err(StoreError::OutOfMemory) => Err(ServerFault::OutOfMemory),
@@ -245,7 +245,7 @@ impl<S: Store> Server<S> {
         if let Some(digest) = self.store.closed(&id) {
             return Ok(Body::Closed(digest));
         }
-        let Some((place, bucket)) = self.buckets.find(id) else {
+        let Some((position, bucket)) = self.buckets.find(id) else {
             return Ok(Body::NoShare);
         };
         if !bucket.is_owned(from, session) {
@@ -255,17 +255,17 @@ impl<S: Store> Server<S> {
             Gathered::Whole(digest) => *digest,
             Gathered::Part(count, _) => {
                 let count = *count;
-                self.buckets.touch(place, now);
+                self.buckets.touch(position, now);
                 return Ok(Body::NotComplete(count));
             }
         };
         match self.store.close(&id, &digest) {
             Ok(()) => {
-                self.buckets.end(place);
+                self.buckets.end(position);
                 Ok(Body::Closed(digest))
             }
             Err(StoreError::StoreFault) => {
-                self.buckets.end(place);
+                self.buckets.end(position);
                 Err(ServerFault::StoreFault)
             }
             Err(StoreError::OutOfMemory) => Err(ServerFault::OutOfMemory),
@@ -280,9 +280,9 @@ impl<S: Store> Server<S> {
         ensures clock { self.new.clock ≡ self.old.clock }
         ensures terms { KeepsTerms self.old self.new }
     {
-        if let Some((place, bucket)) = self.buckets.find(id) {
+        if let Some((position, bucket)) = self.buckets.find(id) {
             if bucket.is_owned(from, session) {
-                self.buckets.end(place);
+                self.buckets.end(position);
             }
         }
         Ok(Body::NoShare)

@@ -59,11 +59,11 @@ module _ (p t : List ℕ) where
       let e : q - n ≡ suc (q - n - 1) = omega arith in
       let z : length filling ≡ zeros = length-replicate zeros 0 in
       let le : zeros ≤ q - n - 1 = omega arith in
-      let place : q - n - 1 - zeros ≡ q + 8 - (length p + length t + 72) / 64 * 64 = omega arith in
+      let position : q - n - 1 - zeros ≡ q + 8 - (length p + length t + 72) / 64 * 64 = omega arith in
       get_or-append_right (p ++ t) (padding n) n q 0 refl (omega arith)
       ∙ ap (λ (k : ℕ). get_or (padding n) k 0) e
       ∙ get_or-append_right filling last zeros (q - n - 1) 0 z le
-      ∙ (λ i. get_or (to_be_bytes w64 (l i * 8 % 2 ^ 64)) (place i) 0)
+      ∙ (λ i. get_or (to_be_bytes w64 (l i * 8 % 2 ^ 64)) (position i) 0)
 
 -- what a part of a list was overwritten with
 pub get_or-overwritten : {X : Type 0} (a i : ℕ) (xs ys rest : List X) (d : X) → a ≤ i → i < a + length ys

@@ -28,7 +28,7 @@ part_at a k xs ys p h n at long within =
     ∙ ap (λ (q : ℕ). drop p (take q xs) ++ ys) at
     ∙ ap (λ (l : List ℕ). l ++ ys) (drop-take p h xs)
 
--- what begins behind what is written, where the rest from an earlier place on is known
+-- what begins behind what is written, where the rest from an earlier position on is known
 pub part_behind : (a k : ℕ) (xs ys zs : List ℕ) (p n : ℕ) → a + k ≤ p + n → a ≤ length xs → length ys ≡ k → drop p xs ≡ drop p zs
     → drop (p + n) (put_mid a k xs ys) ≡ drop (p + n) zs
 part_behind a k xs ys zs p n behind within long same =

@@ -1,5 +1,5 @@
 -- Eight lists side by side in vectors of eight words: lane j of vector i is what list j has at
--- place i. These are words of private clauses, but `text` stands in public ones too.
+-- position i. These are words of private clauses, but `text` stands in public ones too.
 use Rattle.std.proofs.Common.{Bor}
 use Rattle.std.specs.Prelude.{◌≡◌, ℕ, ◌*◌, ◌<◌, List, [], ◌∷◌, ◌++◌, All, length, map}
 use Rattle.std.specs.Prelude.{slice_index, slice_index_or}
@@ -26,9 +26,9 @@ pub record AreWords (block : ℕ → List ℕ) (w : List (List ℕ)) : Type 0 wh
   pub vectors : AreVectors 16 w
   pub each : (j k : ℕ) → j < 8 → k < 16 → slice_index (lane w j) k ≡ word_at (block j) (4 * k)
 
--- words of two vectors, by their places in the one with the other behind it
+-- words of two vectors, by their positions in the one with the other behind it
 abbrev pub interleaved : List ℕ → List ℕ → List ℕ → List ℕ
-interleaved places a b = map (λ k. slice_index (a ++ b) k) places
+interleaved positions a b = map (λ k. slice_index (a ++ b) k) positions
 
 -- the first four words of two vectors, in turn
 abbrev pub low_words : List ℕ → List ℕ → List ℕ
@@ -39,7 +39,7 @@ abbrev pub high_words : List ℕ → List ℕ → List ℕ
 high_words a b = interleaved (4 ∷ 12 ∷ 5 ∷ 13 ∷ 6 ∷ 14 ∷ 7 ∷ 15 ∷ []) a b
 
 -- eight vectors one after another, as 64 words in another order: the first 32 words stand on the
--- even places, and the others between them
+-- even positions, and the others between them
 abbrev pub spread_words : List (List ℕ) → List (List ℕ)
 spread_words r =
     low_words (slice_index_or r 0 []) (slice_index_or r 4 [])

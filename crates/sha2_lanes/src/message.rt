@@ -12,23 +12,23 @@ use std::simd::prelude::*;
 // How many bytes a block has.
 pub(crate) const BLOCK_LEN: usize = 64;
 
-// Puts bytes, which stand in a text from byte `place` on, into the text's block from byte `start`
+// Puts bytes, which stand in a text from byte `offset` on, into the text's block from byte `start`
 // on: those that lie within the block.
-fn put(block: &mut [u8; 64], start: usize, place: usize, bytes: &[u8])
+fn put(block: &mut [u8; 64], start: usize, offset: usize, bytes: &[u8])
     requires start { start + 64 < 2 ^ 64 }
-    requires place { place + length bytes.now < 2 ^ 64 }
-    ensures inside { (i : ℕ) → i < 64 → place ≤ start + i
-        → start + i < place + length bytes.now
-        → slice_index block.new i ≡ slice_index bytes.now (start + i - place) }
-    ensures before { (i : ℕ) → i < 64 → start + i < place
+    requires offset { offset + length bytes.now < 2 ^ 64 }
+    ensures inside { (i : ℕ) → i < 64 → offset ≤ start + i
+        → start + i < offset + length bytes.now
+        → slice_index block.new i ≡ slice_index bytes.now (start + i - offset) }
+    ensures before { (i : ℕ) → i < 64 → start + i < offset
         → slice_index block.new i ≡ slice_index block.old i }
-    ensures behind { (i : ℕ) → i < 64 → place + length bytes.now ≤ start + i
+    ensures behind { (i : ℕ) → i < 64 → offset + length bytes.now ≤ start + i
         → slice_index block.new i ≡ slice_index block.old i }
 {
-    let from = start.max(place);
-    let to = (start + BLOCK_LEN).min(place + bytes.len());
+    let from = start.max(offset);
+    let to = (start + BLOCK_LEN).min(offset + bytes.len());
     if from < to {
-        block[from - start..to - start].copy_from_slice(&bytes[from - place..to - place]);
+        block[from - start..to - start].copy_from_slice(&bytes[from - offset..to - offset]);
     }
 }
 

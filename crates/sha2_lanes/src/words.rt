@@ -32,7 +32,7 @@ pub(crate) fn transposed(rows: [u32x8; 8]) -> [u32x8; 8]
 }
 
 // The vectors one after the other, as 64 words: each of the first 32 words goes to the double of
-// its place, and the others fill the gaps.
+// its position, and the others fill the gaps.
 #[inline(always)]
 fn spread(rows: [u32x8; 8]) -> [u32x8; 8]
     requires { AreVectors 8 rows }

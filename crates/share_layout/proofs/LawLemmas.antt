@@ -10,10 +10,10 @@ use Rattle.std.proofs.lemmas.Nat.{pow_pos}
 use Rattle.merkle.specs.Tree.{height, needed_numbers}
 use Rattle.share_layout.specs.Geometry.{Geometry, hashes_size, segment_count, share_data_size, tree_size, IsGeometry}
 use Rattle.share_layout.specs.declared.layout.Layout.{Layout}
-use Rattle.share_layout.specs.Layout.{header, header_numbers, header_size, layout_of, number_in, places_by, places_of, spelled, version, width}
+use Rattle.share_layout.specs.Layout.{header, header_numbers, header_size, layout_of, number_in, offsets_by, offsets_of, spelled, version, width}
 use Rattle.share_layout.specs.Share.{CarriesNumbers, HaveLengths, IsShare, Sections}
-use Rattle.share_layout.specs.Places.{AreRising, EndsWith, HasOwnPlaces, HasVersion, LocatesUeb, header_number, layout_in, places_in}
-use Rattle.share_layout.specs.declared.places.Places.{Places}
+use Rattle.share_layout.specs.Offsets.{AreRising, EndsWith, HasOwnOffsets, HasVersion, LocatesUeb, header_number, layout_in, offsets_in}
+use Rattle.share_layout.specs.declared.offsets.Offsets.{Offsets}
 use Rattle.merkle.proofs.HeightLemmas.{height_below}
 use Rattle.share_layout.specs.Reading.{HasHeader}
 use Rattle.share_layout.proofs.LayoutLemmas.{fits_layout, header_version, length-header, inside_header, layout_is, limit, read_back, spelled_at}
@@ -51,8 +51,8 @@ have_bounds g v =
       few_hashes = omega (arith, height_below g.total 8 (omega (arith, v.shares)));
     }
 
-pub places_rise : (g : Geometry) (l : Layout) → HaveBounds g → AreRising (places_by l g)
-places_rise g l b = record {
+pub offsets_rise : (g : Geometry) (l : Layout) → HaveBounds g → AreRising (offsets_by l g)
+offsets_rise g l b = record {
   unused = omega (arith, b.some_blocks);
   ciphertext_tree = omega (arith, b.some_nodes);
   block_tree = omega (arith, b.some_nodes);
@@ -77,12 +77,12 @@ number_told l bytes numbers i n is layout eight inside at fits =
     subst (λ m. number_in m (take (width m) (drop (4 + width m * i) bytes)) ≡ n) (sym layout)
     (ap (number_in l) spelled_there ∙ read_back l n fits)
 
--- the places that a share's header tells are the right ones
-pub places_told : (g : Geometry) (bytes : List ℕ) → HaveBounds g → take (header_size (layout_of g)) bytes ≡ header g
-    → layout_in bytes ≡ layout_of g → places_in bytes ≡ places_of g
-places_told g bytes b is layout =
+-- the offsets that a share's header tells are the right ones
+pub offsets_told : (g : Geometry) (bytes : List ℕ) → HaveBounds g → take (header_size (layout_of g)) bytes ≡ header g
+    → layout_in bytes ≡ layout_of g → offsets_in bytes ≡ offsets_of g
+offsets_told g bytes b is layout =
     let l = layout_of g in
-    let p = places_of g in
+    let p = offsets_of g in
     let numbers = header_numbers l g in
     let last : p.extension_block < limit l = fits_layout g l (omega (arith, b.few_blocks, b.few_nodes, b.few_hashes)) refl in
     let a = number_told l bytes numbers 3 p.unused is layout (omega arith) (omega arith) refl (omega (arith, last)) in
@@ -92,9 +92,9 @@ places_told g bytes b is layout =
     let f = number_told l bytes numbers 7 p.extension_block is layout (omega arith) (omega arith) refl last in
     λ i. record { layout = layout i; unused = a i; ciphertext_tree = c i; block_tree = d i; share_hashes = e i; extension_block = f i }
 
-pub tells_places : (g : Geometry) (bytes : List ℕ) → IsGeometry g → HasHeader g bytes
-    → HasVersion (layout_of g) bytes × HasOwnPlaces bytes × (places_in bytes ≡ places_of g)
-tells_places g bytes v is =
+pub tells_offsets : (g : Geometry) (bytes : List ℕ) → IsGeometry g → HasHeader g bytes
+    → HasVersion (layout_of g) bytes × HasOwnOffsets bytes × (offsets_in bytes ≡ offsets_of g)
+tells_offsets g bytes v is =
     let l = layout_of g in
     let b = have_bounds g v in
     let begins : take 4 bytes ≡ to_be_bytes w32 (version l) =
@@ -102,28 +102,28 @@ tells_places g bytes v is =
     let long : header_size l ≤ length bytes =
     omega (arith, ap length is, length-header l g, length-take (header_size l) bytes) in
     let layout = layout_is l bytes begins in
-    let told = places_told g bytes b is layout in
-    let last : (places_of g).extension_block < limit l = fits_layout g l (omega (arith, b.few_blocks, b.few_nodes, b.few_hashes)) refl in
+    let told = offsets_told g bytes b is layout in
+    let last : (offsets_of g).extension_block < limit l = fits_layout g l (omega (arith, b.few_blocks, b.few_nodes, b.few_hashes)) refl in
     let first : header_number bytes 2 ≡ header_size l =
     number_told l bytes (header_numbers l g) 2 (header_size l) is layout (omega arith) (omega arith) refl (omega (arith, last)) in (
       record { long = long; version = begins },
-      record { data_place = first ∙ ap header_size (sym layout); rising = subst AreRising (sym told) (places_rise g l b) },
+      record { data_offset = first ∙ ap header_size (sym layout); rising = subst AreRising (sym told) (offsets_rise g l b) },
       told,
     )
 
 pub locates_own : (g : Geometry) (num : ℕ) (bytes : List ℕ) (s : Sections) → IsGeometry g → IsShare g num bytes s → LocatesUeb bytes s.extension_block
 locates_own g num bytes s v is =
     let parts = parts_of g bytes s is.text is.lengths in
-    let told = tells_places g bytes v parts.header in
-    let ends : EndsWith (places_of g) bytes s.extension_block = record {
+    let told = tells_offsets g bytes v parts.header in
+    let ends : EndsWith (offsets_of g) bytes s.extension_block = record {
       text = parts.text;
-      place = omega (arith, parts.tail.long);
+      offset = omega (arith, parts.tail.long);
       short = is.lengths.extension_block;
     } in
     record {
       version = subst (λ m. HasVersion m bytes) (sym (layout_is (layout_of g) bytes told.0.version)) told.0;
-      places = told.1;
-      ends = subst (λ (p : Places). EndsWith p bytes s.extension_block) (sym told.2) ends;
+      offsets = told.1;
+      ends = subst (λ (p : Offsets). EndsWith p bytes s.extension_block) (sym told.2) ends;
     }
 
 -- five lists behind one

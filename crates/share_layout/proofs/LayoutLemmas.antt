@@ -15,8 +15,8 @@ use Rattle.lemmas.proofs.Bools.{bool_cases}
 use Rattle.share_layout.specs.declared.layout.Layout.{Layout}
 use Rattle.share_layout.specs.declared.layout.Layout.TheVariants.{One, Two}
 use Rattle.share_layout.specs.Geometry.{Geometry, block_size, share_data_size}
-use Rattle.share_layout.specs.Layout.{header_by, header_size, layout_of, number_in, places_by, spelled, version, width}
-use Rattle.share_layout.specs.Places.{layout_in}
+use Rattle.share_layout.specs.Layout.{header_by, header_size, layout_of, number_in, offsets_by, spelled, version, width}
+use Rattle.share_layout.specs.Offsets.{layout_in}
 
 -- the widths
 pub width_4 : (l : Layout) → 4 ≤ width l
@@ -93,9 +93,9 @@ all_but_last p [] x fails = rw fails refl
 all_but_last p (y ∷ ys) x fails = rw (all_but_last p ys x fails) (and_false (p y))
 
 -- the layout of a geometry, where the last number of the header is too great
-pub layout_two : (g : Geometry) → 2 ^ 32 ≤ (places_by One g).extension_block → layout_of g ≡ Two
+pub layout_two : (g : Geometry) → 2 ^ 32 ≤ (offsets_by One g).extension_block → layout_of g ≡ Two
 layout_two g large =
-    let p = places_by One g in
+    let p = offsets_by One g in
     rw (all_but_last (λ n. nat_lt n (2 ^ 32))
     (block_size g ∷ share_data_size g ∷ header_size One ∷ p.unused ∷ p.ciphertext_tree ∷ p.block_tree ∷ p.share_hashes ∷ [])
     p.extension_block (lt_false p.extension_block (2 ^ 32) large)) refl
@@ -104,10 +104,10 @@ one_is_not_two : One ≡ Two → ⊥
 one_is_not_two e = absurd (cc e)
 
 -- all numbers of a header fit their bytes
-pub fits_layout : (g : Geometry) (l : Layout) → (places_by Two g).extension_block < 2 ^ 41 → layout_of g ≡ l → (places_by l g).extension_block < limit l
+pub fits_layout : (g : Geometry) (l : Layout) → (offsets_by Two g).extension_block < 2 ^ 41 → layout_of g ≡ l → (offsets_by l g).extension_block < limit l
 fits_layout g Two small is = omega (arith, small)
 fits_layout g One small is =
-    elim (cases_lt (places_by One g).extension_block (2 ^ 32)) [
+    elim (cases_lt (offsets_by One g).extension_block (2 ^ 32)) [
       | inl low ↦ low
       | inr large ↦ absurd (one_is_not_two (sym is ∙ layout_two g large))
     ]
@@ -141,22 +141,22 @@ spelled_more l front numbers out old ys i w same inside long eight written rest 
     let n : ℕ = 4 + width l * (i + 1) in
     let k : ℕ = a + w - a in
     let after = put_mid a k out ys in
-    let place : 4 + width l * i ≡ a = ap (λ m. 4 + m * i) (sym same) in
-    let next : n ≡ a + w = omega (arith, mul-add (width l) i 1, place, same) in
+    let offset : 4 + width l * i ≡ a = ap (λ m. 4 + m * i) (sym same) in
+    let next : n ≡ a + w = omega (arith, mul-add (width l) i 1, offset, same) in
     let room = inside_header l i inside in
     let most : header_size l ≤ 68 = omega (arith, width_8 l) in
     let wide : length ys ≡ w = ap length is ∙ length-spelled l (get_or numbers i 0) ∙ sym same in
-    let low : a ≤ length out = omega (arith, room, most, place, long) in
+    let low : a ≤ length out = omega (arith, room, most, offset, long) in
     let begun : take n after ≡ take a out ++ ys = take-put_mid a k out ys n (omega (arith, next, wide)) low in
     let left : drop n after ≡ drop n out = drop-put_mid a k out ys n (omega (arith, next)) low (omega (arith, wide)) in
     let size : length after ≡ 68 =
     ap length (sym (take-append-drop n after)) ∙ length-append (take n after) (drop n after)
-    ∙ omega (arith, ap length begun, length-append (take a out) ys, length-take-le a out low, wide, ap length left, length-drop n out, next, room, most, place, same, long) in (
+    ∙ omega (arith, ap length begun, length-append (take a out) ys, length-take-le a out low, wide, ap length left, length-drop n out, next, room, most, offset, same, long) in (
       size,
       eight,
-      begun ∙ (λ j. take (sym place j) out ++ is j) ∙ ap (λ (f : List ℕ). f ++ spelled l (get_or numbers i 0)) written
+      begun ∙ (λ j. take (sym offset j) out ++ is j) ∙ ap (λ (f : List ℕ). f ++ spelled l (get_or numbers i 0)) written
           ∙ flat_map_more (spelled l) front (take i numbers) (get_or numbers i 0)
           ∙ ap (λ (ns : List ℕ). front ++ flat_map (spelled l) ns) (sym (take_more numbers i 0 (omega (arith, inside, eight)))),
-      left ∙ ap (λ m. drop m out) (next ∙ omega (arith, place, same)) ∙ sym (drop-drop (width l) (4 + width l * i) out)
-          ∙ ap (drop (width l)) rest ∙ drop-drop (width l) (4 + width l * i) old ∙ ap (λ m. drop m old) (sym (next ∙ omega (arith, place, same))),
+      left ∙ ap (λ m. drop m out) (next ∙ omega (arith, offset, same)) ∙ sym (drop-drop (width l) (4 + width l * i) out)
+          ∙ ap (drop (width l)) rest ∙ drop-drop (width l) (4 + width l * i) old ∙ ap (λ m. drop m old) (sym (next ∙ omega (arith, offset, same))),
     )

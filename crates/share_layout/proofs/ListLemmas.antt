@@ -1,4 +1,4 @@
--- Parts of a list, between two places.
+-- Parts of a list, between two offsets.
 use Rattle.std.proofs.Common.{◌≡◌, ℕ, ◌+◌, ◌^◌, ◌<◌, ◌≤◌, List, ◌++◌, length, take, drop, get_or, inl, inr, ap, sym, ◌∙◌, append_assoc, length-append, arith}
 use Rattle.std.specs.Prelude.{slice_range}
 use Rattle.std.proofs.lemmas.List.{take-append-drop, take-take, take_at, drop_at, drop-drop, length-take-le, length-drop, get_or-take, get_or-drop, get_or_past, length-take}
@@ -6,10 +6,10 @@ use Rattle.std.proofs.lemmas.Bool.{cases_lt}
 use Rattle.std.proofs.lemmas.Slice.{between_is}
 use Rattle.share_layout.specs.declared.layout.Layout.{Layout}
 use Rattle.share_layout.specs.Layout.{number_in, spelled, width}
-use Rattle.share_layout.specs.Places.{number_at}
+use Rattle.share_layout.specs.Offsets.{number_at}
 use Rattle.share_layout.proofs.LayoutLemmas.{length-spelled, read_back, small_fits, spelled_again}
 
--- what stands before one place, and then up to another
+-- what stands before one offset, and then up to another
 pub take_between : (xs : List ℕ) (a b : ℕ) → a ≤ b → take b xs ≡ take a xs ++ slice_range xs a b
 take_between xs a b le = sym (take-append-drop a (take b xs)) ∙ (λ i. take-take a b xs le i ++ sym (between_is xs a b) i)
 
@@ -21,7 +21,7 @@ take_before xs ys zs a b e long le = sym (take-take a b xs le) ∙ ap (take a) e
 pub between_parts : (xs ys zs : List ℕ) (a b : ℕ) → take b xs ≡ ys ++ zs → length ys ≡ a → slice_range xs a b ≡ zs
 between_parts xs ys zs a b e long = between_is xs a b ∙ ap (drop a) e ∙ drop_at ys zs a long
 
--- the bytes behind a place are below 256
+-- the bytes behind an offset are below 256
 pub bytes_between : (xs : List ℕ) (a w : ℕ) → ((i : ℕ) → get_or xs i 0 < 256) → (i : ℕ) → get_or (take w (drop a xs)) i 0 < 256
 bytes_between xs a w small i =
     elim (cases_lt i w) [

@@ -1,53 +1,53 @@
--- The sections of a share, at their places.
+-- The sections of a share, at their offsets.
 use Rattle.std.proofs.Common.{◌≡◌, ℕ, ◌+◌, ◌<◌, ◌≤◌, List, ◌++◌, length, take, drop, get_or, ap, sym, subst, ◌∙◌, length-append, append_assoc, arith}
 use Rattle.std.proofs.lemmas.List.{take_at, take-take, length-take-le, length-drop}
 use Rattle.std.proofs.lemmas.List.Edits.{length-between}
 use Rattle.merkle.specs.Tree.{height, needed_numbers}
 use Rattle.share_layout.specs.Geometry.{Geometry, hashes_size}
-use Rattle.share_layout.specs.Layout.{header, header_size, layout_of, places_of, spelled, version, width}
+use Rattle.share_layout.specs.Layout.{header, header_size, layout_of, offsets_of, spelled, version, width}
 use Rattle.share_layout.specs.Share.{share_bytes, CarriesNumbers, HaveLengths, IsShare, Sections}
-use Rattle.share_layout.specs.Places.{AreRising, EndsWith, HasOwnPlaces, HasVersion, LocatesUeb, layout_in, places_in}
+use Rattle.share_layout.specs.Offsets.{AreRising, EndsWith, HasOwnOffsets, HasVersion, LocatesUeb, layout_in, offsets_in}
 use Rattle.share_layout.specs.Reading.{HasHeader, HasNumbers, IsWhole}
 use Rattle.share_layout.specs.Cutting.{IsCut, sections_at}
 use Rattle.share_layout.proofs.LayoutLemmas.{header_version, length-header}
 use Rattle.share_layout.proofs.ListLemmas.{take_between, take_before, between_parts, tail_text, HasTail, has_tail}
 
 -- an extension block that is cut out
-pub located : (bytes : List ℕ) (s : Sections) → ((i : ℕ) → get_or (take (width (layout_in bytes)) (drop (places_in bytes).extension_block bytes)) i 0 < 256)
-    → HasVersion (layout_in bytes) bytes → HasOwnPlaces bytes → IsCut (places_in bytes) bytes s → LocatesUeb bytes s.extension_block
-located bytes s small version places cut =
+pub located : (bytes : List ℕ) (s : Sections) → ((i : ℕ) → get_or (take (width (layout_in bytes)) (drop (offsets_in bytes).extension_block bytes)) i 0 < 256)
+    → HasVersion (layout_in bytes) bytes → HasOwnOffsets bytes → IsCut (offsets_in bytes) bytes s → LocatesUeb bytes s.extension_block
+located bytes s small version offsets cut =
     let l = layout_in bytes in
-    let e = (places_in bytes).extension_block in
+    let e = (offsets_in bytes).extension_block in
     let text = tail_text l bytes e small cut.end in
-    let found : EndsWith (places_in bytes) bytes (drop (e + width l) bytes) = record {
+    let found : EndsWith (offsets_in bytes) bytes (drop (e + width l) bytes) = record {
       text = text;
-      place = omega (arith, cut.end);
+      offset = omega (arith, cut.end);
       short = omega (arith, length-drop (e + width l) bytes, cut.end, cut.short);
     } in
     record {
       version = version;
-      places = places;
-      ends = subst (λ (t : Sections). EndsWith (places_in bytes) bytes t.extension_block) (sym cut.sections) found;
+      offsets = offsets;
+      ends = subst (λ (t : Sections). EndsWith (offsets_in bytes) bytes t.extension_block) (sym cut.sections) found;
     }
 
 -- where an extension block is located, all is right, and it stands behind its length
-pub located_tail : (bytes block : List ℕ) → LocatesUeb bytes block → HasTail (layout_in bytes) bytes (places_in bytes).extension_block block
+pub located_tail : (bytes block : List ℕ) → LocatesUeb bytes block → HasTail (layout_in bytes) bytes (offsets_in bytes).extension_block block
 located_tail bytes block l =
-    let e = (places_in bytes).extension_block in
-    has_tail (layout_in bytes) bytes (take e bytes) block e l.ends.text (length-take-le e bytes l.ends.place) (omega (arith, l.ends.short))
+    let e = (offsets_in bytes).extension_block in
+    has_tail (layout_in bytes) bytes (take e bytes) block e l.ends.text (length-take-le e bytes l.ends.offset) (omega (arith, l.ends.short))
 
-pub located_whole : (bytes block : List ℕ) → LocatesUeb bytes block → IsWhole (HasOwnPlaces bytes) (places_in bytes) bytes
+pub located_whole : (bytes block : List ℕ) → LocatesUeb bytes block → IsWhole (HasOwnOffsets bytes) (offsets_in bytes) bytes
 located_whole bytes block l =
     let t = located_tail bytes block l in
-    record { version = l.version; right = l.places; short = omega (arith, t.number, l.ends.short); end = omega (arith, t.number, t.long) }
+    record { version = l.version; right = l.offsets; short = omega (arith, t.number, l.ends.short); end = omega (arith, t.number, t.long) }
 
 -- the sections that are cut out of a share
 pub cut_is_share : (g : Geometry) (num : ℕ) (bytes : List ℕ) (s : Sections)
-    → ((i : ℕ) → get_or (take (width (layout_of g)) (drop (places_of g).extension_block bytes)) i 0 < 256)
-    → HasHeader g bytes → AreRising (places_of g) → IsCut (places_of g) bytes s → num < g.total
+    → ((i : ℕ) → get_or (take (width (layout_of g)) (drop (offsets_of g).extension_block bytes)) i 0 < 256)
+    → HasHeader g bytes → AreRising (offsets_of g) → IsCut (offsets_of g) bytes s → num < g.total
     → CarriesNumbers (needed_numbers (height g.total) num) s.share_hashes → IsShare g num bytes s
 cut_is_share g num bytes s small right rising cut number numbers =
-    let p = places_of g in
+    let p = offsets_of g in
     let long : p.extension_block ≤ length bytes = omega (arith, cut.end) in
     let t = sections_at p bytes in
     let hashes : length t.share_hashes ≡ hashes_size g = length-between bytes p.share_hashes p.extension_block long ∙ omega arith in
@@ -80,13 +80,13 @@ cut_is_share g num bytes s small right rising cut number numbers =
 -- what a share's bytes are, as a reader goes over them
 pub record Parts (g : Geometry) (bytes : List ℕ) (s : Sections) : Type 0 where
   pub header : take (header_size (layout_of g)) bytes ≡ header g
-  pub sections : s ≡ sections_at (places_of g) bytes
-  pub tail : HasTail (layout_of g) bytes (places_of g).extension_block s.extension_block
-  pub text : bytes ≡ take (places_of g).extension_block bytes ++ spelled (layout_of g) (length s.extension_block) ++ s.extension_block
+  pub sections : s ≡ sections_at (offsets_of g) bytes
+  pub tail : HasTail (layout_of g) bytes (offsets_of g).extension_block s.extension_block
+  pub text : bytes ≡ take (offsets_of g).extension_block bytes ++ spelled (layout_of g) (length s.extension_block) ++ s.extension_block
 
 pub parts_of : (g : Geometry) (bytes : List ℕ) (s : Sections) → bytes ≡ share_bytes g s → HaveLengths g s → Parts g bytes s
 parts_of g bytes s text lengths =
-    let p = places_of g in
+    let p = offsets_of g in
     let l = layout_of g in
     let h = header g in
     let p1 = h ++ s.blocks in
@@ -129,7 +129,7 @@ parts_of g bytes s text lengths =
     }
 
 -- a share is whole, and its hashes carry its numbers
-pub share_whole : (g : Geometry) (num : ℕ) (bytes : List ℕ) (s : Sections) → IsShare g num bytes s → IsWhole (HasHeader g bytes) (places_of g) bytes
+pub share_whole : (g : Geometry) (num : ℕ) (bytes : List ℕ) (s : Sections) → IsShare g num bytes s → IsWhole (HasHeader g bytes) (offsets_of g) bytes
 share_whole g num bytes s is =
     let parts = parts_of g bytes s is.text is.lengths in
     let l = layout_of g in

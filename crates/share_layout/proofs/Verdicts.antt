@@ -4,11 +4,11 @@ use Rattle.std.proofs.lemmas.Result.{MatchResult-at_err}
 use Rattle.share_layout.specs.declared.error.Section.{Section}
 use Rattle.share_layout.specs.declared.error.LayoutError.{LayoutError}
 use Rattle.share_layout.specs.declared.error.LayoutError.TheVariants.{BadParameters, TooLarge, TooManySegments, BadVersion, BadOffset, Truncated, BadShareHashes, WriterFault}
-use Rattle.share_layout.specs.declared.places.Places.{Places}
+use Rattle.share_layout.specs.declared.offsets.Offsets.{Offsets}
 use Rattle.share_layout.specs.declared.error.Section.TheVariants.{Header}
 use Rattle.share_layout.specs.declared.layout.Layout.{Layout}
 use Rattle.share_layout.specs.Layout.{header_size}
-use Rattle.share_layout.specs.Places.{HasBadEnd, HasOwnPlaces, HasVersion, IsShortHeader, layout_in, places_in, section_at}
+use Rattle.share_layout.specs.Offsets.{HasBadEnd, HasOwnOffsets, HasVersion, IsShortHeader, layout_in, offsets_in, section_at}
 use Rattle.share_layout.specs.Reading.{HasOtherVersion, IsFault, IsHeaderFault, IsLocateFault, IsWhole, LacksBytes}
 use Rattle.share_layout.specs.Cutting.{IsCutFault, IsVersionFault}
 use Rattle.share_layout.proofs.LayoutLemmas.{layout_is}
@@ -18,31 +18,31 @@ abbrev pub Short : List ℕ → Section → Type 0
 Short bytes section = IsShortHeader bytes × (section ≡ Header)
 
 -- bytes are missing
-abbrev pub Lack : Type 0 → Places → List ℕ → Section → Type 0
+abbrev pub Lack : Type 0 → Offsets → List ℕ → Section → Type 0
 Lack R p bytes section = LacksBytes R p bytes × (section ≡ section_at p (length bytes))
 
 -- the header or the end is wrong
-abbrev pub OtherPlaces : Type 0 → Places → List ℕ → Type 0
-OtherPlaces R p bytes = HasVersion p.layout bytes × (¬ R ⊎ (R × HasBadEnd p bytes))
+abbrev pub OtherOffsets : Type 0 → Offsets → List ℕ → Type 0
+OtherOffsets R p bytes = HasVersion p.layout bytes × (¬ R ⊎ (R × HasBadEnd p bytes))
 
 -- a header that has a version is not cut short
 short_version : (l : Layout) (bytes : List ℕ) → IsShortHeader bytes → HasVersion l bytes → ⊥
 short_version l bytes short v = omega (arith, short, v.long, ap header_size (layout_is l bytes v.version))
 
-lack_places : (R : Type 0) (p : Places) (bytes : List ℕ) → LacksBytes R p bytes → OtherPlaces R p bytes → ⊥
-lack_places R p bytes l o = elim o.1 [ inl wrong ↦ wrong l.right | inr end ↦ l.end end.1 ]
+lack_offsets : (R : Type 0) (p : Offsets) (bytes : List ℕ) → LacksBytes R p bytes → OtherOffsets R p bytes → ⊥
+lack_offsets R p bytes l o = elim o.1 [ inl wrong ↦ wrong l.right | inr end ↦ l.end end.1 ]
 
-lack_whole : (R : Type 0) (p : Places) (bytes : List ℕ) → LacksBytes R p bytes → IsWhole R p bytes → ⊥
+lack_whole : (R : Type 0) (p : Offsets) (bytes : List ℕ) → LacksBytes R p bytes → IsWhole R p bytes → ⊥
 lack_whole R p bytes l w = omega (arith, l.lacks, w.end)
 
-places_whole : (R : Type 0) (p : Places) (bytes : List ℕ) → OtherPlaces R p bytes → IsWhole R p bytes → ⊥
-places_whole R p bytes o w =
+offsets_whole : (R : Type 0) (p : Offsets) (bytes : List ℕ) → OtherOffsets R p bytes → IsWhole R p bytes → ⊥
+offsets_whole R p bytes o w =
     elim o.1 [
       | inl wrong ↦ wrong w.right
       | inr end ↦ elim end.1.bad [ inl long ↦ omega (arith, long, w.short) | inr more ↦ omega (arith, more, w.end) ]
     ]
 
-only_short : (R H : Type 0) (p : Places) (bytes : List ℕ) (section : Section) → Short bytes section → (f : LayoutError) → IsFault R H p bytes f → Truncated section ≡ f
+only_short : (R H : Type 0) (p : Offsets) (bytes : List ℕ) (section : Section) → Short bytes section → (f : LayoutError) → IsFault R H p bytes f → Truncated section ≡ f
 only_short R H p bytes section h BadParameters f = absurd f
 only_short R H p bytes section h TooLarge f = absurd f
 only_short R H p bytes section h TooManySegments f = absurd f
@@ -53,18 +53,18 @@ only_short R H p bytes section h (Truncated other) f =
 only_short R H p bytes section h BadShareHashes f = absurd (short_version p.layout bytes h.0 f.0.version)
 only_short R H p bytes section h WriterFault f = absurd f
 
-only_lack : (R H : Type 0) (p : Places) (bytes : List ℕ) (section : Section) → Lack R p bytes section → (f : LayoutError) → IsFault R H p bytes f → Truncated section ≡ f
+only_lack : (R H : Type 0) (p : Offsets) (bytes : List ℕ) (section : Section) → Lack R p bytes section → (f : LayoutError) → IsFault R H p bytes f → Truncated section ≡ f
 only_lack R H p bytes section h BadParameters f = absurd f
 only_lack R H p bytes section h TooLarge f = absurd f
 only_lack R H p bytes section h TooManySegments f = absurd f
 only_lack R H p bytes section h BadVersion f = absurd (f.other h.0.version.version)
-only_lack R H p bytes section h BadOffset f = absurd (lack_places R p bytes h.0 f)
+only_lack R H p bytes section h BadOffset f = absurd (lack_offsets R p bytes h.0 f)
 only_lack R H p bytes section h (Truncated other) f =
     elim f [ inl short ↦ absurd (short_version p.layout bytes short.0 h.0.version) | inr lacks ↦ ap Truncated (h.1 ∙ sym lacks.1) ]
 only_lack R H p bytes section h BadShareHashes f = absurd (lack_whole R p bytes h.0 f.0)
 only_lack R H p bytes section h WriterFault f = absurd f
 
-only_version : (R H : Type 0) (p : Places) (bytes : List ℕ) → HasOtherVersion p.layout bytes → (f : LayoutError) → IsFault R H p bytes f → BadVersion ≡ f
+only_version : (R H : Type 0) (p : Offsets) (bytes : List ℕ) → HasOtherVersion p.layout bytes → (f : LayoutError) → IsFault R H p bytes f → BadVersion ≡ f
 only_version R H p bytes h BadParameters f = absurd f
 only_version R H p bytes h TooLarge f = absurd f
 only_version R H p bytes h TooManySegments f = absurd f
@@ -75,54 +75,54 @@ only_version R H p bytes h (Truncated other) f =
 only_version R H p bytes h BadShareHashes f = absurd (h.other f.0.version.version)
 only_version R H p bytes h WriterFault f = absurd f
 
-only_places : (R H : Type 0) (p : Places) (bytes : List ℕ) → OtherPlaces R p bytes → (f : LayoutError) → IsFault R H p bytes f → BadOffset ≡ f
-only_places R H p bytes h BadParameters f = absurd f
-only_places R H p bytes h TooLarge f = absurd f
-only_places R H p bytes h TooManySegments f = absurd f
-only_places R H p bytes h BadVersion f = absurd (f.other h.0.version)
-only_places R H p bytes h BadOffset f = refl
-only_places R H p bytes h (Truncated other) f =
-    elim f [ inl short ↦ absurd (short_version p.layout bytes short.0 h.0) | inr lacks ↦ absurd (lack_places R p bytes lacks.0 h) ]
-only_places R H p bytes h BadShareHashes f = absurd (places_whole R p bytes h f.0)
-only_places R H p bytes h WriterFault f = absurd f
+only_offsets : (R H : Type 0) (p : Offsets) (bytes : List ℕ) → OtherOffsets R p bytes → (f : LayoutError) → IsFault R H p bytes f → BadOffset ≡ f
+only_offsets R H p bytes h BadParameters f = absurd f
+only_offsets R H p bytes h TooLarge f = absurd f
+only_offsets R H p bytes h TooManySegments f = absurd f
+only_offsets R H p bytes h BadVersion f = absurd (f.other h.0.version)
+only_offsets R H p bytes h BadOffset f = refl
+only_offsets R H p bytes h (Truncated other) f =
+    elim f [ inl short ↦ absurd (short_version p.layout bytes short.0 h.0) | inr lacks ↦ absurd (lack_offsets R p bytes lacks.0 h) ]
+only_offsets R H p bytes h BadShareHashes f = absurd (offsets_whole R p bytes h f.0)
+only_offsets R H p bytes h WriterFault f = absurd f
 
-only_hashes : (R H : Type 0) (p : Places) (bytes : List ℕ) → IsWhole R p bytes × ¬ H → (f : LayoutError) → IsFault R H p bytes f → BadShareHashes ≡ f
+only_hashes : (R H : Type 0) (p : Offsets) (bytes : List ℕ) → IsWhole R p bytes × ¬ H → (f : LayoutError) → IsFault R H p bytes f → BadShareHashes ≡ f
 only_hashes R H p bytes h BadParameters f = absurd f
 only_hashes R H p bytes h TooLarge f = absurd f
 only_hashes R H p bytes h TooManySegments f = absurd f
 only_hashes R H p bytes h BadVersion f = absurd (f.other h.0.version.version)
-only_hashes R H p bytes h BadOffset f = absurd (places_whole R p bytes f h.0)
+only_hashes R H p bytes h BadOffset f = absurd (offsets_whole R p bytes f h.0)
 only_hashes R H p bytes h (Truncated other) f =
     elim f [ inl short ↦ absurd (short_version p.layout bytes short.0 h.0.version) | inr lacks ↦ absurd (lack_whole R p bytes lacks.0 h.0) ]
 only_hashes R H p bytes h BadShareHashes f = refl
 only_hashes R H p bytes h WriterFault f = absurd f
 
 -- one fault comes first
-pub one_fault : (R H : Type 0) (p : Places) (bytes : List ℕ) (e f : LayoutError) → IsFault R H p bytes e → IsFault R H p bytes f → e ≡ f
+pub one_fault : (R H : Type 0) (p : Offsets) (bytes : List ℕ) (e f : LayoutError) → IsFault R H p bytes e → IsFault R H p bytes f → e ≡ f
 one_fault R H p bytes BadParameters f h g = absurd h
 one_fault R H p bytes TooLarge f h g = absurd h
 one_fault R H p bytes TooManySegments f h g = absurd h
 one_fault R H p bytes BadVersion f h g = only_version R H p bytes h f g
-one_fault R H p bytes BadOffset f h g = only_places R H p bytes h f g
+one_fault R H p bytes BadOffset f h g = only_offsets R H p bytes h f g
 one_fault R H p bytes (Truncated section) f h g =
     elim h [ inl short ↦ only_short R H p bytes section short f g | inr lacks ↦ only_lack R H p bytes section lacks f g ]
 one_fault R H p bytes BadShareHashes f h g = only_hashes R H p bytes h f g
 one_fault R H p bytes WriterFault f h g = absurd h
 
 -- bytes in which all is right have no fault
-pub no_fault : (R H : Type 0) (p : Places) (bytes : List ℕ) → IsWhole R p bytes → H → (e : LayoutError) → IsFault R H p bytes e → ⊥
+pub no_fault : (R H : Type 0) (p : Offsets) (bytes : List ℕ) → IsWhole R p bytes → H → (e : LayoutError) → IsFault R H p bytes e → ⊥
 no_fault R H p bytes w h BadParameters f = f
 no_fault R H p bytes w h TooLarge f = f
 no_fault R H p bytes w h TooManySegments f = f
 no_fault R H p bytes w h BadVersion f = f.other w.version.version
-no_fault R H p bytes w h BadOffset f = places_whole R p bytes f w
+no_fault R H p bytes w h BadOffset f = offsets_whole R p bytes f w
 no_fault R H p bytes w h (Truncated section) f =
     elim f [ inl short ↦ short_version p.layout bytes short.0 w.version | inr lacks ↦ lack_whole R p bytes lacks.0 w ]
 no_fault R H p bytes w h BadShareHashes f = f.1 h
 no_fault R H p bytes w h WriterFault f = f
 
 -- a fault behind a right header
-pub cut_fault : (R H : Type 0) (p : Places) (bytes : List ℕ) → HasVersion p.layout bytes → R → (e : LayoutError) → IsCutFault p bytes e → IsFault R H p bytes e
+pub cut_fault : (R H : Type 0) (p : Offsets) (bytes : List ℕ) → HasVersion p.layout bytes → R → (e : LayoutError) → IsCutFault p bytes e → IsFault R H p bytes e
 cut_fault R H p bytes v r BadParameters f = absurd f
 cut_fault R H p bytes v r TooLarge f = absurd f
 cut_fault R H p bytes v r TooManySegments f = absurd f
@@ -133,7 +133,7 @@ cut_fault R H p bytes v r BadShareHashes f = absurd f
 cut_fault R H p bytes v r WriterFault f = absurd f
 
 -- a fault of the header's length or version
-pub version_fault : (R H : Type 0) (p : Places) (bytes : List ℕ) (e : LayoutError) → IsVersionFault p.layout bytes e → IsFault R H p bytes e
+pub version_fault : (R H : Type 0) (p : Offsets) (bytes : List ℕ) (e : LayoutError) → IsVersionFault p.layout bytes e → IsFault R H p bytes e
 version_fault R H p bytes BadParameters f = absurd f
 version_fault R H p bytes TooLarge f = absurd f
 version_fault R H p bytes TooManySegments f = absurd f
@@ -156,9 +156,9 @@ header_fault bytes WriterFault f = absurd f
 
 pub one_header_fault : (bytes : List ℕ) (e f : LayoutError) → IsHeaderFault bytes e → IsHeaderFault bytes f → e ≡ f
 one_header_fault bytes e f h g =
-    one_fault (HasOwnPlaces bytes) (Unit {0}) (places_in bytes) bytes e f (header_fault bytes e h) (header_fault bytes f g)
+    one_fault (HasOwnOffsets bytes) (Unit {0}) (offsets_in bytes) bytes e f (header_fault bytes e h) (header_fault bytes f g)
 
-pub no_header_fault : (bytes : List ℕ) → HasVersion (layout_in bytes) bytes → HasOwnPlaces bytes → (e : LayoutError) → IsHeaderFault bytes e → ⊥
+pub no_header_fault : (bytes : List ℕ) → HasVersion (layout_in bytes) bytes → HasOwnOffsets bytes → (e : LayoutError) → IsHeaderFault bytes e → ⊥
 no_header_fault bytes v own BadParameters f = f
 no_header_fault bytes v own TooLarge f = f
 no_header_fault bytes v own TooManySegments f = f
@@ -168,7 +168,7 @@ no_header_fault bytes v own (Truncated section) f = short_version (layout_in byt
 no_header_fault bytes v own BadShareHashes f = f
 no_header_fault bytes v own WriterFault f = f
 
--- why a header tells no places, by its version first
+-- why a header tells no offsets, by its version first
 pub told_fault : (bytes : List ℕ) (e : LayoutError) → IsVersionFault (layout_in bytes) bytes e → IsHeaderFault bytes e
 told_fault bytes BadParameters f = absurd f
 told_fault bytes TooLarge f = absurd f

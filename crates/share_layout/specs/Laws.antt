@@ -2,9 +2,9 @@
 use Rattle.std.specs.Prelude.{◌≡◌, ℕ, ◌<◌, List, ◌++◌}
 use Rattle.merkle.specs.Tree.{height, needed_numbers}
 use Rattle.share_layout.specs.Geometry.{Geometry, IsGeometry}
-use Rattle.share_layout.specs.Layout.{header, layout_of, places_of}
+use Rattle.share_layout.specs.Layout.{header, layout_of, offsets_of}
 use Rattle.share_layout.specs.Share.{CarriesNumbers, HaveLengths, IsShare, Sections}
-use Rattle.share_layout.specs.Places.{HasOwnPlaces, HasVersion, LocatesUeb, places_in}
+use Rattle.share_layout.specs.Offsets.{HasOwnOffsets, HasVersion, LocatesUeb, offsets_in}
 use Rattle.share_layout.specs.Reading.{HasHeader}
 use Rattle.share_layout.specs.Writing.{ending}
 
@@ -13,10 +13,10 @@ abbrev pub HasOneReading : Type 0
 HasOneReading = (g : Geometry) (num other : ℕ) (bytes : List ℕ) (s t : Sections)
     → IsShare g num bytes s → IsShare g other bytes t → s ≡ t
 
--- bytes that begin with a geometry's header tell the geometry's places
-abbrev pub TellTheirPlaces : Type 0
-TellTheirPlaces = (g : Geometry) (bytes : List ℕ) → IsGeometry g → HasHeader g bytes
-    → HasVersion (layout_of g) bytes × HasOwnPlaces bytes × (places_in bytes ≡ places_of g)
+-- bytes that begin with a geometry's header tell the geometry's offsets
+abbrev pub TellTheirOffsets : Type 0
+TellTheirOffsets = (g : Geometry) (bytes : List ℕ) → IsGeometry g → HasHeader g bytes
+    → HasVersion (layout_of g) bytes × HasOwnOffsets bytes × (offsets_in bytes ≡ offsets_of g)
 
 -- a share's own header leads to its extension block
 abbrev pub LocateTheirBlocks : Type 0

@@ -5,7 +5,7 @@ use Rattle.std.specs.Int.{w32, w64, to_be_bytes, from_be_bytes}
 use Rattle.std.specs.List.{flat_map, list_all}
 use Rattle.share_layout.specs.declared.layout.Layout.{Layout}
 use Rattle.share_layout.specs.declared.layout.Layout.TheVariants.{One, Two}
-use Rattle.share_layout.specs.declared.places.Places.{Places}
+use Rattle.share_layout.specs.declared.offsets.Offsets.{Offsets}
 use Rattle.share_layout.specs.Geometry.{Geometry, block_size, hashes_size, share_data_size}
 use Rattle.share_layout.specs.Geometry.{tree_size}
 
@@ -33,9 +33,9 @@ abbrev pub number_in : Layout → List ℕ → ℕ
 number_in One bytes = from_be_bytes w32 bytes
 number_in Two bytes = from_be_bytes w64 bytes
 
--- the places of a share's sections, by their lengths: the blocks stand behind the header
-abbrev pub places_by : Layout → Geometry → Places
-places_by layout g = let unused = header_size layout + share_data_size g in record {
+-- the offsets of a share's sections, by their lengths: the blocks stand behind the header
+abbrev pub offsets_by : Layout → Geometry → Offsets
+offsets_by layout g = let unused = header_size layout + share_data_size g in record {
   layout = layout;
   unused = unused;
   ciphertext_tree = unused + tree_size g;
@@ -45,10 +45,10 @@ places_by layout g = let unused = header_size layout + share_data_size g in reco
 }
 
 -- the numbers of a header behind the version: the lengths of a block and of the data, and the
--- places of the six sections
+-- offsets of the six sections
 abbrev pub header_numbers : Layout → Geometry → List ℕ
 header_numbers layout g =
-    let p = places_by layout g in
+    let p = offsets_by layout g in
     block_size g ∷ share_data_size g ∷ header_size layout ∷ p.unused ∷ p.ciphertext_tree
     ∷ p.block_tree ∷ p.share_hashes ∷ p.extension_block ∷ []
 
@@ -63,9 +63,9 @@ abbrev pub layout_of : Geometry → Layout
 layout_of g =
     if list_all (λ number. nat_lt number (2 ^ 32)) (header_numbers One g) then One else Two
 
--- the places in the shares of a file with this geometry, and their header
-abbrev pub places_of : Geometry → Places
-places_of g = places_by (layout_of g) g
+-- the offsets in the shares of a file with this geometry, and their header
+abbrev pub offsets_of : Geometry → Offsets
+offsets_of g = offsets_by (layout_of g) g
 
 abbrev pub header : Geometry → List ℕ
 header g = header_by (layout_of g) g

@@ -3,7 +3,7 @@ pub mod Geometry
 pub mod Layout
 pub mod Pieces
 pub mod Share
-pub mod Places
+pub mod Offsets
 pub mod Error
 pub mod Reading
 pub mod Writing

@@ -10,17 +10,17 @@ use Rattle.share_layout.specs.Layout.{header, header_size, layout_of, spelled}
 pub record Writing : Type 0 where
   pub geometry : Geometry
   pub number : ℕ
-  pub place : ℕ
+  pub offset : ℕ
   pub failed : Bool
   pub contents : Option (List ℕ)
 
 -- what is written before the next bytes: the header, before the first
 abbrev pub beginning : Geometry → ℕ → List ℕ
-beginning g place = if place == 0 then header g else []
+beginning g offset = if offset == 0 then header g else []
 
 -- where the next bytes are written
-abbrev pub next_place : Geometry → ℕ → ℕ
-next_place g place = if place == 0 then header_size (layout_of g) else place
+abbrev pub next_offset : Geometry → ℕ → ℕ
+next_offset g offset = if offset == 0 then header_size (layout_of g) else offset
 
 -- how a share ends: with the extension block, behind its length
 abbrev pub ending : Geometry → List ℕ → List ℕ

@@ -12,7 +12,7 @@ pub enum Section {
     Header,
     /// The blocks, one for each segment.
     Data,
-    /// The place of a tree that is no longer used.
+    /// The section of a tree that is no longer used.
     Unused,
     /// The tree over the hashes of the ciphertext's segments.
     CiphertextTree,

@@ -13,7 +13,7 @@ ghost use Rattle.share_layout.specs.Pieces.{SegmentsArePieces, SegmentsHaveLengt
 
 use crate::error::LayoutError;
 use crate::layout::{Layout, spell};
-use crate::places::Places;
+use crate::offsets::Offsets;
 use merkle::height;
 use std::marker::Model;
 use ueb::{MAX_FILE_SIZE, MAX_SEGMENT_SIZE, MAX_SEGMENTS, MAX_SHARES};
@@ -240,7 +240,7 @@ impl Geometry {
     pub fn layout(&self) -> Layout
         ensures { result ≡ layout_of self.now }
     {
-        if Places::by(Layout::One, self).extension_block < 1 << 32 {
+        if Offsets::by(Layout::One, self).extension_block < 1 << 32 {
             Layout::One
         } else {
             Layout::Two
@@ -263,16 +263,16 @@ impl Geometry {
     fn header_numbers(&self, layout: Layout) -> [u64; 8]
         ensures { result ≡ header_numbers layout self.now }
     {
-        let places = Places::by(layout, self);
+        let offsets = Offsets::by(layout, self);
         [
             u64::from(self.block_size()),
             self.share_data_size(),
             layout.header_size() as u64,
-            places.unused,
-            places.ciphertext_tree,
-            places.block_tree,
-            places.share_hashes,
-            places.extension_block,
+            offsets.unused,
+            offsets.ciphertext_tree,
+            offsets.block_tree,
+            offsets.share_hashes,
+            offsets.extension_block,
         ]
     }
 }
@@ -297,8 +297,8 @@ fn spell_header(layout: Layout, numbers: [u64; 8], out: &mut [u8; 68])
     out[..4].copy_from_slice(&layout.version().to_be_bytes());
     let width = layout.width();
     for i in 0..8 {
-        let place = 4 + width * i;
-        spell(layout, numbers[i], &mut out[place..place + width]);
+        let offset = 4 + width * i;
+        spell(layout, numbers[i], &mut out[offset..offset + width]);
     }
 }
 

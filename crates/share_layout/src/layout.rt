@@ -1,7 +1,7 @@
 //! The two layouts of a share: the version and the width of the numbers behind it.
 
 ghost use Rattle.std.specs.Prelude.{◌≡◌, ◌+◌, ◌≤◌, length, nat_eq};
-ghost use Rattle.share_layout.specs.Places.{number_at};
+ghost use Rattle.share_layout.specs.Offsets.{number_at};
 ghost use Rattle.share_layout.specs.Layout.{spelled, width};
 
 /// A layout of a share. Its header is a version in four bytes and eight numbers, and the length of
@@ -16,7 +16,7 @@ pub enum Layout {
 
 impl Layout {
     ghost use Rattle.share_layout.specs.Layout.{header_size, version, width};
-    ghost use Rattle.share_layout.specs.Places.{layout_in};
+    ghost use Rattle.share_layout.specs.Offsets.{layout_in};
 
     /// The version, with which a share begins.
     pub fn version(self) -> u32
@@ -60,12 +60,12 @@ impl Layout {
     }
 }
 
-/// The number at a place of a share, in as many bytes as the layout gives it.
-pub fn number_at(layout: Layout, bytes: &[u8], place: usize) -> u64
-    requires { place + width layout ≤ length bytes.now }
-    ensures { result ≡ number_at layout bytes.now place }
+/// The number at an offset of a share, in as many bytes as the layout gives it.
+pub fn number_at(layout: Layout, bytes: &[u8], offset: usize) -> u64
+    requires { offset + width layout ≤ length bytes.now }
+    ensures { result ≡ number_at layout bytes.now offset }
 {
-    let n = &bytes[place..place + layout.width()];
+    let n = &bytes[offset..offset + layout.width()];
     match layout {
         Layout::One => u64::from(u32::from_be_bytes([n[0], n[1], n[2], n[3]])),
         Layout::Two => u64::from_be_bytes([n[0], n[1], n[2], n[3], n[4], n[5], n[6], n[7]]),

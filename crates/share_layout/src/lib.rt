@@ -8,14 +8,14 @@
 //! where a number does not fit four bytes.
 //!
 //! `ShareView` reads a share whose geometry is known, `locate_ueb` finds the extension block of one
-//! whose geometry is not, `Places` tells where the sections stand by a header alone, and
+//! whose geometry is not, `Offsets` tells where the sections stand by a header alone, and
 //! `ShareWriter` writes a share to any writer. Each refusal is the first fault.
 #![tactic(auto)]
 
 mod error;
 mod geometry;
 mod layout;
-mod places;
+mod offsets;
 mod reader;
 mod share_hashes;
 mod view;
@@ -24,9 +24,9 @@ mod writer;
 pub use error::{LayoutError, Section};
 pub use geometry::{Geometry, geometry_gives_itself, segments_are_pieces, segments_have_lengths};
 pub use layout::{Layout, number_at};
-pub use places::Places;
+pub use offsets::Offsets;
 pub use reader::{
-    has_header, headers_tell_their_places, locate_ueb, shares_have_one_reading,
+    has_header, headers_tell_their_offsets, locate_ueb, shares_have_one_reading,
     shares_locate_their_blocks,
 };
 pub use share_hashes::carries_numbers;

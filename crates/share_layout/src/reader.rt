@@ -3,22 +3,22 @@
 ghost use Rattle.std.specs.Prelude.{◌≡◌, ◌≤◌, ◌↔◌, ℕ, IsTrue, List, length, IfOk, MatchResult, Err};
 ghost use Rattle.share_layout.specs.Layout.{header_size};
 ghost use Rattle.share_layout.specs.Share.{IsShare, Sections};
-ghost use Rattle.share_layout.specs.Places.{AreRising, LocatesUeb};
-ghost use Rattle.share_layout.specs.Laws.{HasOneReading, LocateTheirBlocks, TellTheirPlaces};
+ghost use Rattle.share_layout.specs.Offsets.{AreRising, LocatesUeb};
+ghost use Rattle.share_layout.specs.Laws.{HasOneReading, LocateTheirBlocks, TellTheirOffsets};
 ghost use Rattle.share_layout.specs.Reading.{HasHeader, IsLocateFault, IsReadFault, sections_in};
 ghost use Rattle.share_layout.specs.Cutting.{IsCut, IsCutFault};
 
 use crate::error::{LayoutError, Section};
 use crate::geometry::Geometry;
 use crate::layout::number_at;
-use crate::places::{Places, check_version};
+use crate::offsets::{Offsets, check_version};
 use crate::share_hashes::carries_numbers;
 use crate::view::ShareView;
 use ueb::MAX_LENGTH;
 
-/// The extension block of a share, by the places that the share's own header tells.
+/// The extension block of a share, by the offsets that the share's own header tells.
 ///
-/// Otherwise the first fault in this order: those of `Places::read`; `BadOffset`, where the
+/// Otherwise the first fault in this order: those of `Offsets::read`; `BadOffset`, where the
 /// extension block's length is there and is over `ueb::MAX_LENGTH` or bytes follow the extension
 /// block; `Truncated` with the section that the first missing byte belongs to.
 pub fn locate_ueb(bytes: &[u8]) -> Result<&[u8], LayoutError>
@@ -38,7 +38,7 @@ impl<'a> ShareView<'a> {
     /// The sections of share `number` of a file with this geometry.
     ///
     /// Otherwise the first fault in this order: `Truncated(Header)`, a header being measured as by
-    /// `Places::read`; `BadVersion`, where the layout is not the geometry's; `BadOffset`, where a
+    /// `Offsets::read`; `BadVersion`, where the layout is not the geometry's; `BadOffset`, where a
     /// number in the header is not the geometry's, and where the extension block's length is there
     /// and is over `ueb::MAX_LENGTH` or bytes follow the extension block; `Truncated` with the
     /// section that the first missing byte belongs to; `BadShareHashes`, where the file has no such
@@ -68,10 +68,10 @@ pub fn shares_have_one_reading()
     ensures { HasOneReading }
 {}
 
-/// A law of the definitions: where bytes begin with the header of a geometry, `Places::read` gives
-/// the geometry's places. The law is the contract; the call does nothing.
-pub fn headers_tell_their_places()
-    ensures { TellTheirPlaces }
+/// A law of the definitions: where bytes begin with the header of a geometry, `Offsets::read` gives
+/// the geometry's offsets. The law is the contract; the call does nothing.
+pub fn headers_tell_their_offsets()
+    ensures { TellTheirOffsets }
 {}
 
 /// A law of the definitions: the header of a share leads to the share's extension block. The law is
@@ -85,11 +85,11 @@ fn locate(bytes: &[u8]) -> Result<&[u8], LayoutError>
     ensures { MatchResult result (λ block. LocatesUeb bytes.now block.now)
         (IsLocateFault bytes.now) }
 {
-    let places = match Places::read(bytes) {
-        Ok(places) => places,
+    let offsets = match Offsets::read(bytes) {
+        Ok(offsets) => offsets,
         Err(error) => return Err(error),
     };
-    match cut(bytes, places) {
+    match cut(bytes, offsets) {
         Ok(view) => Ok(view.extension_block),
         Err(error) => Err(error),
     }
@@ -110,7 +110,7 @@ fn read_share<'a>(
     if !has_header(bytes, geometry) {
         return Err(LayoutError::BadOffset);
     }
-    let view = match cut(bytes, Places::of(geometry)) {
+    let view = match cut(bytes, Offsets::of(geometry)) {
         Ok(view) => view,
         Err(error) => return Err(error),
     };
@@ -121,21 +121,21 @@ fn read_share<'a>(
     }
 }
 
-// The sections at some places behind a header, or the first fault. A place and a length that a
+// The sections at some offsets behind a header, or the first fault. An offset and a length that a
 // header tells may be near 2^64: what is there is compared with them by what is left of it.
-fn cut(bytes: &[u8], places: Places) -> Result<ShareView<'_>, LayoutError>
-    requires long { header_size places.layout ≤ length bytes.now }
-    requires rising { AreRising places }
-    ensures { MatchResult result (λ view. IsCut places bytes.now (sections_in view))
-        (IsCutFault places bytes.now) }
+fn cut(bytes: &[u8], offsets: Offsets) -> Result<ShareView<'_>, LayoutError>
+    requires long { header_size offsets.layout ≤ length bytes.now }
+    requires rising { AreRising offsets }
+    ensures { MatchResult result (λ view. IsCut offsets bytes.now (sections_in view))
+        (IsCutFault offsets bytes.now) }
 {
     let length = bytes.len() as u64;
-    let width = places.layout.width();
-    if length - (width as u64) < places.extension_block {
-        return Err(LayoutError::Truncated(places.section_at(length)));
+    let width = offsets.layout.width();
+    if length - (width as u64) < offsets.extension_block {
+        return Err(LayoutError::Truncated(offsets.section_at(length)));
     }
-    let block = places.extension_block as usize + width;
-    let told = number_at(places.layout, bytes, places.extension_block as usize);
+    let block = offsets.extension_block as usize + width;
+    let told = number_at(offsets.layout, bytes, offsets.extension_block as usize);
     let left = (bytes.len() - block) as u64;
     if told > MAX_LENGTH as u64 || left > told {
         return Err(LayoutError::BadOffset);
@@ -144,11 +144,11 @@ fn cut(bytes: &[u8], places: Places) -> Result<ShareView<'_>, LayoutError>
         return Err(LayoutError::Truncated(Section::Ueb));
     }
     Ok(ShareView {
-        blocks: &bytes[places.layout.header_size()..places.unused as usize],
-        unused: &bytes[places.unused as usize..places.ciphertext_tree as usize],
-        ciphertext_tree: &bytes[places.ciphertext_tree as usize..places.block_tree as usize],
-        block_tree: &bytes[places.block_tree as usize..places.share_hashes as usize],
-        share_hashes: &bytes[places.share_hashes as usize..places.extension_block as usize],
+        blocks: &bytes[offsets.layout.header_size()..offsets.unused as usize],
+        unused: &bytes[offsets.unused as usize..offsets.ciphertext_tree as usize],
+        ciphertext_tree: &bytes[offsets.ciphertext_tree as usize..offsets.block_tree as usize],
+        block_tree: &bytes[offsets.block_tree as usize..offsets.share_hashes as usize],
+        share_hashes: &bytes[offsets.share_hashes as usize..offsets.extension_block as usize],
         extension_block: &bytes[block..],
     })
 }

@@ -28,8 +28,8 @@ fn carry(hashes: &[u8], height: u32, leaf: u16) -> bool
     ensures { IsTrue result ↔ CarriesNumbers (needed_numbers height leaf) hashes.now }
 {
     let mut rest = hashes;
-    for place in 0..height + 1 {
-        let number = needed_number(height, u32::from(leaf), place);
+    for offset in 0..height + 1 {
+        let number = needed_number(height, u32::from(leaf), offset);
         if !has_number(rest, number as u16) {
             return false;
         }

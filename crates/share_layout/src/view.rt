@@ -5,7 +5,7 @@
 pub struct ShareView<'a> {
     /// The blocks, one for each segment: `Geometry::share_data_size` bytes.
     pub blocks: &'a [u8],
-    /// The place of a tree that is no longer used: `Geometry::tree_size` bytes.
+    /// The section of a tree that is no longer used: `Geometry::tree_size` bytes.
     pub unused: &'a [u8],
     /// The nodes of the tree over the hashes of the ciphertext's segments, 32 bytes each:
     /// `Geometry::tree_size` bytes.

@@ -4,14 +4,14 @@ ghost use Rattle.std.specs.Prelude.{◌≡◌, ◌<◌, ◌≤◌, ◌+◌, ◌^
 ghost use Rattle.std.specs.Prelude.{IsOkUnless, OnOk, OnErr, length, take};
 ghost use Rattle.std.specs.Io.KnownBytes.{Appends};
 ghost use Rattle.ueb.specs.Limits.{max_length};
-ghost use Rattle.share_layout.specs.Layout.{layout_of, places_of, spelled};
+ghost use Rattle.share_layout.specs.Layout.{layout_of, offsets_of, spelled};
 ghost use Rattle.share_layout.specs.Laws.{SectionsMakeShare};
-ghost use Rattle.share_layout.specs.Writing.{AppendsBeginning, beginning, ending, next_place};
+ghost use Rattle.share_layout.specs.Writing.{AppendsBeginning, beginning, ending, next_offset};
 
 use crate::error::LayoutError;
 use crate::geometry::Geometry;
 use crate::layout::spell;
-use crate::places::Places;
+use crate::offsets::Offsets;
 use std::io::{ErrorKind, Write};
 use std::marker::Model;
 
@@ -23,7 +23,7 @@ pub struct ShareWriter<W: Write> {
     geometry: Geometry,
     number: u16,
     // How many bytes of the share are written.
-    place: u64,
+    offset: u64,
     failed: bool,
 }
 
@@ -35,7 +35,7 @@ impl<W: Write> Model for ShareWriter<W> {
     ghost view = { λ s. record {
       geometry = s.geometry;
       number = s.number;
-      place = s.place;
+      offset = s.offset;
       failed = s.failed;
       contents = W.contents s.writer;
     } };
@@ -47,7 +47,7 @@ impl<W: Write> ShareWriter<W> {
         ensures { result ≡ record {
           geometry = geometry.now;
           number = number;
-          place = 0;
+          offset = 0;
           failed = false;
           contents = W.contents writer;
         } }
@@ -56,7 +56,7 @@ impl<W: Write> ShareWriter<W> {
             writer,
             geometry: *geometry,
             number,
-            place: 0,
+            offset: 0,
             failed: false,
         }
     }
@@ -69,17 +69,17 @@ impl<W: Write> ShareWriter<W> {
     /// answer `WriterFault`, and those write nothing.
     pub fn put(&mut self, bytes: &[u8]) -> Result<(), LayoutError>
         requires room { self.old.failed ≡ false
-            → next_place self.old.geometry self.old.place + length bytes.now
-            ≤ (places_of self.old.geometry).extension_block }
+            → next_offset self.old.geometry self.old.offset + length bytes.now
+            ≤ (offsets_of self.old.geometry).extension_block }
         ensures written { OnOk result (Appends self.old.contents self.new.contents
-            (beginning self.old.geometry self.old.place ++ bytes.now)) }
+            (beginning self.old.geometry self.old.offset ++ bytes.now)) }
         ensures ok { OnOk result (self.new ≡ record self.old {
-          place = next_place self.old.geometry self.old.place + length bytes.now;
+          offset = next_offset self.old.geometry self.old.offset + length bytes.now;
           contents = self.new.contents;
         }) }
         ensures refused { IsOkUnless result LayoutError.WriterFault }
         ensures begun { OnErr result (AppendsBeginning self.old.contents self.new.contents
-            (beginning self.old.geometry self.old.place ++ bytes.now)) }
+            (beginning self.old.geometry self.old.offset ++ bytes.now)) }
         ensures err { OnErr result (self.new ≡ record self.old {
           failed = true;
           contents = self.new.contents;
@@ -91,12 +91,12 @@ impl<W: Write> ShareWriter<W> {
             return Err(LayoutError::WriterFault);
         }
         let mut header = [0; 68];
-        let length = spell_beginning(&self.geometry, self.place, &mut header);
+        let length = spell_beginning(&self.geometry, self.offset, &mut header);
         if write_both(&mut self.writer, &header[..length], bytes).is_err() {
             self.failed = true;
             return Err(LayoutError::WriterFault);
         }
-        self.place += (length + bytes.len()) as u64;
+        self.offset += (length + bytes.len()) as u64;
         Ok(())
     }
 
@@ -105,12 +105,12 @@ impl<W: Write> ShareWriter<W> {
     /// Where the writer fails, as `put` does.
     pub fn put_extension_block(&mut self, extension_block: &[u8]) -> Result<(), LayoutError>
         requires last { self.old.failed ≡ false
-            → self.old.place ≡ (places_of self.old.geometry).extension_block }
+            → self.old.offset ≡ (offsets_of self.old.geometry).extension_block }
         requires short { self.old.failed ≡ false → length extension_block.now ≤ max_length }
         ensures written { OnOk result (Appends self.old.contents self.new.contents
             (ending self.old.geometry extension_block.now)) }
         ensures ok { OnOk result (self.new ≡ record self.old {
-          place = self.old.place + length (ending self.old.geometry extension_block.now);
+          offset = self.old.offset + length (ending self.old.geometry extension_block.now);
           contents = self.new.contents;
         }) }
         ensures refused { IsOkUnless result LayoutError.WriterFault }
@@ -132,7 +132,7 @@ impl<W: Write> ShareWriter<W> {
             self.failed = true;
             return Err(LayoutError::WriterFault);
         }
-        self.place += (width + extension_block.len()) as u64;
+        self.offset += (width + extension_block.len()) as u64;
         Ok(())
     }
 
@@ -165,23 +165,23 @@ pub fn sections_make_a_share()
 {}
 
 // What is written before the next bytes, over the first bytes of `out`, and its length.
-fn spell_beginning(geometry: &Geometry, place: u64, out: &mut [u8; 68]) -> usize
-    ensures text { take result out.new ≡ beginning geometry.now place }
-    ensures length { next_place geometry.now place ≡ place + result }
+fn spell_beginning(geometry: &Geometry, offset: u64, out: &mut [u8; 68]) -> usize
+    ensures text { take result out.new ≡ beginning geometry.now offset }
+    ensures length { next_offset geometry.now offset ≡ offset + result }
     ensures range { result ≤ 68 }
-    ensures small { (places_of geometry.now).extension_block < 2 ^ 41 }
+    ensures small { (offsets_of geometry.now).extension_block < 2 ^ 41 }
 {
-    let _ = Places::of(geometry);
-    if place == 0 { geometry.header(out) } else { 0 }
+    let _ = Offsets::of(geometry);
+    if offset == 0 { geometry.header(out) } else { 0 }
 }
 
 // A number of the geometry's layout, over the first bytes of `out`, and its length.
 fn spell_length(geometry: &Geometry, number: u64, out: &mut [u8; 8]) -> usize
     ensures text { take result out.new ≡ spelled (layout_of geometry.now) number }
     ensures range { result ≤ 8 }
-    ensures small { (places_of geometry.now).extension_block < 2 ^ 41 }
+    ensures small { (offsets_of geometry.now).extension_block < 2 ^ 41 }
 {
-    let layout = Places::of(geometry).layout;
+    let layout = Offsets::of(geometry).layout;
     let width = layout.width();
     spell(layout, number, &mut out[..width]);
     width

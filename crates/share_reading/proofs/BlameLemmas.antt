@@ -15,13 +15,13 @@ use Rattle.ueb.specs.Shape.{Contents}
 use Rattle.share_layout.specs.Geometry.{Geometry, IsGeometry}
 use Rattle.share_layout.specs.declared.layout.Layout.{Layout}
 use Rattle.share_layout.specs.declared.layout.Layout.TheVariants.{One, Two}
-use Rattle.share_layout.specs.declared.places.Places.{Places}
-use Rattle.share_layout.specs.Layout.{header_size, layout_of, number_in, places_by, places_of, version, width}
-use Rattle.share_layout.specs.Places.{AreRising, LocatesUeb, extension_length, header_number, layout_in, number_at, places_in}
+use Rattle.share_layout.specs.declared.offsets.Offsets.{Offsets}
+use Rattle.share_layout.specs.Layout.{header_size, layout_of, number_in, offsets_by, offsets_of, version, width}
+use Rattle.share_layout.specs.Offsets.{AreRising, LocatesUeb, extension_length, header_number, layout_in, number_at, offsets_in}
 use Rattle.share_layout.specs.Reading.{HasHeader}
 use Rattle.share_layout.specs.Share.{Sections}
 use Rattle.share_layout.proofs.LayoutLemmas.{inside_header}
-use Rattle.share_layout.proofs.LawLemmas.{HaveBounds, have_bounds, tells_places}
+use Rattle.share_layout.proofs.LawLemmas.{HaveBounds, have_bounds, tells_offsets}
 use Rattle.share_layout.proofs.ShareLemmas.{located_tail, located_whole, parts_of}
 use Rattle.share_layout.proofs.Verdicts.{no_header_fault}
 use Rattle.share_verify.specs.CapBlock.{IsUebFor, geometry_by}
@@ -31,7 +31,7 @@ use Rattle.share_verify.specs.declared.fault.ShareFault.{ShareFault}
 use Rattle.share_verify.specs.declared.fault.ShareFault.TheVariants as faults
 use Rattle.share_verify.proofs.Faults.{first_fails, one_contents}
 use Rattle.share_verify.proofs.GeometryOfUeb.{is_geometry}
-use Rattle.share_reading.specs.Header.{IsReachable, TellsPlaces}
+use Rattle.share_reading.specs.Header.{IsReachable, TellsOffsets}
 use Rattle.share_reading.specs.Opening.{text_of}
 use Rattle.share_reading.specs.OpeningReads.{Brought, IsHeaderBy}
 use Rattle.share_reading.specs.Refusal.{IsBlockRefusal, IsHeaderRefusal, IsLengthRefusal, check_of}
@@ -56,7 +56,7 @@ pub record Begins (head share : List ℕ) : Type 0 where
   pub long : length head ≡ header_size (layout_in share)
   pub text : head ≡ take (header_size (layout_in share)) share
   pub number : (i : ℕ) → i < 8 → header_number head i ≡ header_number share i
-  pub places : places_in head ≡ places_in share
+  pub offsets : offsets_in head ≡ offsets_in share
 
 begins : (head share : List ℕ) → length head ≡ header_size (layout_in head) → head ≡ take (length head) share → Begins head share
 begins head share long text =
@@ -73,7 +73,7 @@ begins head share long text =
       long = long ∙ ap header_size layout;
       text = front ∙ ap (λ l. take (header_size l) share) layout;
       number = number;
-      places = λ i. record {
+      offsets = λ i. record {
         layout = layout i;
         unused = number 3 (omega arith) i;
         ciphertext_tree = number 4 (omega arith) i;
@@ -87,17 +87,17 @@ begins head share long text =
     low One = omega arith
     low Two = omega arith
 
--- the header of a share that is located tells its places
-tells : (head share block : List ℕ) → Begins head share → LocatesUeb share block → TellsPlaces head
+-- the header of a share that is located tells its offsets
+tells : (head share block : List ℕ) → Begins head share → LocatesUeb share block → TellsOffsets head
 tells head share block b located = record {
   version = record {
     long = omega (arith, b.long, ap header_size b.layout);
     version = ap (take 4) b.text ∙ take-take 4 (header_size (layout_in share)) share (low (layout_in share))
         ∙ located.version.version ∙ ap (λ l. to_be_bytes w32 (version l)) (sym b.layout);
   };
-  places = record {
-    data_place = b.number 2 (omega arith) ∙ located.places.data_place ∙ ap header_size (sym b.layout);
-    rising = subst AreRising (sym b.places) located.places.rising;
+  offsets = record {
+    data_offset = b.number 2 (omega arith) ∙ located.offsets.data_offset ∙ ap header_size (sym b.layout);
+    rising = subst AreRising (sym b.offsets) located.offsets.rising;
   };
 }
   where
@@ -108,11 +108,11 @@ tells head share block b located = record {
 -- what is known of a share that reads as one of the cap's file
 pub record Known (u : Contents) (share : List ℕ) : Type 0 where
   pub header : HasHeader (geometry_by u) share
-  pub places : places_in share ≡ places_of (geometry_by u)
+  pub offsets : offsets_in share ≡ offsets_of (geometry_by u)
   pub layout : layout_in share ≡ layout_of (geometry_by u)
-  pub reachable : IsReachable (places_in share)
+  pub reachable : IsReachable (offsets_in share)
 
-reaches : (g : Geometry) → HaveBounds g → (l : Layout) → IsReachable (places_by l g)
+reaches : (g : Geometry) → HaveBounds g → (l : Layout) → IsReachable (offsets_by l g)
 reaches g b One = omega (arith, b.few_blocks, b.few_nodes, b.few_hashes)
 reaches g b Two = omega (arith, b.few_blocks, b.few_nodes, b.few_hashes)
 
@@ -121,12 +121,12 @@ known cap num share u s reads =
     let g = geometry_by u in
     let valid : IsGeometry g = is_geometry u reads.ueb.grammar.contents in
     let own : HasHeader g share = (parts_of g share s reads.layout.text reads.layout.lengths).header in
-    let told = tells_places g share valid own in
-    let reach : IsReachable (places_of g) = reaches g (have_bounds g valid) (layout_of g) in
+    let told = tells_offsets g share valid own in
+    let reach : IsReachable (offsets_of g) = reaches g (have_bounds g valid) (layout_of g) in
     record {
       header = own;
-      places = told.2;
-      layout = ap (λ (p : Places). p.layout) told.2;
+      offsets = told.2;
+      layout = ap (λ (p : Offsets). p.layout) told.2;
       reachable = subst IsReachable (sym told.2) reach;
     }
 
@@ -145,10 +145,10 @@ text_begins Two reads share text long led has =
     has _ led.1 ∙ ap (λ n. take n (drop 36 share)) (let f : length (drop 36 text) ≡ 32 = omega (arith, length-drop 36 text, long) in f) in
     sym (take-append-drop 36 text) ∙ (λ i. first i ++ rest i) ∙ sym (take-add 36 32 share) ∙ ap (λ n. take n share) (sym long)
 
-pub header_begins : (reads : List Brought) (share : List ℕ) (h : ShareHeader) → IsHeaderBy reads h.places.layout (text_of h) → HasReads reads share → Begins (text_of h) share
+pub header_begins : (reads : List Brought) (share : List ℕ) (h : ShareHeader) → IsHeaderBy reads h.offsets.layout (text_of h) → HasReads reads share → Begins (text_of h) share
 header_begins reads share h led has =
-    let same : h.places.layout ≡ layout_in (text_of h) = ap (λ (p : Places). p.layout) h.right.places in
-    begins (text_of h) share (length-text_of h ∙ ap header_size same) (text_begins h.places.layout reads share (text_of h) (length-text_of h) led has)
+    let same : h.offsets.layout ≡ layout_in (text_of h) = ap (λ (p : Offsets). p.layout) h.right.offsets in
+    begins (text_of h) share (length-text_of h ∙ ap header_size same) (text_begins h.offsets.layout reads share (text_of h) (length-text_of h) led has)
 
 -- each refusal of a header
 header_fails : (cap : VerifyCapValue) (num : ℕ) (share head : List ℕ) (error : OpeningError) → length head ≡ header_size (layout_in head)
@@ -156,9 +156,9 @@ header_fails : (cap : VerifyCapValue) (num : ℕ) (share head : List ℕ) (error
 header_fails cap num share head errors.OtherLength long is held pass = held
 header_fails cap num share head (errors.Header e) long is held pass =
     let t = tells head share pass.1.extension_block (begins head share long is) pass.2.located in
-    no_header_fault head t.version t.places e held
+    no_header_fault head t.version t.offsets e held
 header_fails cap num share head errors.TooFar long is held pass =
-    held.1 (subst IsReachable (sym (begins head share long is).places) (known cap num share pass.0 pass.1 pass.2).reachable)
+    held.1 (subst IsReachable (sym (begins head share long is).offsets) (known cap num share pass.0 pass.1 pass.2).reachable)
 header_fails cap num share head errors.TooLong long is held pass = held
 header_fails cap num share head errors.NoBlock long is held pass = held
 header_fails cap num share head (errors.Ueb f) long is held pass = held
@@ -178,17 +178,17 @@ no_empty block u is none = empty is.fields is.are_fields.rising (is.known Size) 
         let some : 0 < length (fields_text (f ∷ fields)) = behind f.key _ _ rising.0.some in absurd (omega (arith, some, none))
 
 -- the length of the extension block that was read is the share's
-pub told_length : (share : List ℕ) (h : ShareHeader) (bytes : List ℕ) → Begins (text_of h) share → HasAt share h.places.extension_block bytes
-    → length bytes ≡ width h.places.layout → number_at h.places.layout bytes 0 ≡ extension_length (places_in share) share
+pub told_length : (share : List ℕ) (h : ShareHeader) (bytes : List ℕ) → Begins (text_of h) share → HasAt share h.offsets.extension_block bytes
+    → length bytes ≡ width h.offsets.layout → number_at h.offsets.layout bytes 0 ≡ extension_length (offsets_in share) share
 told_length share h bytes b has long =
-    let p : h.places ≡ places_in share = h.right.places ∙ b.places in
-    let l = h.places.layout in
+    let p : h.offsets ≡ offsets_in share = h.right.offsets ∙ b.offsets in
+    let l = h.offsets.layout in
     let w = width l in
-    ap (λ x. number_in l (take w x)) (has ∙ ap (λ n. take n (drop h.places.extension_block share)) long)
-    ∙ ap (number_in l) (take-take w w (drop h.places.extension_block share) (omega arith))
-    ∙ ap (λ (q : Places). extension_length q share) p
+    ap (λ x. number_in l (take w x)) (has ∙ ap (λ n. take n (drop h.offsets.extension_block share)) long)
+    ∙ ap (number_in l) (take-take w w (drop h.offsets.extension_block share) (omega arith))
+    ∙ ap (λ (q : Offsets). extension_length q share) p
 
-length_fails : (cap : VerifyCapValue) (num told : ℕ) (share : List ℕ) (error : OpeningError) → told ≡ extension_length (places_in share) share
+length_fails : (cap : VerifyCapValue) (num told : ℕ) (share : List ℕ) (error : OpeningError) → told ≡ extension_length (offsets_in share) share
     → IsLengthRefusal told error → Passes cap num share (check_of error) → ⊥
 length_fails cap num told share errors.OtherLength is held pass = held
 length_fails cap num told share (errors.Header e) is held pass = held
@@ -200,18 +200,18 @@ length_fails cap num told share errors.NoBlock is held pass =
 length_fails cap num told share (errors.Ueb f) is held pass = held
 length_fails cap num told share errors.OtherHeader is held pass = held
 
--- what stands at the extension block's place is it
+-- what stands at the extension block's offset is it
 same_bytes : (share bytes block : List ℕ) → LocatesUeb share block
-    → HasAt share ((places_in share).extension_block + width (layout_in share)) bytes
-    → length bytes ≡ extension_length (places_in share) share → block ≡ bytes
+    → HasAt share ((offsets_in share).extension_block + width (layout_in share)) bytes
+    → length bytes ≡ extension_length (offsets_in share) share → block ≡ bytes
 same_bytes share bytes block located has long =
     let t = located_tail share block located in
-    let place = (places_in share).extension_block + width (layout_in share) in
-    sym (has ∙ ap (λ n. take n (drop place share)) (long ∙ t.number) ∙ ap (take (length block)) (sym t.tail) ∙ take-length block)
+    let offset = (offsets_in share).extension_block + width (layout_in share) in
+    sym (has ∙ ap (λ n. take n (drop offset share)) (long ∙ t.number) ∙ ap (take (length block)) (sym t.tail) ∙ take-length block)
 
 block_fails : (cap : VerifyCapValue) (num : ℕ) (share head bytes : List ℕ) (error : OpeningError) → Begins head share
-    → HasAt share ((places_in share).extension_block + width (layout_in share)) bytes
-    → length bytes ≡ extension_length (places_in share) share
+    → HasAt share ((offsets_in share).extension_block + width (layout_in share)) bytes
+    → length bytes ≡ extension_length (offsets_in share) share
     → IsBlockRefusal cap head bytes error → Passes cap num share (check_of error) → ⊥
 block_fails cap num share head bytes errors.OtherLength b has long held pass = held
 block_fails cap num share head bytes (errors.Header e) b has long held pass = held
@@ -258,10 +258,10 @@ refused_fail cap num reads (Second start) share bytes error led has at long held
     ap layout_in text ∙ layout_take 68 share (omega arith) ∙ sym (layout_take 36 share (omega arith)) ∙ ap layout_in (sym first) ∙ start.second in
     header_fails cap num share head error (size ∙ ap header_size (sym layout)) (text ∙ ap (λ n. take n share) (sym size)) held pass
 refused_fail cap num reads (Header h) share bytes error led has at long held pass =
-    length_fails cap num (number_at h.places.layout bytes 0) share error (told_length share h bytes (header_begins reads share h led has) at long) held pass
+    length_fails cap num (number_at h.offsets.layout bytes 0) share error (told_length share h bytes (header_begins reads share h led has) at long) held pass
 refused_fail cap num reads (Block b) share bytes error led has at long held pass =
     let h = b.header in
     let head = header_begins reads share h led.0 has in
-    let p : h.places ≡ places_in share = h.right.places ∙ head.places in
-    let told : b.block_length ≡ extension_length (places_in share) share = led.1.number ∙ told_length share h led.1.bytes head (has _ led.1.read) led.1.long in
-    block_fails cap num share (text_of h) bytes error head (subst (λ (q : Places). HasAt share (q.extension_block + width q.layout) bytes) p at) (long ∙ told) held pass
+    let p : h.offsets ≡ offsets_in share = h.right.offsets ∙ head.offsets in
+    let told : b.block_length ≡ extension_length (offsets_in share) share = led.1.number ∙ told_length share h led.1.bytes head (has _ led.1.read) led.1.long in
+    block_fails cap num share (text_of h) bytes error head (subst (λ (q : Offsets). HasAt share (q.extension_block + width q.layout) bytes) p at) (long ∙ told) held pass

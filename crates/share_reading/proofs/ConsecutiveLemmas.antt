@@ -13,45 +13,45 @@ use Rattle.share_reading.specs.Whole.{AreConsecutive, AreOne, IsWhole, joined}
 
 -- ---- reads one after another
 
-pub push : (place end : ℕ) (reads : List Brought) (bytes : List ℕ) → AreConsecutive place reads end → AreConsecutive place (reads ++ (end, bytes) ∷ []) (end + length bytes)
-push place end [] bytes is = (sym is, ap (λ n. n + length bytes) is)
-push place end (read ∷ reads) bytes is = (is.0, push (place + length read.1) end reads bytes is.1)
+pub push : (offset end : ℕ) (reads : List Brought) (bytes : List ℕ) → AreConsecutive offset reads end → AreConsecutive offset (reads ++ (end, bytes) ∷ []) (end + length bytes)
+push offset end [] bytes is = (sym is, ap (λ n. n + length bytes) is)
+push offset end (read ∷ reads) bytes is = (is.0, push (offset + length read.1) end reads bytes is.1)
 
-pub append : (place middle end : ℕ) (reads more : List Brought) → AreConsecutive place reads middle → AreConsecutive middle more end → AreConsecutive place (reads ++ more) end
-append place middle end [] more is then = subst (λ n. AreConsecutive n more end) (sym is) then
-append place middle end (read ∷ reads) more is then = (is.0, append (place + length read.1) middle end reads more is.1 then)
+pub append : (offset middle end : ℕ) (reads more : List Brought) → AreConsecutive offset reads middle → AreConsecutive middle more end → AreConsecutive offset (reads ++ more) end
+append offset middle end [] more is then = subst (λ n. AreConsecutive n more end) (sym is) then
+append offset middle end (read ∷ reads) more is then = (is.0, append (offset + length read.1) middle end reads more is.1 then)
 
-pub rises : (place end : ℕ) (reads : List Brought) → AreConsecutive place reads end → place ≤ end
-rises place end [] is = omega (arith, is)
-rises place end (read ∷ reads) is = omega (arith, rises (place + length read.1) end reads is.1)
+pub rises : (offset end : ℕ) (reads : List Brought) → AreConsecutive offset reads end → offset ≤ end
+rises offset end [] is = omega (arith, is)
+rises offset end (read ∷ reads) is = omega (arith, rises (offset + length read.1) end reads is.1)
 
-pub inside : (place end : ℕ) (reads : List Brought) (read : Brought) → AreConsecutive place reads end → Contains reads read → (place ≤ read.0) × (read.0 + length read.1 ≤ end)
-inside place end [] read is at = absurd (contains_none read at)
-inside place end (first ∷ reads) read is at = elim (contains_cases first read reads at) [
+pub inside : (offset end : ℕ) (reads : List Brought) (read : Brought) → AreConsecutive offset reads end → Contains reads read → (offset ≤ read.0) × (read.0 + length read.1 ≤ end)
+inside offset end [] read is at = absurd (contains_none read at)
+inside offset end (first ∷ reads) read is at = elim (contains_cases first read reads at) [
   | inl same ↦
       let here : first.0 ≡ read.0 = ap (λ (r : Brought). r.0) same in
       let long : length first.1 ≡ length read.1 = ap (λ (r : Brought). length r.1) same in
-      let more = rises (place + length first.1) end reads is.1 in
+      let more = rises (offset + length first.1) end reads is.1 in
       (omega (arith, here, is.0), omega (arith, here, is.0, long, more))
   | inr later ↦
-      let rest = inside (place + length first.1) end reads read is.1 later in
+      let rest = inside (offset + length first.1) end reads read is.1 later in
       (omega (arith, rest.0), rest.1)
 ]
 
-pub covers : (place end : ℕ) (reads : List Brought) (at : ℕ) → AreConsecutive place reads end → place ≤ at → at < end
+pub covers : (offset end : ℕ) (reads : List Brought) (at : ℕ) → AreConsecutive offset reads end → offset ≤ at → at < end
     → (read : Brought) × Contains reads read × (read.0 ≤ at) × (at < read.0 + length read.1)
-covers place end [] at is low high = absurd (omega (arith, is, low, high))
-covers place end (first ∷ reads) at is low high = elim (cases_lt at (place + length first.1)) [
+covers offset end [] at is low high = absurd (omega (arith, is, low, high))
+covers offset end (first ∷ reads) at is low high = elim (cases_lt at (offset + length first.1)) [
   | inl lt ↦ (first, contains_head first reads, omega (arith, is.0, low), omega (arith, is.0, lt))
   | inr le ↦
-      let found = covers (place + length first.1) end reads at is.1 le high in
+      let found = covers (offset + length first.1) end reads at is.1 le high in
       (found.0, contains_tail first found.0 reads found.1, found.2, found.3)
 ]
 
-pub ends : (place end : ℕ) (reads : List Brought) → AreConsecutive place reads end → place + length (joined reads) ≡ end
-ends place end [] is = omega (arith, is)
-ends place end (read ∷ reads) is =
-    omega (arith, ends (place + length read.1) end reads is.1, length-append read.1 (joined reads))
+pub ends : (offset end : ℕ) (reads : List Brought) → AreConsecutive offset reads end → offset + length (joined reads) ≡ end
+ends offset end [] is = omega (arith, is)
+ends offset end (read ∷ reads) is =
+    omega (arith, ends (offset + length read.1) end reads is.1, length-append read.1 (joined reads))
 
 -- each of them is in what they bring, behind what stands before
 pub are_in : (front : List ℕ) (end : ℕ) (reads : List Brought) → AreConsecutive (length front) reads end → HasReads reads (front ++ joined reads)
@@ -74,17 +74,17 @@ are_in front end (first ∷ reads) is read at = elim (contains_cases first read 
 pub whole : (end : ℕ) (reads : List Brought) → AreConsecutive 0 reads end → IsWhole reads (joined reads)
 whole end reads is = record {
   has = are_in [] end reads is;
-  covered = λ place lt. covers 0 end reads place is (omega arith) (omega (arith, lt, ends 0 end reads is));
+  covered = λ offset lt. covers 0 end reads offset is (omega arith) (omega (arith, lt, ends 0 end reads is));
 }
 
 -- ---- what two shares have that were read whole by the same reads
 
-fits : (share : List ℕ) (place : ℕ) (bytes : List ℕ) → HasAt share place bytes → length bytes ≤ length share - place
-fits share place bytes has = omega (arith, ap length has, length-take (length bytes) (drop place share), length-drop place share)
+fits : (share : List ℕ) (offset : ℕ) (bytes : List ℕ) → HasAt share offset bytes → length bytes ≤ length share - offset
+fits share offset bytes has = omega (arith, ap length has, length-take (length bytes) (drop offset share), length-drop offset share)
 
-byte_at : (share : List ℕ) (place : ℕ) (bytes : List ℕ) (i : ℕ) → HasAt share place bytes → i < length bytes → get_or share (place + i) 0 ≡ get_or bytes i 0
-byte_at share place bytes i has lt =
-    sym (ap (λ (b : List ℕ). get_or b i 0) has ∙ get_or-take (length bytes) (drop place share) i 0 lt ∙ get_or-drop place share i 0)
+byte_at : (share : List ℕ) (offset : ℕ) (bytes : List ℕ) (i : ℕ) → HasAt share offset bytes → i < length bytes → get_or share (offset + i) 0 ≡ get_or bytes i 0
+byte_at share offset bytes i has lt =
+    sym (ap (λ (b : List ℕ). get_or b i 0) has ∙ get_or-take (length bytes) (drop offset share) i 0 lt ∙ get_or-drop offset share i 0)
 
 no_longer : (reads : List Brought) (share other : List ℕ) → IsWhole reads share → IsWhole reads other → length other ≤ length share
 no_longer reads share other one two = elim (cases_lt (length share) (length other)) [
@@ -102,9 +102,9 @@ are_one reads share other one two =
     same i lt =
         let found = one.covered i lt in
         let offset = i - found.0.0 in
-        let place : found.0.0 + offset ≡ i = omega (arith, found.2) in
+        let position : found.0.0 + offset ≡ i = omega (arith, found.2) in
         let inside : offset < length found.0.1 = omega (arith, found.2, found.3) in
-        ap (λ n. get_or share n 0) (sym place)
+        ap (λ n. get_or share n 0) (sym position)
         ∙ byte_at share found.0.0 found.0.1 offset (one.has found.0 found.1) inside
         ∙ sym (byte_at other found.0.0 found.0.1 offset (two.has found.0 found.1) inside)
-        ∙ ap (λ n. get_or other n 0) place
+        ∙ ap (λ n. get_or other n 0) position

@@ -7,9 +7,9 @@ use Rattle.cap_text.specs.Cap.{VerifyCapValue}
 use Rattle.ueb.specs.Shape.{Contents}
 use Rattle.share_layout.specs.Geometry.{Geometry, block_size}
 use Rattle.share_layout.specs.declared.layout.Layout.{Layout}
-use Rattle.share_layout.specs.declared.places.Places.{Places}
-use Rattle.share_layout.specs.Layout.{header, header_size, layout_of, number_in, places_of, spelled, width}
-use Rattle.share_layout.specs.Places.{number_at}
+use Rattle.share_layout.specs.declared.offsets.Offsets.{Offsets}
+use Rattle.share_layout.specs.Layout.{header, header_size, layout_of, number_in, offsets_of, spelled, width}
+use Rattle.share_layout.specs.Offsets.{number_at}
 use Rattle.share_layout.specs.Reading.{HasHeader}
 use Rattle.share_layout.proofs.LayoutLemmas.{length-header, spelled_again}
 use Rattle.share_verify.specs.CapBlock.{IsUebFor, geometry_by}
@@ -28,7 +28,7 @@ use Rattle.share_reading.specs.declared.opening.Opening.TheVariants.{Start, Seco
 use Rattle.share_reading.specs.declared.opening.Progress.TheVariants as progress
 use Rattle.share_reading.proofs.BlameLemmas.{text_begins}
 use Rattle.share_reading.proofs.ReadLemmas.{length-text_of}
-use Rattle.share_reading.specs.Reading.{Advances, next_place}
+use Rattle.share_reading.specs.Reading.{Advances, next_offset}
 use Rattle.share_reading.specs.Reads.{HasHeaderBy, IsReadBy, more_back, more_front}
 use Rattle.share_reading.specs.Judged.{GoesOn, HasJudged, HasRest, IsAtEnd, IsVerdictOn}
 use Rattle.share_reading.specs.Verdict.{IsJudged}
@@ -41,7 +41,7 @@ use Rattle.share_reading.specs.declared.rest.Rest.{Rest}
 use Rattle.share_reading.specs.declared.verdict.Verdict.{Verdict}
 use Rattle.share_reading.specs.declared.verdict.Verdict.TheVariants.{Good, Corrupt}
 use Rattle.share_reading.proofs.ConsecutiveLemmas.{ends, whole}
-use Rattle.share_reading.proofs.ReadingLemmas.{places_are}
+use Rattle.share_reading.proofs.ReadingLemmas.{offsets_are}
 
 -- ---- what reads brought, joined
 
@@ -52,8 +52,8 @@ joined_push reads b = flat_map-append (λ (read : Brought). read.1) reads (b ∷
 header_joined : (front : List Brought) (h : ShareHeader) → HasHeaderBy front h → joined front ≡ text_of h
 header_joined front h is =
     let all = joined front in
-    let long : length all ≡ header_size h.places.layout = omega (arith, ends 0 (header_size h.places.layout) front is.consecutive) in
-    let text = text_begins h.places.layout front all (text_of h) (length-text_of h) is.header (whole (header_size h.places.layout) front is.consecutive).has in
+    let long : length all ≡ header_size h.offsets.layout = omega (arith, ends 0 (header_size h.offsets.layout) front is.consecutive) in
+    let text = text_begins h.offsets.layout front all (text_of h) (length-text_of h) is.header (whole (header_size h.offsets.layout) front is.consecutive).has in
     sym (text ∙ take_all (length (text_of h)) all (omega (arith, long, length-text_of h)))
 
 -- a header of the length of its layout is the one of the file
@@ -85,10 +85,10 @@ judged_by cap num share (Ok x) v is of = subst (IsJudged cap num share) (sym of)
 judged_by cap num share (Err fault) v is of = subst (IsJudged cap num share) (sym of) (fault, is, refl)
 
 -- a share has bytes between its header and its extension block
-some_rest : (o : Opened) → o.places ≡ places_of o.geometry → o.places.extension_block ≤ header_size o.places.layout → ⊥
+some_rest : (o : Opened) → o.offsets ≡ offsets_of o.geometry → o.offsets.extension_block ≤ header_size o.offsets.layout → ⊥
 some_rest o is low =
-    let same : places_of o.geometry ≡ o.places = sym is in
-    let low_too = subst (λ (p : Places). p.extension_block ≤ header_size p.layout) is low in
+    let same : offsets_of o.geometry ≡ o.offsets = sym is in
+    let low_too = subst (λ (p : Offsets). p.extension_block ≤ header_size p.layout) is low in
     omega (arith, low_too)
 
 length_rest : (cap : VerifyCapValue) (front back : List Brought) (r : Rest) (j : Judging) (bytes : List ℕ) → IsReadBy cap front back (Remaining r) → (is : HasRest cap front back r j)
@@ -98,15 +98,15 @@ length_rest cap front back r j bytes led is a =
     let all = ends 0 r.next front led.before in
     let parts = ap length is.text ∙ length-append (header g) is.taken in
     let long = length-header (layout_of g) g in
-    let place = ap (λ (p : Places). p.extension_block) is.places in
-    omega (arith, all, parts, long, place, a.0, a.1, length-append is.taken bytes)
+    let offset = ap (λ (p : Offsets). p.extension_block) is.offsets in
+    omega (arith, all, parts, long, offset, a.0, a.1, length-append is.taken bytes)
 
 pub at_end : (cap : VerifyCapValue) (front back : List Brought) (reading : ShareReading) (bytes : List ℕ) (j : Judged) (of : Option Judging) → j.judging ≡ of → IsReadBy cap front back reading
     → HasJudged cap front back reading of → Advances cap reading bytes Whole → IsAtEnd j bytes
 at_end cap front back (Beginning Start) bytes j of some led is a = absurd a.1
 at_end cap front back (Beginning (Second s)) bytes j of some led is a = absurd a.1
 at_end cap front back (Beginning (Header h)) bytes j of some led is a = absurd a.1
-at_end cap front back (Beginning (Block b)) bytes j of some led is a = absurd (some_rest a.0 a.1.1.places a.2)
+at_end cap front back (Beginning (Block b)) bytes j of some led is a = absurd (some_rest a.0 a.1.1.offsets a.2)
 at_end cap front back (Remaining r) bytes j None some led is a = absurd is
 at_end cap front back (Remaining r) bytes j (Some judging) some led is a =
     record { judging = judging; some = some; u = is.u; taken = is.taken; has = is.has; whole = length_rest cap front back r judging bytes led is a }
@@ -127,7 +127,7 @@ pub judged_whole : (cap : VerifyCapValue) (num : ℕ) (front back : List Brought
 judged_whole cap num front back (Beginning Start) bytes j of v some is a verdict = absurd a.1
 judged_whole cap num front back (Beginning (Second s)) bytes j of v some is a verdict = absurd a.1
 judged_whole cap num front back (Beginning (Header h)) bytes j of v some is a verdict = absurd a.1
-judged_whole cap num front back (Beginning (Block b)) bytes j of v some is a verdict = absurd (some_rest a.0 a.1.1.places a.2)
+judged_whole cap num front back (Beginning (Block b)) bytes j of v some is a verdict = absurd (some_rest a.0 a.1.1.offsets a.2)
 judged_whole cap num front back (Remaining r) bytes j None v some is a verdict = absurd is
 judged_whole cap num front back (Remaining r) bytes j (Some judging) v some is a verdict =
     subst (λ (share : List ℕ). IsJudged cap num share v) (sym (rest_joined cap front back r judging bytes is))
@@ -148,13 +148,13 @@ goes_first old k reading rest bytes o is has =
 
 -- the rest begins
 first_rest : (cap : VerifyCapValue) (front back : List Brought) (b : PendingBlock) (bytes : List ℕ) (o : Opened) (r : Rest) (j : Judging)
-    → IsReadBy cap front back (Beginning (Block b)) → joined back ≡ spelled b.header.places.layout b.block_length
-    → opening.Advances cap (Block b) bytes (progress.Done o) → r.ueb ≡ o.ueb → r.places ≡ o.places → HasTaken j r.ueb []
-    → HasRest cap front (back ++ (next_place (Beginning (Block b)), bytes) ∷ []) r j
-first_rest cap front back b bytes o r j led spells ends ueb places has =
+    → IsReadBy cap front back (Beginning (Block b)) → joined back ≡ spelled b.header.offsets.layout b.block_length
+    → opening.Advances cap (Block b) bytes (progress.Done o) → r.ueb ≡ o.ueb → r.offsets ≡ o.offsets → HasTaken j r.ueb []
+    → HasRest cap front (back ++ (next_offset (Beginning (Block b)), bytes) ∷ []) r j
+first_rest cap front back b bytes o r j led spells ends ueb offsets has =
     let g = geometry_by o.ueb in
-    let told : b.header.places ≡ places_of g = places_are cap b.header bytes o ends.1 in
-    let layout : b.header.places.layout ≡ layout_of g = ap (λ (p : Places). p.layout) told in
+    let told : b.header.offsets ≡ offsets_of g = offsets_are cap b.header bytes o ends.1 in
+    let layout : b.header.offsets.layout ≡ layout_of g = ap (λ (p : Offsets). p.layout) told in
     let own : HasHeader g (text_of b.header) = subst (λ (h : Geometry). HasHeader h (text_of b.header)) ends.1.geometry ends.1.header in
     let text : joined front ≡ header g =
     header_joined front b.header led.0 ∙ own_header g (text_of b.header) (length-text_of b.header ∙ ap header_size layout) own in
@@ -162,20 +162,20 @@ first_rest cap front back b bytes o r j led spells ends ueb places has =
       u = o.ueb;
       block = bytes;
       ueb = ends.1.ueb;
-      places = places ∙ ends.1.places ∙ ap places_of ends.1.geometry;
+      offsets = offsets ∙ ends.1.offsets ∙ ap offsets_of ends.1.geometry;
       taken = [];
       has = subst (λ (u : Contents). HasTaken j u []) ueb has;
       text = text ∙ sym (append-nil (header g));
-      end = joined_push back (next_place (Beginning (Block b)), bytes) ∙ ap (λ (l : List ℕ). l ++ bytes) (spells ∙ (λ i. spelled (layout i) (sym ends.0 i)));
+      end = joined_push back (next_offset (Beginning (Block b)), bytes) ∙ ap (λ (l : List ℕ). l ++ bytes) (spells ∙ (λ i. spelled (layout i) (sym ends.0 i)));
     }
 
-more_rest : (cap : VerifyCapValue) (front back : List Brought) (r s : Rest) (bytes : List ℕ) (j k : Judging) → (is : HasRest cap front back r j) → s.places ≡ r.places
+more_rest : (cap : VerifyCapValue) (front back : List Brought) (r s : Rest) (bytes : List ℕ) (j k : Judging) → (is : HasRest cap front back r j) → s.offsets ≡ r.offsets
     → ((u : Contents) (taken : List ℕ) → HasTaken j u taken → HasTaken k u (taken ++ bytes)) → HasRest cap (front ++ (r.next, bytes) ∷ []) back s k
-more_rest cap front back r s bytes j k is places takes = record {
+more_rest cap front back r s bytes j k is offsets takes = record {
   u = is.u;
   block = is.block;
   ueb = is.ueb;
-  places = places ∙ is.places;
+  offsets = offsets ∙ is.offsets;
   taken = is.taken ++ bytes;
   has = takes is.u is.taken is.has;
   text = joined_push front (r.next, bytes) ∙ ap (λ (l : List ℕ). l ++ bytes) is.text ∙ append_assoc (header (geometry_by is.u)) is.taken bytes;
@@ -184,14 +184,14 @@ more_rest cap front back r s bytes j k is places takes = record {
 
 block_judged : (cap : VerifyCapValue) (front back : List Brought) (h : ShareHeader) (b : PendingBlock) (bytes : List ℕ) (new : Option Judging) → ((i : ℕ) → get_or bytes i 0 < 256)
     → back ≡ [] → opening.Advances cap (Header h) bytes (progress.Next (Block b)) → new ≡ None
-    → HasJudged cap front (back ++ (h.places.extension_block, bytes) ∷ []) (Beginning (Block b)) new
+    → HasJudged cap front (back ++ (h.offsets.extension_block, bytes) ∷ []) (Beginning (Block b)) new
 block_judged cap front back h b bytes new small none a is =
     let same : b.header ≡ h = a.1.0 in (
       is,
-      joined_push back (h.places.extension_block, bytes)
+      joined_push back (h.offsets.extension_block, bytes)
           ∙ ap (λ (l : List Brought). joined l ++ bytes) none
-          ∙ length_spelled h.places.layout bytes b.block_length a.0 small a.1.1
-          ∙ ap (λ (i : ShareHeader). spelled i.places.layout b.block_length) (sym same),
+          ∙ length_spelled h.offsets.layout bytes b.block_length a.0 small a.1.1
+          ∙ ap (λ (i : ShareHeader). spelled i.offsets.layout b.block_length) (sym same),
     )
 
 pub judged_on : (cap : VerifyCapValue) (front back : List Brought) (old new : ShareReading) (bytes : List ℕ) (of then : Option Judging) → ((i : ℕ) → get_or bytes i 0 < 256)
@@ -217,7 +217,7 @@ judged_on cap front back (Beginning Start) (Remaining r) bytes of then small led
 judged_on cap front back (Beginning (Second s)) (Remaining r) bytes of then small led is a goes = absurd a.1
 judged_on cap front back (Beginning (Header h)) (Remaining r) bytes of then small led is a goes = absurd a.1
 judged_on cap front back (Beginning (Block b)) (Remaining r) bytes None then small led is a goes =
-    subst (HasJudged cap front (back ++ (next_place (Beginning (Block b)), bytes) ∷ []) (Remaining r)) (sym goes.1)
+    subst (HasJudged cap front (back ++ (next_offset (Beginning (Block b)), bytes) ∷ []) (Remaining r)) (sym goes.1)
     (first_rest cap front back b bytes a.0 r goes.0 led is.1 a.1 a.2.0 a.2.1 goes.2)
 judged_on cap front back (Beginning (Block b)) (Remaining r) bytes (Some j) then small led is a goes = absurd (none-some j (sym is.0))
 judged_on cap front back (Remaining r) (Beginning o) bytes of then small led is a goes = absurd a

@@ -5,9 +5,9 @@ use Rattle.std.proofs.lemmas.List.{length-take}
 use Rattle.std.proofs.Math.Seq.{take-append_seam, drop-append_seam}
 use Rattle.share_layout.specs.declared.layout.Layout.{Layout}
 use Rattle.share_layout.specs.declared.layout.Layout.TheVariants.{One, Two}
-use Rattle.share_layout.specs.declared.places.Places.{Places}
+use Rattle.share_layout.specs.declared.offsets.Offsets.{Offsets}
 use Rattle.share_layout.specs.Layout.{header_size, width}
-use Rattle.share_layout.specs.Places.{layout_in}
+use Rattle.share_layout.specs.Offsets.{layout_in}
 use Rattle.share_reading.specs.Opening.{text_of}
 use Rattle.share_reading.specs.OpeningReads.{Brought, IsHeaderBy, IsLedToBy, IsLengthBy, LeadOn, Rise}
 use Rattle.share_reading.specs.declared.header.ShareHeader.{ShareHeader}
@@ -15,11 +15,11 @@ use Rattle.share_reading.specs.declared.opening.Opening.{Opening}
 use Rattle.share_reading.specs.declared.opening.Opening.TheVariants.{Start, Second, Header, Block}
 
 -- a header has the length that its layout gives it
-pub length-text_of : (h : ShareHeader) → length (text_of h) ≡ header_size h.places.layout
+pub length-text_of : (h : ShareHeader) → length (text_of h) ≡ header_size h.offsets.layout
 length-text_of h =
-    let same : h.places.layout ≡ layout_in (text_of h) = ap (λ (p : Places). p.layout) h.right.places in
-    let low : header_size h.places.layout ≤ length (text_of h) = subst (λ (l : Layout). header_size l ≤ length (text_of h)) (sym same) h.right.tells.version.long in
-    omega (arith, low, length-take (header_size h.places.layout) h.bytes)
+    let same : h.offsets.layout ≡ layout_in (text_of h) = ap (λ (p : Offsets). p.layout) h.right.offsets in
+    let low : header_size h.offsets.layout ≤ length (text_of h) = subst (λ (l : Layout). header_size l ≤ length (text_of h)) (sym same) h.right.tells.version.long in
+    omega (arith, low, length-take (header_size h.offsets.layout) h.bytes)
 
 -- so its length tells the layout
 is_one : (l : Layout) → header_size l ≡ 36 → l ≡ One
@@ -30,18 +30,18 @@ is_two : (l : Layout) → header_size l ≡ 68 → l ≡ Two
 is_two One e = absurd (omega (arith, e))
 is_two Two e = refl
 
-one : (h : ShareHeader) (bytes : List ℕ) → text_of h ≡ bytes → length bytes ≡ 36 → h.places.layout ≡ One
-one h bytes is long = is_one h.places.layout (sym (length-text_of h) ∙ ap length is ∙ long)
+one : (h : ShareHeader) (bytes : List ℕ) → text_of h ≡ bytes → length bytes ≡ 36 → h.offsets.layout ≡ One
+one h bytes is long = is_one h.offsets.layout (sym (length-text_of h) ∙ ap length is ∙ long)
 
-two : (h : ShareHeader) (start rest : List ℕ) → text_of h ≡ start ++ rest → length start ≡ 36 → length rest ≡ 32 → h.places.layout ≡ Two
+two : (h : ShareHeader) (start rest : List ℕ) → text_of h ≡ start ++ rest → length start ≡ 36 → length rest ≡ 32 → h.offsets.layout ≡ Two
 two h start rest is long more =
-    is_two h.places.layout (sym (length-text_of h) ∙ ap length is ∙ omega (arith, length-append start rest, long, more))
+    is_two h.offsets.layout (sym (length-text_of h) ∙ ap length is ∙ omega (arith, length-append start rest, long, more))
 
 -- its extension block stands behind it
-pub behind : (h : ShareHeader) → header_size h.places.layout ≤ h.places.extension_block
+pub behind : (h : ShareHeader) → header_size h.offsets.layout ≤ h.offsets.extension_block
 behind h =
-    let r = subst (λ (p : Places). header_size p.layout ≤ p.extension_block) (sym h.right.places)
-    (let o = h.right.tells.places.rising in omega arith) in r
+    let r = subst (λ (p : Offsets). header_size p.layout ≤ p.extension_block) (sym h.right.offsets)
+    (let o = h.right.tells.offsets.rising in omega arith) in r
 
 -- more reads have the bytes of the header too
 pub more_header : (reads more : List Brought) → ((read : Brought) → Contains reads read → Contains more read) → (l : Layout) (text : List ℕ)
@@ -58,9 +58,9 @@ more_length reads more grows h told is = record { bytes = is.bytes; read = grows
 pub more_led : (reads more : List Brought) → ((read : Brought) → Contains reads read → Contains more read) → (o : Opening) → IsLedToBy reads o → IsLedToBy more o
 more_led reads more grows Start led = led
 more_led reads more grows (Second s) led = grows _ led
-more_led reads more grows (Header h) led = more_header reads more grows h.places.layout (text_of h) led
+more_led reads more grows (Header h) led = more_header reads more grows h.offsets.layout (text_of h) led
 more_led reads more grows (Block b) led = (
-  more_header reads more grows b.header.places.layout (text_of b.header) led.0,
+  more_header reads more grows b.header.offsets.layout (text_of b.header) led.0,
   more_length reads more grows b.header b.block_length led.1,
 )
 
@@ -89,8 +89,8 @@ lead_on cap reads more (Header h) Start bytes led a grows last = absurd a.1
 lead_on cap reads more (Header h) (Second s) bytes led a grows last = absurd a.1
 lead_on cap reads more (Header h) (Header i) bytes led a grows last = absurd a.1
 lead_on cap reads more (Header h) (Block b) bytes led a grows last =
-    subst (λ (i : ShareHeader). IsHeaderBy more i.places.layout (text_of i) × IsLengthBy more i b.block_length) (sym a.1.0) (
-      more_header reads more grows h.places.layout (text_of h) led,
+    subst (λ (i : ShareHeader). IsHeaderBy more i.offsets.layout (text_of i) × IsLengthBy more i b.block_length) (sym a.1.0) (
+      more_header reads more grows h.offsets.layout (text_of h) led,
       record { bytes = bytes; read = last; long = a.0; number = a.1.1 },
     )
 lead_on cap reads more (Block b) Start bytes led a grows last = absurd a.1
@@ -111,7 +111,7 @@ rise cap (Header h) Start bytes a = absurd a.1
 rise cap (Header h) (Second s) bytes a = absurd a.1
 rise cap (Header h) (Header i) bytes a = absurd a.1
 rise cap (Header h) (Block b) bytes a =
-    (ap (λ (i : ShareHeader). i.places.extension_block + width i.places.layout) a.1.0, omega arith)
+    (ap (λ (i : ShareHeader). i.offsets.extension_block + width i.offsets.layout) a.1.0, omega arith)
 rise cap (Block b) Start bytes a = absurd a.1
 rise cap (Block b) (Second s) bytes a = absurd a.1
 rise cap (Block b) (Header h) bytes a = absurd a.1

@@ -6,12 +6,12 @@ use Rattle.lemmas.proofs.Members.{contains_head, contains_none}
 use Rattle.cap_text.specs.Cap.{VerifyCapValue}
 use Rattle.share_layout.specs.declared.layout.Layout.{Layout}
 use Rattle.share_layout.specs.declared.layout.Layout.TheVariants.{One, Two}
-use Rattle.share_layout.specs.declared.places.Places.{Places}
+use Rattle.share_layout.specs.declared.offsets.Offsets.{Offsets}
 use Rattle.share_layout.specs.Geometry.{Geometry}
-use Rattle.share_layout.specs.Layout.{header_size, places_of, width}
-use Rattle.share_layout.specs.Places.{number_at}
+use Rattle.share_layout.specs.Layout.{header_size, offsets_of, width}
+use Rattle.share_layout.specs.Offsets.{number_at}
 use Rattle.share_layout.specs.Reading.{HasHeader}
-use Rattle.share_layout.proofs.LawLemmas.{tells_places}
+use Rattle.share_layout.proofs.LawLemmas.{tells_offsets}
 use Rattle.share_verify.specs.CapBlock.{geometry_by}
 use Rattle.share_verify.specs.Checks.{Passes}
 use Rattle.share_verify.specs.declared.check.Check.{Check}
@@ -28,7 +28,7 @@ use Rattle.share_reading.specs.declared.opening.Opening.TheVariants.{Start, Seco
 use Rattle.share_reading.specs.declared.opening.Progress.TheVariants as progress
 use Rattle.share_reading.proofs.ReadLemmas.{lead_on, rise, behind, more_header, more_led, more_length}
 use Rattle.share_reading.proofs.BlameLemmas.{refused_fail}
-use Rattle.share_reading.specs.Reading.{next_length, next_place}
+use Rattle.share_reading.specs.Reading.{next_length, next_offset}
 use Rattle.share_reading.specs.Reads.{Ask, AsksNone, End, GoOn, HasHeaderBy, IsAsked, IsOpenedBy, IsReadBy, IsRest, IsRestBy, Stop}
 use Rattle.share_reading.specs.Whole.{AreConsecutive}
 use Rattle.share_reading.specs.declared.reading.ShareReading.{ShareReading}
@@ -38,11 +38,11 @@ use Rattle.share_reading.proofs.ConsecutiveLemmas.{append, inside, push, whole}
 
 -- ---- what is known of a header
 
--- the extension block's geometry gives the places that the header tells
-pub places_are : (cap : VerifyCapValue) (h : ShareHeader) (bytes : List ℕ) (o : Opened) → IsOpened cap (text_of h) bytes o → h.places ≡ places_of (geometry_by o.ueb)
-places_are cap h bytes o is =
+-- the extension block's geometry gives the offsets that the header tells
+pub offsets_are : (cap : VerifyCapValue) (h : ShareHeader) (bytes : List ℕ) (o : Opened) → IsOpened cap (text_of h) bytes o → h.offsets ≡ offsets_of (geometry_by o.ueb)
+offsets_are cap h bytes o is =
     let own : HasHeader (geometry_by o.ueb) (text_of h) = subst (λ (g : Geometry). HasHeader g (text_of h)) is.geometry is.header in
-    h.right.places ∙ (tells_places (geometry_by o.ueb) (text_of h) (is_geometry o.ueb is.ueb.grammar.contents) own).2
+    h.right.offsets ∙ (tells_offsets (geometry_by o.ueb) (text_of h) (is_geometry o.ueb is.ueb.grammar.contents) own).2
 
 -- ---- more reads
 
@@ -59,18 +59,18 @@ pub led_by : (cap : VerifyCapValue) (front back : List Brought) (o : Opening) �
 led_by cap front back Start is = tt
 led_by cap front back (Second s) is =
     in_front front back (0, s.bytes) (subst (λ (l : List Brought). Contains l (0, s.bytes)) (sym is.0) (contains_head (0, s.bytes) []))
-led_by cap front back (Header h) is = more_header front (front ++ back) (in_front front back) h.places.layout (text_of h) is.0.header
+led_by cap front back (Header h) is = more_header front (front ++ back) (in_front front back) h.offsets.layout (text_of h) is.0.header
 led_by cap front back (Block b) is = (
-  more_header front (front ++ back) (in_front front back) b.header.places.layout (text_of b.header) is.0.header,
+  more_header front (front ++ back) (in_front front back) b.header.offsets.layout (text_of b.header) is.0.header,
   more_length back (front ++ back) (in_back front back) b.header b.block_length is.1,
 )
 
--- the reads up to a place are before what is asked from there on
+-- the reads up to an offset are before what is asked from there on
 before : (front : List Brought) (end len : ℕ) (read : Brought) → AreConsecutive 0 front end → Contains front read → AsksNone read end len
 before front end len read is at = inl (inside 0 end front read is at).1
 
 apart : (cap : VerifyCapValue) (front back : List Brought) (r : ShareReading) → IsReadBy cap front back r → (read : Brought) → Contains (front ++ back) read
-    → AsksNone read (next_place r) (next_length r)
+    → AsksNone read (next_offset r) (next_length r)
 apart cap front back (Beginning Start) is read at =
     absurd (contains_none read (subst (λ (l : List Brought). Contains l read) (ap (λ (l : List Brought). l ++ back) is.0 ∙ is.1) at))
 apart cap front back (Beginning (Second s)) is read at =
@@ -78,23 +78,23 @@ apart cap front back (Beginning (Second s)) is read at =
     subst (λ (l : List Brought). Contains l read) (ap (λ (l : List Brought). l ++ back) is.0 ∙ ap (λ (l : List Brought). (0, s.bytes) ∷ l) is.1) at in
     inl (inside 0 36 ((0, s.bytes) ∷ []) read (refl, omega (arith, s.long)) has).1
 apart cap front back (Beginning (Header h)) is read at = elim (Contains-append_cases front back read at) [
-  | inl here ↦ let r = (inside 0 (header_size h.places.layout) front read is.0.consecutive here).1 in inl (omega (arith, r, behind h))
+  | inl here ↦ let r = (inside 0 (header_size h.offsets.layout) front read is.0.consecutive here).1 in inl (omega (arith, r, behind h))
   | inr here ↦ absurd (contains_none read (subst (λ (l : List Brought). Contains l read) is.1 here))
 ]
 apart cap front back (Beginning (Block b)) is read at = elim (Contains-append_cases front back read at) [
-  | inl here ↦ let r = (inside 0 (header_size b.header.places.layout) front read is.0.consecutive here).1 in inl (omega (arith, r, behind b.header))
-  | inr here ↦ inl (inside b.header.places.extension_block _ back read is.2 here).1
+  | inl here ↦ let r = (inside 0 (header_size b.header.offsets.layout) front read is.0.consecutive here).1 in inl (omega (arith, r, behind b.header))
+  | inr here ↦ inl (inside b.header.offsets.extension_block _ back read is.2 here).1
 ]
 apart cap front back (Remaining r) is read at = elim (Contains-append_cases front back read at) [
   | inl here ↦ before front r.next (next_length (Remaining r)) read is.before here
   | inr here ↦
-      let low = (inside r.places.extension_block is.end back read is.behind here).0 in
+      let low = (inside r.offsets.extension_block is.end back read is.behind here).0 in
       inr (omega (arith, low, r.more))
 ]
 
 pub ask : Ask
 ask cap front back (Beginning o) is = (
-  inl (record { opening = o; led = led_by cap front back o is; place_is = refl; len_is = refl }),
+  inl (record { opening = o; led = led_by cap front back o is; offset_is = refl; len_is = refl }),
   apart cap front back (Beginning o) is,
 )
 ask cap front back (Remaining r) is = (inr rest, apart cap front back (Remaining r) is)
@@ -104,17 +104,17 @@ ask cap front back (Remaining r) is = (inr rest, apart cap front back (Remaining
       u = is.begun.opened.ueb;
       block = is.begun.bytes;
       ueb = is.begun.ends.1.ueb;
-      brought = subst (λ (p : Places). Contains (front ++ back) (p.extension_block + width p.layout, is.begun.bytes)) told is.begun.brought;
+      brought = subst (λ (p : Offsets). Contains (front ++ back) (p.extension_block + width p.layout, is.begun.bytes)) told is.begun.brought;
       some = omega (arith, r.more);
-      low = subst (λ (p : Places). header_size p.layout ≤ r.next) same r.behind;
-      high = subst (λ (p : Places). r.next + next_length (Remaining r) ≤ p.extension_block) same (omega (arith, r.more));
+      low = subst (λ (p : Offsets). header_size p.layout ≤ r.next) same r.behind;
+      high = subst (λ (p : Offsets). r.next + next_length (Remaining r) ≤ p.extension_block) same (omega (arith, r.more));
     }
       where
-        told : is.begun.block.header.places ≡ places_of (geometry_by is.begun.opened.ueb)
-        told = places_are cap is.begun.block.header is.begun.bytes is.begun.opened is.begun.ends.1
+        told : is.begun.block.header.offsets ≡ offsets_of (geometry_by is.begun.opened.ueb)
+        told = offsets_are cap is.begun.block.header is.begun.bytes is.begun.opened is.begun.ends.1
 
-        same : r.places ≡ places_of (geometry_by is.begun.opened.ueb)
-        same = is.places ∙ is.begun.ends.1.places ∙ ap places_of is.begun.ends.1.geometry
+        same : r.offsets ≡ offsets_of (geometry_by is.begun.opened.ueb)
+        same = is.offsets ∙ is.begun.ends.1.offsets ∙ ap offsets_of is.begun.ends.1.geometry
 
 -- each read asks for a byte at least
 width_some : (l : Layout) → 0 < width l
@@ -124,19 +124,19 @@ width_some Two = omega arith
 opening_some : (o : Opening) → 0 < opening.next_length o
 opening_some Start = omega arith
 opening_some (Second s) = omega arith
-opening_some (Header h) = width_some h.places.layout
+opening_some (Header h) = width_some h.offsets.layout
 opening_some (Block b) = b.some
 
-pub asked_some : (cap : VerifyCapValue) (reads : List Brought) (place len : ℕ) → IsAsked cap reads place len → 0 < len
-asked_some cap reads place len is = elim is [
+pub asked_some : (cap : VerifyCapValue) (reads : List Brought) (offset len : ℕ) → IsAsked cap reads offset len → 0 < len
+asked_some cap reads offset len is = elim is [
   | inl opens ↦ subst (λ n. 0 < n) (sym opens.len_is) (opening_some opens.opening)
   | inr rest ↦ rest.some
 ]
 
 -- ---- going on
 
-first_front : (front : List Brought) (bytes : List ℕ) (place : ℕ) → front ≡ [] → front ++ (place, bytes) ∷ [] ≡ (place, bytes) ∷ []
-first_front front bytes place is = ap (λ (l : List Brought). l ++ (place, bytes) ∷ []) is
+first_front : (front : List Brought) (bytes : List ℕ) (offset : ℕ) → front ≡ [] → front ++ (offset, bytes) ∷ [] ≡ (offset, bytes) ∷ []
+first_front front bytes offset is = ap (λ (l : List Brought). l ++ (offset, bytes) ∷ []) is
 
 grown : (reads : List Brought) (more : Brought) (read : Brought) → Contains reads read → Contains (reads ++ more ∷ []) read
 grown reads more read at = Contains-append_left reads (more ∷ []) read at
@@ -179,50 +179,50 @@ opened_more cap reads more grows is = record {
   ends = is.ends;
 }
 
--- the extension block is there, and the rest is read from this place on
+-- the extension block is there, and the rest is read from this offset on
 rest_by : (cap : VerifyCapValue) (front back : List Brought) (b : PendingBlock) (bytes : List ℕ) (o : Opened) (r : Rest)
     → IsReadBy cap front back (Beginning (Block b)) → opening.Advances cap (Block b) bytes (progress.Done o)
-    → r.places ≡ o.places → r.next ≡ header_size o.places.layout → IsRestBy cap front (back ++ (next_place (Beginning (Block b)), bytes) ∷ []) r
-rest_by cap front back b bytes o r is ends places next =
+    → r.offsets ≡ o.offsets → r.next ≡ header_size o.offsets.layout → IsRestBy cap front (back ++ (next_offset (Beginning (Block b)), bytes) ∷ []) r
+rest_by cap front back b bytes o r is ends offsets next =
     let opened = ends.1 in
-    let more = back ++ (next_place (Beginning (Block b)), bytes) ∷ [] in
-    let of : o.places ≡ places_of (geometry_by o.ueb) = opened.places ∙ ap places_of opened.geometry in
-    let told : b.header.places ≡ places_of (geometry_by o.ueb) = places_are cap b.header bytes o opened in
-    let same : r.places ≡ b.header.places = places ∙ of ∙ sym told in
-    let start : header_size b.header.places.layout ≡ r.next = ap (λ (p : Places). header_size p.layout) (told ∙ sym of) ∙ sym next in
+    let more = back ++ (next_offset (Beginning (Block b)), bytes) ∷ [] in
+    let of : o.offsets ≡ offsets_of (geometry_by o.ueb) = opened.offsets ∙ ap offsets_of opened.geometry in
+    let told : b.header.offsets ≡ offsets_of (geometry_by o.ueb) = offsets_are cap b.header bytes o opened in
+    let same : r.offsets ≡ b.header.offsets = offsets ∙ of ∙ sym told in
+    let start : header_size b.header.offsets.layout ≡ r.next = ap (λ (p : Offsets). header_size p.layout) (told ∙ sym of) ∙ sym next in
     record {
       begun = record {
         block = b;
-        led = more_led (front ++ back) (front ++ more) (behind_grown front back (next_place (Beginning (Block b)), bytes)) (Block b) (led_by cap front back (Block b) is);
+        led = more_led (front ++ back) (front ++ more) (behind_grown front back (next_offset (Beginning (Block b)), bytes)) (Block b) (led_by cap front back (Block b) is);
         bytes = bytes;
-        brought = in_back front more _ (Contains-push back (next_place (Beginning (Block b)), bytes));
+        brought = in_back front more _ (Contains-push back (next_offset (Beginning (Block b)), bytes));
         opened = o;
         ends = ends;
       };
-      places = places;
+      offsets = offsets;
       before = subst (AreConsecutive 0 front) start is.0.consecutive;
-      end = next_place (Beginning (Block b)) + length bytes;
-      behind = subst (λ (p : Places). AreConsecutive p.extension_block more (next_place (Beginning (Block b)) + length bytes)) (sym same)
-          (push b.header.places.extension_block (next_place (Beginning (Block b))) back bytes is.2);
+      end = next_offset (Beginning (Block b)) + length bytes;
+      behind = subst (λ (p : Offsets). AreConsecutive p.extension_block more (next_offset (Beginning (Block b)) + length bytes)) (sym same)
+          (push b.header.offsets.extension_block (next_offset (Beginning (Block b))) back bytes is.2);
     }
 
 -- the extension block's length is there
 block_by : (cap : VerifyCapValue) (front : List Brought) (h : ShareHeader) (b : PendingBlock) (bytes : List ℕ) → HasHeaderBy front h
-    → opening.Advances cap (Header h) bytes (progress.Next (Block b)) → IsReadBy cap front ((h.places.extension_block, bytes) ∷ []) (Beginning (Block b))
+    → opening.Advances cap (Header h) bytes (progress.Next (Block b)) → IsReadBy cap front ((h.offsets.extension_block, bytes) ∷ []) (Beginning (Block b))
 block_by cap front h b bytes is a =
     let same : b.header ≡ h = a.1.0 in
-    let place : h.places.extension_block ≡ b.header.places.extension_block = ap (λ (i : ShareHeader). i.places.extension_block) (sym same) in
-    let long : length bytes ≡ width b.header.places.layout = a.0 ∙ ap (λ (i : ShareHeader). width i.places.layout) (sym same) in
-    let told : b.block_length ≡ number_at b.header.places.layout bytes 0 = a.1.1 ∙ ap (λ (i : ShareHeader). number_at i.places.layout bytes 0) (sym same) in
-    subst (λ n. IsReadBy cap front ((n, bytes) ∷ []) (Beginning (Block b))) (sym place) (
+    let offset : h.offsets.extension_block ≡ b.header.offsets.extension_block = ap (λ (i : ShareHeader). i.offsets.extension_block) (sym same) in
+    let long : length bytes ≡ width b.header.offsets.layout = a.0 ∙ ap (λ (i : ShareHeader). width i.offsets.layout) (sym same) in
+    let told : b.block_length ≡ number_at b.header.offsets.layout bytes 0 = a.1.1 ∙ ap (λ (i : ShareHeader). number_at i.offsets.layout bytes 0) (sym same) in
+    subst (λ n. IsReadBy cap front ((n, bytes) ∷ []) (Beginning (Block b))) (sym offset) (
       subst (HasHeaderBy front) (sym same) is,
       record {
         bytes = bytes;
-        read = contains_head (b.header.places.extension_block, bytes) [];
+        read = contains_head (b.header.offsets.extension_block, bytes) [];
         long = long;
         number = told;
       },
-      (refl, ap (λ n. b.header.places.extension_block + n) long),
+      (refl, ap (λ n. b.header.offsets.extension_block + n) long),
     )
 
 pub go_on : GoOn
@@ -241,7 +241,7 @@ go_on cap front back (Beginning (Header h)) (Beginning Start) bytes is a = absur
 go_on cap front back (Beginning (Header h)) (Beginning (Second s)) bytes is a = absurd a.1
 go_on cap front back (Beginning (Header h)) (Beginning (Header i)) bytes is a = absurd a.1
 go_on cap front back (Beginning (Header h)) (Beginning (Block b)) bytes is a =
-    subst (λ (l : List Brought). IsReadBy cap front l (Beginning (Block b))) (sym (first_front back bytes h.places.extension_block is.1))
+    subst (λ (l : List Brought). IsReadBy cap front l (Beginning (Block b))) (sym (first_front back bytes h.offsets.extension_block is.1))
     (block_by cap front h b bytes is.0 a)
 go_on cap front back (Beginning (Block b)) (Beginning Start) bytes is a = absurd a.1
 go_on cap front back (Beginning (Block b)) (Beginning (Second s)) bytes is a = absurd a.1
@@ -254,10 +254,10 @@ go_on cap front back (Beginning (Block b)) (Remaining r) bytes is a = rest_by ca
 go_on cap front back (Remaining r) (Beginning o) bytes is a = absurd a
 go_on cap front back (Remaining r) (Remaining t) bytes is a = record {
   begun = opened_more cap (front ++ back) ((front ++ (r.next, bytes) ∷ []) ++ back) (front_grown front back (r.next, bytes)) is.begun;
-  places = a.2 ∙ is.places;
+  offsets = a.2 ∙ is.offsets;
   before = subst (AreConsecutive 0 (front ++ (r.next, bytes) ∷ [])) (ap (λ n. r.next + n) a.0 ∙ sym a.3) (push 0 r.next front bytes is.before);
   end = is.end;
-  behind = subst (λ (p : Places). AreConsecutive p.extension_block back is.end) (sym a.2) is.behind;
+  behind = subst (λ (p : Offsets). AreConsecutive p.extension_block back is.end) (sym a.2) is.behind;
 }
 
 -- ---- the end
@@ -267,17 +267,17 @@ end_whole cap front back (Beginning Start) bytes is a = absurd a.1
 end_whole cap front back (Beginning (Second s)) bytes is a = absurd a.1
 end_whole cap front back (Beginning (Header h)) bytes is a = absurd a.1
 end_whole cap front back (Beginning (Block b)) bytes is a =
-    let place = next_place (Beginning (Block b)) in
-    let same : b.header.places ≡ a.0.places = places_are cap b.header bytes a.0 a.1.1 ∙ sym (a.1.1.places ∙ ap places_of a.1.1.geometry) in
-    let low = subst (λ (p : Places). p.extension_block ≤ header_size p.layout) (sym same) a.2 in
-    let joint : header_size b.header.places.layout ≡ b.header.places.extension_block = omega (arith, low, behind b.header) in
-    whole (place + length bytes) (front ++ (back ++ (place, bytes) ∷ []))
-    (append 0 b.header.places.extension_block (place + length bytes) front (back ++ (place, bytes) ∷ [])
+    let offset = next_offset (Beginning (Block b)) in
+    let same : b.header.offsets ≡ a.0.offsets = offsets_are cap b.header bytes a.0 a.1.1 ∙ sym (a.1.1.offsets ∙ ap offsets_of a.1.1.geometry) in
+    let low = subst (λ (p : Offsets). p.extension_block ≤ header_size p.layout) (sym same) a.2 in
+    let joint : header_size b.header.offsets.layout ≡ b.header.offsets.extension_block = omega (arith, low, behind b.header) in
+    whole (offset + length bytes) (front ++ (back ++ (offset, bytes) ∷ []))
+    (append 0 b.header.offsets.extension_block (offset + length bytes) front (back ++ (offset, bytes) ∷ [])
     (subst (AreConsecutive 0 front) joint is.0.consecutive)
-    (push b.header.places.extension_block place back bytes is.2))
+    (push b.header.offsets.extension_block offset back bytes is.2))
 end_whole cap front back (Remaining r) bytes is a =
     whole is.end ((front ++ (r.next, bytes) ∷ []) ++ back)
-    (append 0 r.places.extension_block is.end (front ++ (r.next, bytes) ∷ []) back
+    (append 0 r.offsets.extension_block is.end (front ++ (r.next, bytes) ∷ []) back
     (subst (AreConsecutive 0 (front ++ (r.next, bytes) ∷ [])) (ap (λ n. r.next + n) a.0 ∙ a.1) (push 0 r.next front bytes is.before))
     is.behind)
 

@@ -26,7 +26,7 @@ pub only_header_fault : (header : List ℕ) (error : LayoutError) → IsHeaderFa
     → errors.Header error ≡ other
 only_header_fault header error fault errors.OtherLength held = absurd held
 only_header_fault header error fault (errors.Header e) held = ap errors.Header (one_header_fault header error e fault held)
-only_header_fault header error fault errors.TooFar held = absurd (no_header_fault header held.0.version held.0.places error fault)
+only_header_fault header error fault errors.TooFar held = absurd (no_header_fault header held.0.version held.0.offsets error fault)
 only_header_fault header error fault errors.TooLong held = absurd held
 only_header_fault header error fault errors.NoBlock held = absurd held
 only_header_fault header error fault (errors.Ueb f) held = absurd held

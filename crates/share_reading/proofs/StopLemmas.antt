@@ -1,4 +1,4 @@
--- Reads of which no two begin at one place have one fault in the beginning of their share, or none.
+-- Reads of which no two begin at one offset have one fault in the beginning of their share, or none.
 use Rattle.std.proofs.Common.{Ok, ◌^◌, ◌≡◌, ◌≢◌, ℕ, ◌+◌, ◌<◌, List, ◌++◌, length, take, drop, ap, refl, subst, sym, ◌∙◌, arith, inl, inr, ◌⊎◌}
 use Rattle.std.specs.Prelude.{Contains}
 use Rattle.std.proofs.lemmas.List.{length-take, length-drop, take-append-drop}
@@ -9,11 +9,11 @@ use Rattle.ueb.specs.Shape.{Contents}
 use Rattle.ueb.proofs.Refusals.{refused}
 use Rattle.share_layout.specs.Geometry.{Geometry}
 use Rattle.share_layout.specs.Layout.{header_size, width}
-use Rattle.share_layout.specs.Places.{layout_in, number_at, places_in}
+use Rattle.share_layout.specs.Offsets.{layout_in, number_at, offsets_in}
 use Rattle.share_layout.specs.Reading.{HasHeader}
 use Rattle.share_layout.specs.declared.layout.Layout.{Layout}
 use Rattle.share_layout.specs.declared.layout.Layout.TheVariants.{One, Two}
-use Rattle.share_layout.specs.declared.places.Places.{Places}
+use Rattle.share_layout.specs.declared.offsets.Offsets.{Offsets}
 use Rattle.share_layout.proofs.Verdicts.{no_header_fault}
 use Rattle.share_verify.specs.CapBlock.{IsUebFor, geometry_by}
 use Rattle.share_verify.specs.Verify.{IsUebFault}
@@ -22,7 +22,7 @@ use Rattle.share_verify.specs.declared.fault.ShareFault.{ShareFault}
 use Rattle.share_verify.proofs.Faults.{one_contents}
 use Rattle.share_verify.proofs.UebFaults.{ueb_refusal}
 use Rattle.share_reading.specs.Header.{IsReachable}
-use Rattle.share_reading.specs.Opening.{next_place, text_of}
+use Rattle.share_reading.specs.Opening.{next_offset, text_of}
 use Rattle.share_reading.specs.OpeningReads.{Brought, IsHeaderBy, IsLedToBy}
 use Rattle.share_reading.specs.Refusal.{IsBlockRefusal, IsHeaderRefusal, IsLengthRefusal, IsRefused, check_of}
 use Rattle.share_reading.specs.declared.block.PendingBlock.{PendingBlock}
@@ -50,8 +50,8 @@ header_layout header errors.OtherHeader why = absurd why
 -- a header that was read is not refused
 right_header : (h : ShareHeader) (error : OpeningError) → IsHeaderRefusal (text_of h) error → ⊥
 right_header h errors.OtherLength why = why
-right_header h (errors.Header e) why = no_header_fault (text_of h) h.right.tells.version h.right.tells.places e why
-right_header h errors.TooFar why = why.1 (subst IsReachable h.right.places h.right.reachable)
+right_header h (errors.Header e) why = no_header_fault (text_of h) h.right.tells.version h.right.tells.offsets e why
+right_header h errors.TooFar why = why.1 (subst IsReachable h.right.offsets h.right.reachable)
 right_header h errors.TooLong why = why
 right_header h errors.NoBlock why = why
 right_header h (errors.Ueb f) why = why
@@ -154,29 +154,29 @@ second_layout cap s bytes error why = elim why [
 
 -- ---- headers
 
-layout_is : (h : ShareHeader) → layout_in (text_of h) ≡ h.places.layout
-layout_is h = ap (λ (p : Places). p.layout) (sym h.right.places)
+layout_is : (h : ShareHeader) → layout_in (text_of h) ≡ h.offsets.layout
+layout_is h = ap (λ (p : Offsets). p.layout) (sym h.right.offsets)
 
 apart_layouts : One ≡ Two → ⊥
 apart_layouts e = cc
 
-front_long : (h : ShareHeader) → h.places.layout ≡ Two → length (take 36 (text_of h)) ≡ 36
+front_long : (h : ShareHeader) → h.offsets.layout ≡ Two → length (take 36 (text_of h)) ≡ 36
 front_long h two = let long = length-text_of h ∙ ap header_size two in omega (arith, length-take 36 (text_of h), long)
 
-back_long : (h : ShareHeader) → h.places.layout ≡ Two → length (drop 36 (text_of h)) ≡ 32
+back_long : (h : ShareHeader) → h.offsets.layout ≡ Two → length (drop 36 (text_of h)) ≡ 32
 back_long h two = let long = length-text_of h ∙ ap header_size two in omega (arith, length-drop 36 (text_of h), long)
 
-front_layout : (h : ShareHeader) → h.places.layout ≡ Two → layout_in (take 36 (text_of h)) ≡ Two
+front_layout : (h : ShareHeader) → h.offsets.layout ≡ Two → layout_in (take 36 (text_of h)) ≡ Two
 front_layout h two = layout_take 36 (text_of h) (omega arith) ∙ layout_is h ∙ two
 
 module _ (cap : VerifyCapValue) (reads : List Brought) (apart : (one other : Brought) → Contains reads one → Contains reads other → one.0 ≡ other.0 → one ≡ other) where
-  same_bytes : (place other : ℕ) (bytes more : List ℕ) → place ≡ other → Contains reads (place, bytes) → Contains reads (other, more) → bytes ≡ more
-  same_bytes place other bytes more e one two = ap (λ (b : Brought). b.1) (apart (place, bytes) (other, more) one two e)
+  same_bytes : (offset other : ℕ) (bytes more : List ℕ) → offset ≡ other → Contains reads (offset, bytes) → Contains reads (other, more) → bytes ≡ more
+  same_bytes offset other bytes more e one two = ap (λ (b : Brought). b.1) (apart (offset, bytes) (other, more) one two e)
 
-  start_refused : (h : ShareHeader) (bytes : List ℕ) (error : OpeningError) → IsHeaderBy reads h.places.layout (text_of h) → Contains reads (0, bytes) → IsRefused cap Start bytes error → ⊥
-  start_refused h bytes error led at why = by h.places.layout refl led
+  start_refused : (h : ShareHeader) (bytes : List ℕ) (error : OpeningError) → IsHeaderBy reads h.offsets.layout (text_of h) → Contains reads (0, bytes) → IsRefused cap Start bytes error → ⊥
+  start_refused h bytes error led at why = by h.offsets.layout refl led
     where
-      by : (l : Layout) → h.places.layout ≡ l → IsHeaderBy reads l (text_of h) → ⊥
+      by : (l : Layout) → h.offsets.layout ≡ l → IsHeaderBy reads l (text_of h) → ⊥
       by One e has =
           let same : text_of h ≡ bytes = same_bytes 0 0 (text_of h) bytes refl has at in
           elim why [
@@ -190,11 +190,11 @@ module _ (cap : VerifyCapValue) (reads : List Brought) (apart : (one other : Bro
             | inr stage ↦ apart_layouts (sym stage.1.0 ∙ ap layout_in (sym same) ∙ front_layout h e)
           ]
 
-  second_refused : (h : ShareHeader) (s : HeaderStart) (bytes : List ℕ) (error : OpeningError) → IsHeaderBy reads h.places.layout (text_of h)
+  second_refused : (h : ShareHeader) (s : HeaderStart) (bytes : List ℕ) (error : OpeningError) → IsHeaderBy reads h.offsets.layout (text_of h)
       → Contains reads (0, s.bytes) → Contains reads (36, bytes) → IsRefused cap (Second s) bytes error → ⊥
-  second_refused h s bytes error led first at why = by h.places.layout refl led
+  second_refused h s bytes error led first at why = by h.offsets.layout refl led
     where
-      by : (l : Layout) → h.places.layout ≡ l → IsHeaderBy reads l (text_of h) → ⊥
+      by : (l : Layout) → h.offsets.layout ≡ l → IsHeaderBy reads l (text_of h) → ⊥
       by One e has =
           let same : text_of h ≡ s.bytes = same_bytes 0 0 (text_of h) s.bytes refl has first in
           apart_layouts (sym e ∙ sym (layout_is h) ∙ ap layout_in same ∙ s.second)
@@ -207,14 +207,14 @@ module _ (cap : VerifyCapValue) (reads : List Brought) (apart : (one other : Bro
             | inr stage ↦ right_header h error (subst (λ (t : List ℕ). IsHeaderRefusal t error) whole stage.1)
           ]
 
-  same_text : (h i : ShareHeader) → IsHeaderBy reads h.places.layout (text_of h) → IsHeaderBy reads i.places.layout (text_of i) → text_of h ≡ text_of i
-  same_text h i one other = by h.places.layout i.places.layout refl refl one other
+  same_text : (h i : ShareHeader) → IsHeaderBy reads h.offsets.layout (text_of h) → IsHeaderBy reads i.offsets.layout (text_of i) → text_of h ≡ text_of i
+  same_text h i one other = by h.offsets.layout i.offsets.layout refl refl one other
     where
-      mixed : (a b : ShareHeader) → a.places.layout ≡ One → b.places.layout ≡ Two → Contains reads (0, text_of a) → Contains reads (0, take 36 (text_of b)) → ⊥
+      mixed : (a b : ShareHeader) → a.offsets.layout ≡ One → b.offsets.layout ≡ Two → Contains reads (0, text_of a) → Contains reads (0, take 36 (text_of b)) → ⊥
       mixed a b e d has also =
           apart_layouts (sym e ∙ sym (layout_is a) ∙ ap layout_in (same_bytes 0 0 (text_of a) (take 36 (text_of b)) refl has also) ∙ front_layout b d)
 
-      by : (l k : Layout) → h.places.layout ≡ l → i.places.layout ≡ k → IsHeaderBy reads l (text_of h) → IsHeaderBy reads k (text_of i) → text_of h ≡ text_of i
+      by : (l k : Layout) → h.offsets.layout ≡ l → i.offsets.layout ≡ k → IsHeaderBy reads l (text_of h) → IsHeaderBy reads k (text_of i) → text_of h ≡ text_of i
       by One One e d has also = same_bytes 0 0 (text_of h) (text_of i) refl has also
       by One Two e d has also = absurd (mixed h i e d has also.0)
       by Two One e d has also = absurd (mixed i h d e also has.0)
@@ -224,21 +224,21 @@ module _ (cap : VerifyCapValue) (reads : List Brought) (apart : (one other : Bro
           ∙ ap (λ (l : List ℕ). take 36 (text_of i) ++ l) (same_bytes 36 36 (drop 36 (text_of h)) (drop 36 (text_of i)) refl has.1 also.1)
           ∙ take-append-drop 36 (text_of i)
 
-  same_places : (h i : ShareHeader) → IsHeaderBy reads h.places.layout (text_of h) → IsHeaderBy reads i.places.layout (text_of i) → h.places ≡ i.places
-  same_places h i one other = h.right.places ∙ ap places_in (same_text h i one other) ∙ sym i.right.places
+  same_offsets : (h i : ShareHeader) → IsHeaderBy reads h.offsets.layout (text_of h) → IsHeaderBy reads i.offsets.layout (text_of i) → h.offsets ≡ i.offsets
+  same_offsets h i one other = h.right.offsets ∙ ap offsets_in (same_text h i one other) ∙ sym i.right.offsets
 
   -- the length that stands behind a header
   header_refused : (h : ShareHeader) (b : PendingBlock) (bytes : List ℕ) (error : OpeningError) → IsLedToBy reads (Header h) → IsLedToBy reads (Block b)
-      → Contains reads (h.places.extension_block, bytes) → IsRefused cap (Header h) bytes error → ⊥
+      → Contains reads (h.offsets.extension_block, bytes) → IsRefused cap (Header h) bytes error → ⊥
   header_refused h b bytes error led known at why =
-      let places : h.places ≡ b.header.places = same_places h b.header led known.0 in
+      let offsets : h.offsets ≡ b.header.offsets = same_offsets h b.header led known.0 in
       let found = known.1 in
-      let same : bytes ≡ found.bytes = same_bytes _ _ bytes found.bytes (ap (λ (p : Places). p.extension_block) places) at found.read in
-      let told : b.block_length ≡ number_at h.places.layout bytes 0 =
-      found.number ∙ ap (λ (p : Places). number_at p.layout found.bytes 0) (sym places) ∙ ap (λ (l : List ℕ). number_at h.places.layout l 0) (sym same) in
+      let same : bytes ≡ found.bytes = same_bytes _ _ bytes found.bytes (ap (λ (p : Offsets). p.extension_block) offsets) at found.read in
+      let told : b.block_length ≡ number_at h.offsets.layout bytes 0 =
+      found.number ∙ ap (λ (p : Offsets). number_at p.layout found.bytes 0) (sym offsets) ∙ ap (λ (l : List ℕ). number_at h.offsets.layout l 0) (sym same) in
       elim why [
-        | inl far ↦ far.0 (ap length same ∙ found.long ∙ ap (λ (p : Places). width p.layout) (sym places))
-        | inr stage ↦ elim (length_as (number_at h.places.layout bytes 0) error stage.1) [
+        | inl far ↦ far.0 (ap length same ∙ found.long ∙ ap (λ (p : Offsets). width p.layout) (sym offsets))
+        | inr stage ↦ elim (length_as (number_at h.offsets.layout bytes 0) error stage.1) [
           | inl long ↦ omega (arith, long.0, told, b.short)
           | inr none ↦ omega (arith, none.0, told, b.some)
         ]
@@ -248,23 +248,23 @@ module _ (cap : VerifyCapValue) (reads : List Brought) (apart : (one other : Bro
   record IsSameBlock (b d : PendingBlock) : Type 0 where
     pub text : text_of b.header ≡ text_of d.header
     pub size : b.block_length ≡ d.block_length
-    pub place : next_place (Block b) ≡ next_place (Block d)
+    pub offset : next_offset (Block b) ≡ next_offset (Block d)
 
   same_block : (b d : PendingBlock) → IsLedToBy reads (Block b) → IsLedToBy reads (Block d) → IsSameBlock b d
   same_block b d one other =
-      let places : b.header.places ≡ d.header.places = same_places b.header d.header one.0 other.0 in
-      let same : one.1.bytes ≡ other.1.bytes = same_bytes _ _ one.1.bytes other.1.bytes (ap (λ (p : Places). p.extension_block) places) one.1.read other.1.read in
+      let offsets : b.header.offsets ≡ d.header.offsets = same_offsets b.header d.header one.0 other.0 in
+      let same : one.1.bytes ≡ other.1.bytes = same_bytes _ _ one.1.bytes other.1.bytes (ap (λ (p : Offsets). p.extension_block) offsets) one.1.read other.1.read in
       record {
         text = same_text b.header d.header one.0 other.0;
-        size = one.1.number ∙ ap (λ (p : Places). number_at p.layout one.1.bytes 0) places ∙ ap (λ (l : List ℕ). number_at d.header.places.layout l 0) same ∙ sym other.1.number;
-        place = ap (λ (p : Places). p.extension_block + width p.layout) places;
+        size = one.1.number ∙ ap (λ (p : Offsets). number_at p.layout one.1.bytes 0) offsets ∙ ap (λ (l : List ℕ). number_at d.header.offsets.layout l 0) same ∙ sym other.1.number;
+        offset = ap (λ (p : Offsets). p.extension_block + width p.layout) offsets;
       }
 
-  block_refused : (b : PendingBlock) (bytes : List ℕ) (error : OpeningError) → IsLedToBy reads (Block b) → Contains reads (next_place (Block b), bytes)
+  block_refused : (b : PendingBlock) (bytes : List ℕ) (error : OpeningError) → IsLedToBy reads (Block b) → Contains reads (next_offset (Block b), bytes)
       → IsRefused cap (Block b) bytes error → IsOpenedBy cap reads → ⊥
   block_refused b bytes error led at why is =
       let alike = same_block b is.block led is.led in
-      let same : bytes ≡ is.bytes = same_bytes _ _ bytes is.bytes alike.place at is.brought in
+      let same : bytes ≡ is.bytes = same_bytes _ _ bytes is.bytes alike.offset at is.brought in
       let opened = is.ends.1 in
       elim why [
         | inl far ↦ far.0 (ap length same ∙ is.ends.0 ∙ sym alike.size)
@@ -280,7 +280,7 @@ module _ (cap : VerifyCapValue) (reads : List Brought) (apart : (one other : Bro
           (subst (HasHeader (geometry_by is.opened.ueb)) (sym (same_block b is.block led is.led).text) header))
 
   -- where the beginning was read, no bytes of it are refused
-  pub refused_or_opened : (o : Opening) (bytes : List ℕ) (error : OpeningError) → IsLedToBy reads o → Contains reads (next_place o, bytes) → IsRefused cap o bytes error
+  pub refused_or_opened : (o : Opening) (bytes : List ℕ) (error : OpeningError) → IsLedToBy reads o → Contains reads (next_offset o, bytes) → IsRefused cap o bytes error
       → IsOpenedBy cap reads → ⊥
   refused_or_opened Start bytes error led at why is = start_refused is.block.header bytes error is.led.0 at why
   refused_or_opened (Second s) bytes error led at why is = second_refused is.block.header s bytes error is.led.0 led at why
@@ -290,22 +290,22 @@ module _ (cap : VerifyCapValue) (reads : List Brought) (apart : (one other : Bro
   -- bytes that are refused
   pub record IsRefusedAt (o : Opening) (bytes : List ℕ) (error : OpeningError) : Type 0 where
     pub led : IsLedToBy reads o
-    pub at : Contains reads (next_place o, bytes)
+    pub at : Contains reads (next_offset o, bytes)
     pub why : IsRefused cap o bytes error
 
   headers_one : (h i : ShareHeader) (bytes more : List ℕ) (e f : OpeningError) → IsRefusedAt (Header h) bytes e → IsRefusedAt (Header i) more f → check_of e ≡ check_of f
   headers_one h i bytes more e f one other =
-      let places : h.places ≡ i.places = same_places h i one.led other.led in
-      let same : bytes ≡ more = same_bytes _ _ bytes more (ap (λ (p : Places). p.extension_block) places) one.at other.at in
-      length_one i.places.layout more e f
-      (subst (λ (l : Layout). ((length more ≢ width l) × (e ≡ errors.OtherLength)) ⊎ ((length more ≡ width l) × IsLengthRefusal (number_at l more 0) e)) (ap (λ (p : Places). p.layout) places)
+      let offsets : h.offsets ≡ i.offsets = same_offsets h i one.led other.led in
+      let same : bytes ≡ more = same_bytes _ _ bytes more (ap (λ (p : Offsets). p.extension_block) offsets) one.at other.at in
+      length_one i.offsets.layout more e f
+      (subst (λ (l : Layout). ((length more ≢ width l) × (e ≡ errors.OtherLength)) ⊎ ((length more ≡ width l) × IsLengthRefusal (number_at l more 0) e)) (ap (λ (p : Offsets). p.layout) offsets)
       (subst (λ (t : List ℕ). IsRefused cap (Header h) t e) same one.why))
       other.why
 
   blocks_one : (b d : PendingBlock) (bytes more : List ℕ) (e f : OpeningError) → IsRefusedAt (Block b) bytes e → IsRefusedAt (Block d) more f → check_of e ≡ check_of f
   blocks_one b d bytes more e f one other =
       let alike = same_block b d one.led other.led in
-      let same : bytes ≡ more = same_bytes _ _ bytes more alike.place one.at other.at in
+      let same : bytes ≡ more = same_bytes _ _ bytes more alike.offset one.at other.at in
       block_one cap d.block_length (text_of d.header) more e f
       (subst (λ n. ((length more ≢ n) × (e ≡ errors.OtherLength)) ⊎ ((length more ≡ n) × IsBlockRefusal cap (text_of d.header) more e)) alike.size
       (subst (λ (t : List ℕ). ((length more ≢ b.block_length) × (e ≡ errors.OtherLength)) ⊎ ((length more ≡ b.block_length) × IsBlockRefusal cap t more e)) alike.text

@@ -20,7 +20,7 @@ use Rattle.share_reading.specs.Blame.{HasReads}
 use Rattle.share_reading.specs.declared.opening.Opening.{Opening}
 use Rattle.share_reading.specs.declared.opening.Opening.TheVariants.{Start, Second, Header, Block}
 use Rattle.share_reading.proofs.ReadLemmas.{more_led}
-use Rattle.share_reading.specs.Reading.{Advances, IsStop, next_place}
+use Rattle.share_reading.specs.Reading.{Advances, IsStop, next_offset}
 use Rattle.share_reading.specs.Reads.{IsOpenedBy}
 use Rattle.share_reading.specs.declared.reading.Progress.TheVariants.{Whole}
 use Rattle.share_reading.specs.declared.reading.ShareReading.{ShareReading}
@@ -35,16 +35,16 @@ use Rattle.share_reading.proofs.StopLemmas.{one_check, refused_or_opened}
 
 -- ---- what reads brought
 
-brings : (read : Settled) (bytes : List ℕ) → read.answer ≡ Some bytes → brought_by read ≡ (read.place, bytes) ∷ []
-brings read bytes is = ap (brought_at read.place) is
+brings : (read : Settled) (bytes : List ℕ) → read.answer ≡ Some bytes → brought_by read ≡ (read.offset, bytes) ∷ []
+brings read bytes is = ap (brought_at read.offset) is
 
-pub brought_has : (reads : List Settled) (read : Settled) (bytes : List ℕ) → Contains reads read → read.answer ≡ Some bytes → Contains (brought_of reads) (read.place, bytes)
+pub brought_has : (reads : List Settled) (read : Settled) (bytes : List ℕ) → Contains reads read → read.answer ≡ Some bytes → Contains (brought_of reads) (read.offset, bytes)
 brought_has [] read bytes at is = absurd (contains_none read at)
 brought_has (r ∷ rs) read bytes at is = elim (contains_cases r read rs at) [
   | inl same ↦
-      Contains-append_left (brought_by r) (brought_of rs) (read.place, bytes)
-      (subst (λ (l : List Brought). Contains l (read.place, bytes)) (sym (ap brought_by same ∙ brings read bytes is)) (contains_head (read.place, bytes) []))
-  | inr later ↦ Contains-append_right (brought_by r) (brought_of rs) (read.place, bytes) (brought_has rs read bytes later is)
+      Contains-append_left (brought_by r) (brought_of rs) (read.offset, bytes)
+      (subst (λ (l : List Brought). Contains l (read.offset, bytes)) (sym (ap brought_by same ∙ brings read bytes is)) (contains_head (read.offset, bytes) []))
+  | inr later ↦ Contains-append_right (brought_by r) (brought_of rs) (read.offset, bytes) (brought_has rs read bytes later is)
 ]
 
 -- ---- verdicts
@@ -57,7 +57,7 @@ lost_or_answered : (reads : List Settled) → AreAnswered reads → IsLost reads
 lost_or_answered reads answered lost =
     let is = answered lost.0 lost.1 in none-some is.0 (sym lost.2 ∙ is.1)
 
--- the bytes that the reads brought have all of them at their places
+-- the bytes that the reads brought have all of them at their offsets
 has_among : (reads : List Settled) (front : List Brought) (share : List ℕ) → ((read : Brought) → Contains front read → Contains (brought_of reads) read)
     → HasReads (brought_of reads) share → HasReads front share
 has_among reads front share among has read at = has read (among read at)
@@ -76,7 +76,7 @@ stopped_or_good cap num reads check s g =
     stop cap l.front l.back s.reading s.bytes check num g.bytes l.led s.stop
     (full_last reads _ s.bytes g.full l.last refl)
     (has_among reads (l.front ++ l.back) g.bytes l.among g.whole.has)
-    (g.whole.has (next_place s.reading, s.bytes) at)
+    (g.whole.has (next_offset s.reading, s.bytes) at)
     (sound_passes cap num g.bytes check g.sound)
 
 fails_or_good : (cap : VerifyCapValue) (num : ℕ) (reads : List Settled) (check : Check) → FailsFirst cap num reads check → IsGood cap num reads → ⊥
@@ -168,12 +168,12 @@ ended_alone cap num reads one other a b =
 pub record IsBroughtBy (reads : List Settled) (b : Brought) : Type 0 where
   pub read : Settled
   pub among : Contains reads read
-  pub place : read.place ≡ b.0
+  pub offset : read.offset ≡ b.0
   pub answer : read.answer ≡ Some b.1
 
-brought_in : (place : ℕ) (answer : Option (List ℕ)) (b : Brought) → Contains (brought_at place answer) b → (place ≡ b.0) × (answer ≡ Some b.1)
-brought_in place None b at = absurd (contains_none b at)
-brought_in place (Some bytes) b at = elim (contains_cases (place, bytes) b [] at) [
+brought_in : (offset : ℕ) (answer : Option (List ℕ)) (b : Brought) → Contains (brought_at offset answer) b → (offset ≡ b.0) × (answer ≡ Some b.1)
+brought_in offset None b at = absurd (contains_none b at)
+brought_in offset (Some bytes) b at = elim (contains_cases (offset, bytes) b [] at) [
   | inl same ↦ (ap (λ (x : Brought). x.0) same, ap (λ (x : Brought). Some x.1) same)
   | inr none ↦ absurd (contains_none b none)
 ]
@@ -181,20 +181,20 @@ brought_in place (Some bytes) b at = elim (contains_cases (place, bytes) b [] at
 pub brought_from : (reads : List Settled) (b : Brought) → Contains (brought_of reads) b → IsBroughtBy reads b
 brought_from reads b at =
     let found = flat_map_from brought_by reads b at in
-    let parts = brought_in found.source.place found.source.answer b found.has in
-    record { read = found.source; among = contains_at reads found.place found.source found.there; place = parts.0; answer = parts.1 }
+    let parts = brought_in found.source.offset found.source.answer b found.has in
+    record { read = found.source; among = contains_at reads found.position found.source found.there; offset = parts.0; answer = parts.1 }
 
 brought_apart : (reads : List Settled) → AreApart reads → (one other : Brought) → Contains (brought_of reads) one → Contains (brought_of reads) other → one.0 ≡ other.0 → one ≡ other
 brought_apart reads apart one other a b e =
     let from = brought_from reads one a in
     let also = brought_from reads other b in
-    let same : from.read ≡ also.read = apart from.read also.read from.among also.among (from.place ∙ e ∙ sym also.place) in
+    let same : from.read ≡ also.read = apart from.read also.read from.among also.among (from.offset ∙ e ∙ sym also.offset) in
     let bytes : one.1 ≡ other.1 = same_Some one.1 other.1 (sym from.answer ∙ ap (λ (x : Settled). x.answer) same ∙ also.answer) in
     ap (λ n. (n, one.1)) e ∙ ap (λ (l : List ℕ). (other.0, l)) bytes
 
 -- what the reads brought, where they led to a reading and then to these bytes
 module _ (cap : VerifyCapValue) (reads : List Settled) where
-  last_at : (r : ShareReading) (bytes : List ℕ) → HasLed cap reads r bytes → Contains (brought_of reads) (next_place r, bytes)
+  last_at : (r : ShareReading) (bytes : List ℕ) → HasLed cap reads r bytes → Contains (brought_of reads) (next_offset r, bytes)
   last_at r bytes l = brought_has reads _ bytes l.last refl
 
   led_at : (o : Opening) (bytes : List ℕ) → HasLed cap reads (Beginning o) bytes → IsLedToBy (brought_of reads) o

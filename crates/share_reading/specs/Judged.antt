@@ -2,7 +2,7 @@
 use Rattle.std.specs.Prelude.{◌≡◌, ℕ, ◌+◌, List, [], ◌++◌, length, Option, Some, None}
 use Rattle.cap_text.specs.Cap.{VerifyCapValue}
 use Rattle.ueb.specs.Shape.{Contents}
-use Rattle.share_layout.specs.Layout.{header, layout_of, places_of, spelled}
+use Rattle.share_layout.specs.Layout.{header, layout_of, offsets_of, spelled}
 use Rattle.share_verify.specs.CapBlock.{IsUebFor, geometry_by}
 use Rattle.share_verify.specs.Judging.{HasTaken, between_size, share_with}
 use Rattle.share_verify.specs.declared.judging.Judging.{Judging}
@@ -28,7 +28,7 @@ pub record HasRest (cap : VerifyCapValue) (front back : List Brought) (r : Rest)
   pub u : Contents
   pub block : List ℕ
   pub ueb : IsUebFor cap block u
-  pub places : r.places ≡ places_of (geometry_by u)
+  pub offsets : r.offsets ≡ offsets_of (geometry_by u)
   pub taken : List ℕ
   pub has : HasTaken j u taken
   pub text : joined front ≡ header (geometry_by u) ++ taken
@@ -41,7 +41,7 @@ HasJudged cap front back (Beginning Start) j = j ≡ None
 HasJudged cap front back (Beginning (Second s)) j = j ≡ None
 HasJudged cap front back (Beginning (Header h)) j = j ≡ None
 HasJudged cap front back (Beginning (Block b)) j =
-    (j ≡ None) × (joined back ≡ spelled b.header.places.layout b.block_length)
+    (j ≡ None) × (joined back ≡ spelled b.header.offsets.layout b.block_length)
 HasJudged cap front back (Remaining r) None = ⊥
 HasJudged cap front back (Remaining r) (Some j) = HasRest cap front back r j
 

@@ -1,4 +1,4 @@
--- How a share is read whole: which bytes are read, and what comes of them. Places and lengths are
+-- How a share is read whole: which bytes are read, and what comes of them. Offsets and lengths are
 -- in bytes.
 use Rattle.std.specs.Prelude.{◌≡◌, ◌≢◌, ℕ, ◌+◌, ◌-◌, ◌≤◌, List, length, min, Bool}
 use Rattle.std.specs.Prelude.{true, false}
@@ -19,14 +19,14 @@ use Rattle.share_reading.specs.declared.reading.Progress.{Progress}
 use Rattle.share_reading.specs.declared.reading.Progress.TheVariants.{Next, Whole}
 
 -- where the next read begins
-abbrev pub next_place : ShareReading → ℕ
-next_place (Beginning o) = opening.next_place o
-next_place (Remaining r) = r.next
+abbrev pub next_offset : ShareReading → ℕ
+next_offset (Beginning o) = opening.next_offset o
+next_offset (Remaining r) = r.next
 
 -- and how many bytes it asks for
 abbrev pub next_length : ShareReading → ℕ
 next_length (Beginning o) = opening.next_length o
-next_length (Remaining r) = min (r.places.extension_block - r.next) most_data
+next_length (Remaining r) = min (r.offsets.extension_block - r.next) most_data
 
 -- are the next bytes the extension block's length or the extension block? They stand behind the
 -- rest.
@@ -38,9 +38,9 @@ is_behind reading = false
 -- the rest of a share that is opened so begins behind its header
 abbrev pub BeginsRest : Opened → Progress → Type 0
 BeginsRest o (Next (Remaining r)) =
-    (r.ueb ≡ o.ueb) × (r.places ≡ o.places) × (r.next ≡ header_size o.places.layout)
+    (r.ueb ≡ o.ueb) × (r.offsets ≡ o.offsets) × (r.next ≡ header_size o.offsets.layout)
 BeginsRest o (Next (Beginning next)) = ⊥
-BeginsRest o Whole = o.places.extension_block ≤ header_size o.places.layout
+BeginsRest o Whole = o.offsets.extension_block ≤ header_size o.offsets.layout
 
 -- what comes of the bytes that the next read brought, which are as many as it asked for
 abbrev pub Advances : VerifyCapValue → ShareReading → List ℕ → Progress → Type 0
@@ -55,9 +55,9 @@ Advances cap (Beginning o) bytes Whole =
 Advances cap (Remaining r) bytes (Next (Beginning next)) = ⊥
 Advances cap (Remaining r) bytes (Next (Remaining s)) =
     (length bytes ≡ next_length (Remaining r))
-    × (s.ueb ≡ r.ueb) × (s.places ≡ r.places) × (s.next ≡ r.next + next_length (Remaining r))
+    × (s.ueb ≡ r.ueb) × (s.offsets ≡ r.offsets) × (s.next ≡ r.next + next_length (Remaining r))
 Advances cap (Remaining r) bytes Whole = (length bytes ≡ next_length (Remaining r))
-    × (r.next + next_length (Remaining r) ≡ r.places.extension_block)
+    × (r.next + next_length (Remaining r) ≡ r.offsets.extension_block)
 
 -- why the share is not read on: the first fault of its beginning, or a wrong length
 abbrev pub IsStop : VerifyCapValue → ShareReading → List ℕ → Check → Type 0

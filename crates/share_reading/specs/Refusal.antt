@@ -4,13 +4,13 @@ use Rattle.ueb.specs.Limits.{max_length}
 use Rattle.ueb.specs.Shape.{Contents}
 use Rattle.cap_text.specs.Cap.{VerifyCapValue}
 use Rattle.share_layout.specs.declared.layout.Layout.TheVariants.{One}
-use Rattle.share_layout.specs.Places.{layout_in, number_at, places_in}
+use Rattle.share_layout.specs.Offsets.{layout_in, number_at, offsets_in}
 use Rattle.share_layout.specs.Reading.{HasHeader, IsHeaderFault}
 use Rattle.share_verify.specs.CapBlock.{IsUebFor, geometry_by}
 use Rattle.share_verify.specs.Verify.{IsUebFault}
 use Rattle.share_verify.specs.declared.check.Check.{Check}
 use Rattle.share_verify.specs.declared.check.Check.TheVariants as checks
-use Rattle.share_reading.specs.Header.{IsReachable, TellsPlaces}
+use Rattle.share_reading.specs.Header.{IsReachable, TellsOffsets}
 use Rattle.share_reading.specs.Opening.{next_length, text_of}
 use Rattle.share_reading.specs.declared.error.OpeningError.{OpeningError}
 use Rattle.share_reading.specs.declared.error.OpeningError.TheVariants as errors
@@ -27,11 +27,11 @@ check_of errors.NoBlock = checks.Ueb
 check_of (errors.Ueb fault) = checks.Ueb
 check_of errors.OtherHeader = checks.Layout
 
--- why a header that is there whole is refused: it tells no places, or the extension block's is too
+-- why a header that is there whole is refused: it tells no offsets, or the extension block's is too
 -- high
 abbrev pub IsHeaderRefusal : List ℕ → OpeningError → Type 0
 IsHeaderRefusal header (errors.Header error) = IsHeaderFault header error
-IsHeaderRefusal header errors.TooFar = TellsPlaces header × ¬ IsReachable (places_in header)
+IsHeaderRefusal header errors.TooFar = TellsOffsets header × ¬ IsReachable (offsets_in header)
 IsHeaderRefusal header error = ⊥
 
 -- why this length of an extension block is refused
@@ -53,7 +53,7 @@ abbrev pub IsStageRefusal : VerifyCapValue → Opening → List ℕ → OpeningE
 IsStageRefusal cap Start bytes error = (layout_in bytes ≡ One) × IsHeaderRefusal bytes error
 IsStageRefusal cap (Second start) bytes error = IsHeaderRefusal (start.bytes ++ bytes) error
 IsStageRefusal cap (Header h) bytes error =
-    IsLengthRefusal (number_at h.places.layout bytes 0) error
+    IsLengthRefusal (number_at h.offsets.layout bytes 0) error
 IsStageRefusal cap (Block b) bytes error = IsBlockRefusal cap (text_of b.header) bytes error
 
 -- why the bytes that the next read brought are refused: the first fault

@@ -8,7 +8,7 @@ use Rattle.share_verify.specs.Verify.{IsFirstFault, IsSoundShare}
 use Rattle.share_verify.specs.declared.check.Check.{Check}
 use Rattle.share_verify.specs.declared.fault.ShareFault.{ShareFault}
 use Rattle.share_reading.specs.OpeningReads.{Brought}
-use Rattle.share_reading.specs.Reading.{Advances, IsStop, next_length, next_place}
+use Rattle.share_reading.specs.Reading.{Advances, IsStop, next_length, next_offset}
 use Rattle.share_reading.specs.Reads.{IsReadBy}
 use Rattle.share_reading.specs.Whole.{IsWhole}
 use Rattle.share_reading.specs.declared.reading.Progress.TheVariants.{Whole}
@@ -19,17 +19,17 @@ use Rattle.share_reading.specs.declared.verdict.Verdict.TheVariants.{Good, Corru
 -- A read that waits no more: where it begins, how many bytes it asked for, and the bytes that came.
 -- `None`: it was lost, or the server has no such share.
 pub record Settled : Type 0 where
-  pub place : ℕ
+  pub offset : ℕ
   pub len : ℕ
   pub answer : Option (List ℕ)
 
 -- what reads brought
 abbrev pub brought_at : ℕ → Option (List ℕ) → List Brought
-brought_at place None = []
-brought_at place (Some bytes) = (place, bytes) ∷ []
+brought_at offset None = []
+brought_at offset (Some bytes) = (offset, bytes) ∷ []
 
 abbrev pub brought_by : Settled → List Brought
-brought_by read = brought_at read.place read.answer
+brought_by read = brought_at read.offset read.answer
 
 abbrev pub brought_of : List Settled → List Brought
 brought_of reads = flat_map brought_by reads
@@ -44,7 +44,7 @@ abbrev pub AreFull : List Settled → Type 0
 AreFull reads = (read : Settled) → Contains reads read
     → (bytes : List ℕ) × (read.answer ≡ Some bytes) × (length bytes ≡ read.len)
 
--- what the reads brought, joined by place, is the share of this number
+-- what the reads brought, joined by offset, is the share of this number
 pub record IsGood (cap : VerifyCapValue) (num : ℕ) (reads : List Settled) : Type 0 where
   pub bytes : List ℕ
   pub full : AreFull reads
@@ -61,7 +61,7 @@ pub record HasLed (cap : VerifyCapValue) (reads : List Settled) (reading : Share
   pub among : (read : Brought) → Contains (front ++ back) read
       → Contains (brought_of reads) read
   pub last : Contains reads (record {
-    place = next_place reading;
+    offset = next_offset reading;
     len = next_length reading;
     answer = Some bytes;
   })
@@ -75,7 +75,7 @@ pub record IsStopped (cap : VerifyCapValue) (reads : List Settled) (check : Chec
   pub stop : IsStop cap reading bytes check
 
 -- The share was read to its end: what the reads brought led to a reading that ended. Joined by
--- place, it fails this check first.
+-- offset, it fails this check first.
 pub record FailsFirst (cap : VerifyCapValue) (num : ℕ) (reads : List Settled) (check : Check)
     : Type 0 where
   pub reading : ShareReading
@@ -106,13 +106,13 @@ IsJudged cap num share (Corrupt check) =
     (fault : ShareFault) × IsFirstFault cap num share fault × (check ≡ check_of fault)
 IsJudged cap num share Lost = ⊥
 
--- no two of the reads begin at one place
+-- no two of the reads begin at one offset
 abbrev pub AreApart : List Settled → Type 0
 AreApart reads = (one other : Settled) → Contains reads one → Contains reads other
-    → one.place ≡ other.place → one ≡ other
+    → one.offset ≡ other.offset → one ≡ other
 
 -- A law: a share has at most one kind of verdict, and one that was read to its end fails one check
--- first. By reads of which no two begin at one place it has one verdict: so one whose reading
+-- first. By reads of which no two begin at one offset it has one verdict: so one whose reading
 -- stopped fails the check of the first fault of its beginning, and no other.
 pub record AreExclusive : Type 0 where
   pub good : (cap : VerifyCapValue) (num : ℕ) (reads : List Settled) (v : Verdict)

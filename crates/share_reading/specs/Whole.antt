@@ -4,18 +4,18 @@ use Rattle.std.specs.List.{flat_map}
 use Rattle.share_reading.specs.OpeningReads.{Brought}
 use Rattle.share_reading.specs.Blame.{HasReads}
 
--- the share has the bytes that the reads brought, each at its place, and no others
+-- the share has the bytes that the reads brought, each at its offset, and no others
 pub record IsWhole (reads : List Brought) (share : List ℕ) : Type 0 where
   pub has : HasReads reads share
-  pub covered : (place : ℕ) → place < length share
+  pub covered : (offset : ℕ) → offset < length share
       → (read : Brought) × Contains reads read
-      × (read.0 ≤ place) × (place < read.0 + length read.1)
+      × (read.0 ≤ offset) × (offset < read.0 + length read.1)
 
--- the reads follow one another, from a place up to another
+-- the reads follow one another, from an offset up to another
 abbrev pub AreConsecutive : ℕ → List Brought → ℕ → Type 0
-AreConsecutive place [] end = place ≡ end
-AreConsecutive place (read ∷ reads) end =
-    (read.0 ≡ place) × AreConsecutive (place + length read.1) reads end
+AreConsecutive offset [] end = offset ≡ end
+AreConsecutive offset (read ∷ reads) end =
+    (read.0 ≡ offset) × AreConsecutive (offset + length read.1) reads end
 
 -- their bytes, one after another
 abbrev pub joined : List Brought → List ℕ

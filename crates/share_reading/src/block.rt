@@ -7,7 +7,7 @@ use crate::error::OpeningError;
 use crate::header::ShareHeader;
 use crate::opening::Progress;
 use cap_text::VerifyCap;
-use share_layout::{Geometry, Places, has_header};
+use share_layout::{Geometry, Offsets, has_header};
 use share_verify::{geometry_of, read_ueb};
 use ueb::Ueb;
 
@@ -29,27 +29,27 @@ pub struct Opened {
     pub ueb: Ueb,
     /// The geometry by the extension block.
     pub geometry: Geometry,
-    /// The places of the share's sections, which are those of all shares of the file.
-    pub places: Places,
+    /// The offsets of the share's sections, which are those of all shares of the file.
+    pub offsets: Offsets,
 }
 
 impl PendingBlock {
-    ghost use Rattle.share_reading.specs.Opening.{Advances, next_place, text_of};
+    ghost use Rattle.share_reading.specs.Opening.{Advances, next_offset, text_of};
     ghost use Rattle.share_reading.specs.Refusal.{IsBlockRefusal};
     ghost use Rattle.share_reading.specs.declared.error.OpeningError.{OpeningError};
     ghost use Rattle.share_reading.specs.declared.opening.Opening.{Opening};
     ghost use Rattle.share_reading.specs.declared.opening.Opening.TheVariants as openings;
 
-    /// The place of the extension block.
-    pub(crate) fn place(&self) -> u64
-        ensures value { result ≡ next_place (openings.Block self.now) }
+    /// The offset of the extension block.
+    pub(crate) fn offset(&self) -> u64
+        ensures value { result ≡ next_offset (openings.Block self.now) }
         ensures small { result + max_length < 2 ^ 64 }
     {
-        let places = &self.header.places;
-        places.extension_block + places.layout.width() as u64
+        let offsets = &self.header.offsets;
+        offsets.extension_block + offsets.layout.width() as u64
     }
 
-    /// What comes of the bytes that stand at the extension block's place.
+    /// What comes of the bytes that stand at the extension block's offset.
     pub(crate) fn take(&self, cap: &VerifyCap, bytes: &[u8]) -> Result<Progress, OpeningError>
         requires long { length bytes.now ≡ self.now.block_length }
         ensures taken { IfOk result (Advances cap.now (openings.Block self.now) bytes.now) }
@@ -67,7 +67,7 @@ impl PendingBlock {
         Ok(Progress::Done(Opened {
             ueb,
             geometry,
-            places: Places::of(&geometry),
+            offsets: Offsets::of(&geometry),
         }))
     }
 }

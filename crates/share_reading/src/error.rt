@@ -11,9 +11,9 @@ use share_verify::{Check, ShareFault};
 pub enum OpeningError {
     /// A read brought another number of bytes than it asked for.
     OtherLength,
-    /// The header tells no places: `BadVersion` or `BadOffset`.
+    /// The header tells no offsets: `BadVersion` or `BadOffset`.
     Header(LayoutError),
-    /// The header tells so high a place that an extension block there might end past 2^64.
+    /// The header tells so high an offset that an extension block there might end past 2^64.
     TooFar,
     /// The extension block's length is over `ueb::MAX_LENGTH`.
     TooLong,

@@ -3,11 +3,11 @@
 ghost use Rattle.std.specs.Prelude.{◌≡◌, ◌≤◌, ◌↔◌, ◌++◌, ◌+◌, ◌<◌, ◌^◌, length, take, IfOk};
 ghost use Rattle.std.specs.Prelude.{Err, IsTrue};
 ghost use Rattle.share_layout.specs.Layout.{header, header_size};
-ghost use Rattle.share_layout.specs.Places.{layout_in};
+ghost use Rattle.share_layout.specs.Offsets.{layout_in};
 ghost use Rattle.share_reading.specs.Header.{IsReachable, IsRightHeader, IsSecond};
 
 use crate::error::OpeningError;
-use share_layout::{Geometry, Places};
+use share_layout::{Geometry, Offsets};
 use ueb::MAX_LENGTH;
 
 /// The first 36 bytes of a header that begins with version 2: 32 more belong to it.
@@ -19,14 +19,14 @@ pub struct HeaderStart {
     pub ghost second: { IsSecond bytes },
 }
 
-/// A header that was read whole, and the places that it tells.
+/// A header that was read whole, and the offsets that it tells.
 #[derive(Clone, Copy, PartialEq, Eq)]
 pub struct ShareHeader {
     /// The header, in the first 36 or 68 bytes: as many as its layout gives it.
     pub bytes: [u8; 68],
-    /// The places.
-    pub places: Places,
-    pub ghost right: { IsRightHeader bytes places },
+    /// The offsets.
+    pub offsets: Offsets,
+    pub ghost right: { IsRightHeader bytes offsets },
 }
 
 impl ShareHeader {
@@ -38,7 +38,7 @@ impl ShareHeader {
     pub fn text(&self) -> &[u8]
         ensures { result.now ≡ text_of self.now }
     {
-        &self.bytes[..self.places.layout.header_size()]
+        &self.bytes[..self.offsets.layout.header_size()]
     }
 
     /// The header that these bytes are, or why its share is given up.
@@ -48,18 +48,18 @@ impl ShareHeader {
         ensures refused { (error : OpeningError)
             → (result ≡ Err error) ↔ IsHeaderRefusal bytes.now error }
     {
-        let places = match Places::read(bytes) {
-            Ok(places) => places,
+        let offsets = match Offsets::read(bytes) {
+            Ok(offsets) => offsets,
             Err(error) => return Err(OpeningError::Header(error)),
         };
-        if !is_reachable(&places) {
+        if !is_reachable(&offsets) {
             return Err(OpeningError::TooFar);
         }
         let mut whole = [0; 68];
         whole[..bytes.len()].copy_from_slice(bytes);
         Ok(ShareHeader {
             bytes: whole,
-            places,
+            offsets,
         })
     }
 }
@@ -92,11 +92,11 @@ impl HeaderStart {
     }
 }
 
-// Whether an extension block of any length, at its place, ends before 2^64.
-fn is_reachable(places: &Places) -> bool
-    ensures { IsTrue result ↔ IsReachable places.now }
+// Whether an extension block of any length, at its offset, ends before 2^64.
+fn is_reachable(offsets: &Offsets) -> bool
+    ensures { IsTrue result ↔ IsReachable offsets.now }
 {
-    places.extension_block <= u64::MAX - (places.layout.width() + MAX_LENGTH) as u64
+    offsets.extension_block <= u64::MAX - (offsets.layout.width() + MAX_LENGTH) as u64
 }
 
 /// Whether the header of each share of a file with this geometry begins with these bytes.

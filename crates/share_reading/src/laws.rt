@@ -15,7 +15,7 @@ pub fn readings_go_on()
     ensures { GoOn }
 {}
 
-/// Where a share is read whole, the bytes that were read are those of one share, joined by place.
+/// Where a share is read whole, the bytes that were read are those of one share, joined by offset.
 pub fn readings_end()
     ensures { End }
 {}
@@ -31,7 +31,7 @@ pub fn whole_shares_are_one()
 {}
 
 /// A share has at most one kind of verdict, and one that was read to its end fails one check first.
-/// Where no two of its reads begin at one place, it has one verdict; so where its reading stopped,
+/// Where no two of its reads begin at one offset, it has one verdict; so where its reading stopped,
 /// it fails the check of the first fault of its beginning, and no other.
 pub fn verdicts_are_exclusive()
     ensures { AreExclusive }

@@ -4,8 +4,9 @@ ghost use Rattle.std.specs.Prelude.{◌≡◌, ◌≤◌, ◌<◌, ◌+◌, ◌+
 ghost use Rattle.std.specs.Prelude.{length};
 ghost use Rattle.ueb.specs.Limits.{max_length};
 ghost use Rattle.share_layout.specs.Layout.{width};
-ghost use Rattle.share_layout.specs.Places.{layout_in, number_at};
-ghost use Rattle.share_reading.specs.Opening.{Advances, Agrees, Continues, next_length, next_place};
+ghost use Rattle.share_layout.specs.Offsets.{layout_in, number_at};
+ghost use Rattle.share_reading.specs.Opening.{Advances, Agrees, Continues, next_length};
+ghost use Rattle.share_reading.specs.Opening.{next_offset};
 ghost use Rattle.share_reading.specs.Opening.{text_of};
 ghost use Rattle.share_reading.specs.OpeningReads.{Brought, IsLedToBy, IsOpening};
 ghost use Rattle.share_reading.specs.Refusal.{IsHeaderRefusal, IsLengthRefusal, IsRefused};
@@ -48,16 +49,16 @@ impl Opening {
         Opening::Start
     }
 
-    /// The place of the first byte to read next.
-    pub fn next_place(&self) -> u64
-        ensures value { result ≡ next_place self.now }
+    /// The offset of the first byte to read next.
+    pub fn next_offset(&self) -> u64
+        ensures value { result ≡ next_offset self.now }
         ensures small { result + next_length self.now < 2 ^ 64 }
     {
         match self {
             Opening::Start => 0,
             Opening::Second(_) => 36,
-            Opening::Header(header) => header.places.extension_block,
-            Opening::Block(block) => block.place(),
+            Opening::Header(header) => header.offsets.extension_block,
+            Opening::Block(block) => block.offset(),
         }
     }
 
@@ -67,12 +68,12 @@ impl Opening {
         ensures range { (0 < result) × (result ≤ max_length) }
         // A read of so many bytes is one of an opening.
         ensures opening { (reads : List Brought) → IsLedToBy reads self.now
-            → IsOpening reads (next_place self.now) result }
+            → IsOpening reads (next_offset self.now) result }
     {
         match self {
             Opening::Start => 36,
             Opening::Second(_) => 32,
-            Opening::Header(header) => header.places.layout.width() as u32,
+            Opening::Header(header) => header.offsets.layout.width() as u32,
             Opening::Block(block) => block.block_length,
         }
     }
@@ -142,12 +143,12 @@ fn complete(start: &HeaderStart, bytes: &[u8]) -> Result<Opening, OpeningError>
 
 // The opening with the extension block's length behind this header.
 fn take_length(header: &ShareHeader, bytes: &[u8]) -> Result<Opening, OpeningError>
-    requires long { length bytes.now ≡ width header.now.places.layout }
+    requires long { length bytes.now ≡ width header.now.offsets.layout }
     ensures continues { IfOk result (Continues (Opening.Header header.now) bytes.now) }
     ensures refused { (error : OpeningError) → (result ≡ Err error)
-        ↔ IsLengthRefusal (number_at header.now.places.layout bytes.now 0) error }
+        ↔ IsLengthRefusal (number_at header.now.offsets.layout bytes.now 0) error }
 {
-    let told = number_at(header.places.layout, bytes, 0);
+    let told = number_at(header.offsets.layout, bytes, 0);
     if told > MAX_LENGTH as u64 {
         return Err(OpeningError::TooLong);
     }

@@ -4,7 +4,7 @@ ghost use Rattle.std.specs.Prelude.{◌≡◌, ◌≤◌, ◌<◌, ◌↔◌, If
 ghost use Rattle.wire.specs.Limits.{most_data};
 ghost use Rattle.share_verify.specs.declared.check.Check.{Check};
 ghost use Rattle.share_reading.specs.Reading.{Advances, IsStop};
-ghost use Rattle.share_reading.specs.Reading.{is_behind, next_length, next_place};
+ghost use Rattle.share_reading.specs.Reading.{is_behind, next_length, next_offset};
 
 use crate::block::Opened;
 use crate::opening::{Opening, Progress as OpeningProgress};
@@ -38,12 +38,12 @@ impl ShareReading {
         ShareReading::Beginning(Opening::start())
     }
 
-    /// The place of the first byte to read next.
-    pub fn next_place(&self) -> u64
-        ensures { result ≡ next_place self.now }
+    /// The offset of the first byte to read next.
+    pub fn next_offset(&self) -> u64
+        ensures { result ≡ next_offset self.now }
     {
         match self {
-            ShareReading::Beginning(opening) => opening.next_place(),
+            ShareReading::Beginning(opening) => opening.next_offset(),
             ShareReading::Remaining(rest) => rest.next,
         }
     }

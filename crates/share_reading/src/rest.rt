@@ -10,7 +10,7 @@ ghost use Rattle.wire.specs.Limits.{most_data};
 
 use crate::block::Opened;
 use crate::reading::{Progress, ShareReading};
-use share_layout::Places;
+use share_layout::Offsets;
 use share_verify::{Check, geometry_of};
 use ueb::Ueb;
 use wire::message::MAX_PIECE;
@@ -20,12 +20,12 @@ use wire::message::MAX_PIECE;
 pub struct Rest {
     /// What the extension block says.
     pub ueb: Ueb,
-    /// The places of the share's sections.
-    pub places: Places,
-    /// The place of the first byte that is not read.
+    /// The offsets of the share's sections.
+    pub offsets: Offsets,
+    /// The offset of the first byte that is not read.
     pub next: u64,
-    pub ghost behind: { header_size places.layout ≤ next },
-    pub ghost more: { next < places.extension_block },
+    pub ghost behind: { header_size offsets.layout ≤ next },
+    pub ghost more: { next < offsets.extension_block },
 }
 
 impl Rest {
@@ -48,12 +48,12 @@ impl Rest {
     pub(crate) fn begin(opened: &Opened) -> Progress
         ensures { BeginsRest opened.now result }
     {
-        let places = opened.places;
-        let next = places.layout.header_size() as u64;
-        if next < places.extension_block {
+        let offsets = opened.offsets;
+        let next = offsets.layout.header_size() as u64;
+        if next < offsets.extension_block {
             Progress::Next(ShareReading::Remaining(Rest {
                 ueb: opened.ueb,
-                places,
+                offsets,
                 next,
             }))
         } else {
@@ -65,9 +65,9 @@ impl Rest {
     pub(crate) fn next_length(&self) -> u32
         ensures value { result ≡ next_length (readings.Remaining self.now) }
         ensures range { (0 < result) × (result ≤ most_data) }
-        ensures within { self.now.next + result ≤ self.now.places.extension_block }
+        ensures within { self.now.next + result ≤ self.now.offsets.extension_block }
     {
-        (self.places.extension_block - self.next).min(MAX_PIECE as u64) as u32
+        (self.offsets.extension_block - self.next).min(MAX_PIECE as u64) as u32
     }
 
     /// What comes of the next bytes, or `Layout` where they are not as many as were asked for.
@@ -81,12 +81,12 @@ impl Rest {
         if bytes.len() != length as usize {
             return Err(Check::Layout);
         }
-        let end = self.places.extension_block;
+        let end = self.offsets.extension_block;
         let next = self.next + u64::from(length);
         if next < end {
             return Ok(Progress::Next(ShareReading::Remaining(Rest {
                 ueb: self.ueb,
-                places: self.places,
+                offsets: self.offsets,
                 next,
             })));
         }

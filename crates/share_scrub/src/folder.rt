@@ -118,7 +118,7 @@ impl<R: Files + AllocGlobal + Clone + Drop> Scrub<R> {
         let Some(file) = ShareFile::read(entry.file_name().as_bytes()) else {
             return Ok(());
         };
-        if index.is_some_and(|index| file.place.0 != *index || file.digest.is_none()) {
+        if index.is_some_and(|index| file.key.0 != *index || file.digest.is_none()) {
             return Ok(());
         }
         if file.digest.is_some() {

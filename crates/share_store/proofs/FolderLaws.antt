@@ -4,7 +4,7 @@ use Rattle.std.specs.Prelude.{Option, None, Some, option_map, unwrap_or, ◌⊎�
 use Rattle.share_store.specs.declared.error.StoreError.{StoreError}
 use Rattle.share_store.specs.declared.table.KeptShare.{KeptShare}
 use Rattle.share_store.specs.declared.files.OpenShare.{OpenShare}
-use Rattle.share_store.specs.Shelf.{Place, at, same_place}
+use Rattle.share_store.specs.Shelf.{ShareKey, at, same_key}
 use Rattle.share_store.specs.Table.{AreSeen, IsSeen}
 use Rattle.share_store.specs.Folder.{IsOpenedAt, length_at, lengths_of}
 use Rattle.share_store.proofs.ShelfLaws.{same_is}
@@ -13,8 +13,8 @@ pub stays : (k : Option KeptShare) → IsSeen k k
 stays None = refl
 stays (Some k) = inl refl
 
-pub all_stay : (old new : List (Place × KeptShare)) → new ≡ old → AreSeen old new
-all_stay old new same place = subst (λ (cs : List (Place × KeptShare)). IsSeen (at place old) (at place cs)) (sym same) (stays (at place old))
+pub all_stay : (old new : List (ShareKey × KeptShare)) → new ≡ old → AreSeen old new
+all_stay old new same key = subst (λ (cs : List (ShareKey × KeptShare)). IsSeen (at key old) (at key cs)) (sym same) (stays (at key old))
 
 seen_after : (k : KeptShare) (mid new : Option KeptShare) → mid ≡ Some k → IsSeen mid new → (new ≡ Some k) ⊎ ((k.length ≡ None) × ((new ≡ None) ⊎ ((n : ℕ) × (new ≡ Some (record { length = Some n; digest = k.digest })))))
 seen_after k mid new is seen = subst (λ (m : Option KeptShare). IsSeen m new) is seen
@@ -38,15 +38,15 @@ seen_more (Some k) mid new (inr (unknown, inl gone)) more = inr (unknown, inl (g
 seen_more (Some k) mid new (inr (unknown, inr known)) more =
     inr (unknown, inr (known.0, known_after k.digest known.0 new (seen_after (record { length = Some known.0; digest = k.digest }) mid new known.1 more)))
 
-pub all_seen_more : (old mid new : List (Place × KeptShare)) → AreSeen old mid → AreSeen mid new → AreSeen old new
-all_seen_more old mid new first more place = seen_more (at place old) (at place mid) (at place new) (first place) (more place)
+pub all_seen_more : (old mid new : List (ShareKey × KeptShare)) → AreSeen old mid → AreSeen mid new → AreSeen old new
+all_seen_more old mid new first more key = seen_more (at key old) (at key mid) (at key new) (first key) (more key)
 
 -- one share is looked at, and the others stay
-pub seen_at : (old new : List (Place × KeptShare)) (place : Place) → IsSeen (at place old) (at place new)
-    → ((other : Place) → same_place place other ≡ false → at other new ≡ at other old) → AreSeen old new
-seen_at old new place here others other =
-    elim (same_place place other) as (λ b. same_place place other ≡ b → IsSeen (at other old) (at other new)) [
-      | true ↦ λ e. subst (λ (p : Place). IsSeen (at p old) (at p new)) (same_is place other e) here
+pub seen_at : (old new : List (ShareKey × KeptShare)) (key : ShareKey) → IsSeen (at key old) (at key new)
+    → ((other : ShareKey) → same_key key other ≡ false → at other new ≡ at other old) → AreSeen old new
+seen_at old new key here others other =
+    elim (same_key key other) as (λ b. same_key key other ≡ b → IsSeen (at other old) (at other new)) [
+      | true ↦ λ e. subst (λ (p : ShareKey). IsSeen (at p old) (at p new)) (same_is key other e) here
       | false ↦ λ e. subst (λ (x : Option KeptShare). IsSeen (at other old) x) (sym (others other e)) (stays (at other old))
     ] refl
 
@@ -57,29 +57,29 @@ noted digest n old new is after = subst (λ (o : Option KeptShare). IsSeen o new
 pub gone : (digest : List ℕ) (old new : Option KeptShare) → old ≡ Some (record { length = None; digest = digest }) → new ≡ None → IsSeen old new
 gone digest old new is after = subst (λ (o : Option KeptShare). IsSeen o new) (sym is) (inr (refl, inl after))
 
-pub noted_all : (r : Result Unit StoreError) (place : Place) (digest : List ℕ) (n : ℕ) (old new : List (Place × KeptShare)) → at place old ≡ Some (record { length = None; digest = digest })
-    → OnOk r (at place new ≡ Some (record { length = Some n; digest = digest })) → OnOk r ((other : Place) → same_place place other ≡ false → at other new ≡ at other old)
+pub noted_all : (r : Result Unit StoreError) (key : ShareKey) (digest : List ℕ) (n : ℕ) (old new : List (ShareKey × KeptShare)) → at key old ≡ Some (record { length = None; digest = digest })
+    → OnOk r (at key new ≡ Some (record { length = Some n; digest = digest })) → OnOk r ((other : ShareKey) → same_key key other ≡ false → at other new ≡ at other old)
     → OnErr r (new ≡ old) → AreSeen old new
-noted_all (Ok u) place digest n old new is after others err = seen_at old new place (noted digest n (at place old) (at place new) is after) others
-noted_all (Err e) place digest n old new is after others err = all_stay old new err
+noted_all (Ok u) key digest n old new is after others err = seen_at old new key (noted digest n (at key old) (at key new) is after) others
+noted_all (Err e) key digest n old new is after others err = all_stay old new err
 
-pub gone_all : (place : Place) (digest : List ℕ) (old new : List (Place × KeptShare)) → at place old ≡ Some (record { length = None; digest = digest }) → at place new ≡ None
-    → ((other : Place) → same_place place other ≡ false → at other new ≡ at other old) → AreSeen old new
-gone_all place digest old new is after others = seen_at old new place (gone digest (at place old) (at place new) is after) others
+pub gone_all : (key : ShareKey) (digest : List ℕ) (old new : List (ShareKey × KeptShare)) → at key old ≡ Some (record { length = None; digest = digest }) → at key new ≡ None
+    → ((other : ShareKey) → same_key key other ≡ false → at other new ≡ at other old) → AreSeen old new
+gone_all key digest old new is after others = seen_at old new key (gone digest (at key old) (at key new) is after) others
 
 -- what is found of an open share's length
-pub length_is : {F : Type 0} (opened : List (Place × OpenShare F)) (place : Place)
-    → length_at place (lengths_of opened) ≡ unwrap_or (option_map (λ (o : OpenShare F). o.length) (at place opened)) 0
-length_is [] place = refl
-length_is {F} (o ∷ opened) place =
-    elim (same_place place o.0) as (λ b. unwrap_or (cond b (Some o.1.length) (at place (lengths_of opened))) 0
-    ≡ unwrap_or (option_map (λ (o : OpenShare F). o.length) (cond b (Some o.1) (at place opened))) 0) [
+pub length_is : {F : Type 0} (opened : List (ShareKey × OpenShare F)) (key : ShareKey)
+    → length_at key (lengths_of opened) ≡ unwrap_or (option_map (λ (o : OpenShare F). o.length) (at key opened)) 0
+length_is [] key = refl
+length_is {F} (o ∷ opened) key =
+    elim (same_key key o.0) as (λ b. unwrap_or (cond b (Some o.1.length) (at key (lengths_of opened))) 0
+    ≡ unwrap_or (option_map (λ (o : OpenShare F). o.length) (cond b (Some o.1) (at key opened))) 0) [
       | true ↦ refl
-      | false ↦ length_is opened place
+      | false ↦ length_is opened key
     ]
 
 -- the others were found as long as before
-pub opened_at : {F : Type 0} (place : Place) (old new : List (Place × OpenShare F))
-    → ((other : Place) → same_place place other ≡ false → at other new ≡ at other old) → IsOpenedAt place (lengths_of old) (lengths_of new)
-opened_at {F} place old new others other apart =
+pub opened_at : {F : Type 0} (key : ShareKey) (old new : List (ShareKey × OpenShare F))
+    → ((other : ShareKey) → same_key key other ≡ false → at other new ≡ at other old) → IsOpenedAt key (lengths_of old) (lengths_of new)
+opened_at {F} key old new others other apart =
     length_is new other ∙ ap (λ (r : Option (OpenShare F)). unwrap_or (option_map (λ (o : OpenShare F). o.length) r) 0) (others other apart) ∙ sym (length_is old other)

@@ -14,46 +14,46 @@ use Rattle.std.proofs.lemmas.Bool.{le-leb}
 use Rattle.std.proofs.lemmas.Map.Keys.{sorted_head, sorted_tail}
 use Rattle.wire.specs.Held.{rises_from}
 use Rattle.wire.specs.declared.message.HeldShare.{HeldShare}
-use Rattle.share_store.specs.Shelf.{Place, order, is_under, held_by}
-use Rattle.share_store.proofs.PlaceLaws.{rises_under}
+use Rattle.share_store.specs.Shelf.{ShareKey, order, is_under, held_by}
+use Rattle.share_store.proofs.KeyLaws.{rises_under}
 
--- what lies between the lowest and the highest place of a storage index is under it
-range_under : (index : List ℕ) (place : Place) → range_contains order (Included (index, 0)) (Included (index, 255)) place ≡ is_under index place
-range_under index place = by (slice_cmp nat_cmp index place.0)
+-- what lies between the lowest and the highest key of a storage index is under it
+range_under : (index : List ℕ) (key : ShareKey) → range_contains order (Included (index, 0)) (Included (index, 255)) key ≡ is_under index key
+range_under index key = by (slice_cmp nat_cmp index key.0)
   where
-    by : (o : Ordering) → (is_le (ordering_then o (nat_cmp 0 place.1)) && not (is_lt (ordering_then o (nat_cmp 255 place.1)))) ≡ (is_eq o && nat_le place.1 255)
+    by : (o : Ordering) → (is_le (ordering_then o (nat_cmp 0 key.1)) && not (is_lt (ordering_then o (nat_cmp 255 key.1)))) ≡ (is_eq o && nat_le key.1 255)
     by Less = refl
-    by Equal = number place.1
+    by Equal = number key.1
       where
         number : (n : ℕ) → (is_le (nat_cmp 0 n) && not (is_lt (nat_cmp 255 n))) ≡ nat_le n 255
         number n = search rules
     by Greater = refl
 
 -- the numbers under a storage index are at least so great
-abbrev Above : List ℕ → ℕ → List Place → Type 0
-Above index low = AllByRecursion (λ place. is_under index place ≡ true → low ≤ place.1)
+abbrev Above : List ℕ → ℕ → List ShareKey → Type 0
+Above index low = AllByRecursion (λ key. is_under index key ≡ true → low ≤ key.1)
 
-above_first : (index : List ℕ) (x : Place) → is_under index x ≡ true → (ps : List Place) → AllByRecursion (λ y. order x y ≡ Less) ps → Above index (x.1 + 1) ps
+above_first : (index : List ℕ) (x : ShareKey) → is_under index x ≡ true → (ps : List ShareKey) → AllByRecursion (λ y. order x y ≡ Less) ps → Above index (x.1 + 1) ps
 above_first index x u [] below = tt
 above_first index x u (p ∷ ps) below = ((λ v. rises_under index x p u v below.0), above_first index x u ps below.1)
 
-above_none : (index : List ℕ) (ps : List Place) → Above index 0 ps
+above_none : (index : List ℕ) (ps : List ShareKey) → Above index 0 ps
 above_none index [] = tt
 above_none index (p ∷ ps) = ((λ u. omega arith), above_none index ps)
 
 module _ {A : Type 0} where
-  filter_same : (p q : Place × A → Bool) → ((e : Place × A) → p e ≡ q e) → (es : List (Place × A)) → filter p es ≡ filter q es
+  filter_same : (p q : ShareKey × A → Bool) → ((e : ShareKey × A) → p e ≡ q e) → (es : List (ShareKey × A)) → filter p es ≡ filter q es
   filter_same p q same [] = refl
   filter_same p q same (e ∷ es) = λ i. cond (same e i) (e ∷ filter_same p q same es i) (filter_same p q same es i)
 
-  abbrev pub share_of : (A → List ℕ) → Place × A → HeldShare
+  abbrev pub share_of : (A → List ℕ) → ShareKey × A → HeldShare
   share_of digest_of e = record { share = e.0.1; digest = digest_of e.1 }
 
-  pub between_held : (digest_of : A → List ℕ) (index : List ℕ) (es : List (Place × A))
+  pub between_held : (digest_of : A → List ℕ) (index : List ℕ) (es : List (ShareKey × A))
       → map (share_of digest_of) (entries_between order (Included (index, 0)) (Included (index, 255)) es) ≡ held_by digest_of index es
   between_held digest_of index es = ap (map (share_of digest_of)) (filter_same _ _ (λ e. range_under index e.0) es)
 
-  rises_on : (digest_of : A → List ℕ) (index : List ℕ) (low : ℕ) (es : List (Place × A)) → IsStrictlySortedBy order (keys_of es) → Above index low (keys_of es)
+  rises_on : (digest_of : A → List ℕ) (index : List ℕ) (low : ℕ) (es : List (ShareKey × A)) → IsStrictlySortedBy order (keys_of es) → Above index low (keys_of es)
       → rises_from low (held_by digest_of index es) ≡ true
   rises_on digest_of index low [] sorted above = refl
   rises_on digest_of index low (e ∷ es) sorted above =
@@ -65,5 +65,5 @@ module _ {A : Type 0} where
         | false ↦ λ u. rises_on digest_of index low es (sorted_tail order e.0 (keys_of es) sorted) above.1
       ] refl
 
-  pub held_rises : (digest_of : A → List ℕ) (index : List ℕ) (es : List (Place × A)) → IsStrictlySortedBy order (keys_of es) → rises_from 0 (held_by digest_of index es) ≡ true
+  pub held_rises : (digest_of : A → List ℕ) (index : List ℕ) (es : List (ShareKey × A)) → IsStrictlySortedBy order (keys_of es) → rises_from 0 (held_by digest_of index es) ≡ true
   held_rises digest_of index es sorted = rises_on digest_of index 0 es sorted (above_none index (keys_of es))

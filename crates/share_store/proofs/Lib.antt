@@ -1,4 +1,4 @@
-pub mod PlaceLaws
+pub mod KeyLaws
 pub mod HeldLaws
 pub mod ShelfLaws
 pub mod MemoryLaws

@@ -6,8 +6,8 @@ use Rattle.std.specs.Cmp.Lexicographic.{pointwise, bytes_decides}
 use Rattle.std.proofs.lemmas.List.{take-append-drop, take_at, drop_at, append_assoc, length-append, same_from_push}
 use Rattle.cap_text.specs.Base32.{base32}
 use Rattle.cap_text.proofs.Reading.{spelled, sizes}
-use Rattle.share_store.specs.Shelf.{Place}
-use Rattle.share_store.specs.Names.{closed_name, open_name, IsNamed, IsPlace}
+use Rattle.share_store.specs.Shelf.{ShareKey}
+use Rattle.share_store.specs.Names.{closed_name, open_name, IsNamed, IsShareKey}
 
 -- what is left of a text without a first and a last dot
 pub stands_between : {X : Type 0} (N : Type 0) (f : X → List ℕ) (text mid : List ℕ) (r : Option X) → pointwise nat_eq (take 1 text) (46 ∷ []) ≡ true → mid ≡ drop 1 text
@@ -52,80 +52,80 @@ five : (a b c d e : List ℕ) → a ++ b ++ c ++ d ++ e ≡ a ++ (b ++ (c ++ (d 
 five a b c d e = append_assoc (a ++ b ++ c) d e ∙ append_assoc (a ++ b) c (d ++ e) ∙ append_assoc a b (c ++ (d ++ e))
 
 -- a closed share's name, from the left
-from_left : (place : Place) (digest : List ℕ) → closed_name place digest ≡ base32 place.0 ++ (46 ∷ (decimal place.1 ++ (46 ∷ base32 digest)))
-from_left place digest = five (base32 place.0) (46 ∷ []) (decimal place.1) (46 ∷ []) (base32 digest)
+from_left : (key : ShareKey) (digest : List ℕ) → closed_name key digest ≡ base32 key.0 ++ (46 ∷ (decimal key.1 ++ (46 ∷ base32 digest)))
+from_left key digest = five (base32 key.0) (46 ∷ []) (decimal key.1) (46 ∷ []) (base32 digest)
 
 mid : ℕ → List ℕ
 mid n = 46 ∷ (decimal n ++ 46 ∷ [])
 
-pub index_part : (name : List ℕ) (place : Place) (digest : List ℕ) → IsNamed place digest → name ≡ closed_name place digest → take 26 name ≡ base32 place.0
-index_part name place digest named is = ap (take 26) (is ∙ from_left place digest) ∙ take_at (base32 place.0) (46 ∷ (decimal place.1 ++ (46 ∷ base32 digest))) 26 (letters_16 place.0 named.0.len)
+pub index_part : (name : List ℕ) (key : ShareKey) (digest : List ℕ) → IsNamed key digest → name ≡ closed_name key digest → take 26 name ≡ base32 key.0
+index_part name key digest named is = ap (take 26) (is ∙ from_left key digest) ∙ take_at (base32 key.0) (46 ∷ (decimal key.1 ++ (46 ∷ base32 digest))) 26 (letters_16 key.0 named.0.len)
 
-rest_part : (name : List ℕ) (place : Place) (digest : List ℕ) → IsNamed place digest → name ≡ closed_name place digest → drop 26 name ≡ mid place.1 ++ base32 digest
+rest_part : (name : List ℕ) (key : ShareKey) (digest : List ℕ) → IsNamed key digest → name ≡ closed_name key digest → drop 26 name ≡ mid key.1 ++ base32 digest
 unfolding mid
-rest_part name place digest named is =
-    ap (drop 26) (is ∙ from_left place digest) ∙ drop_at (base32 place.0) (46 ∷ (decimal place.1 ++ (46 ∷ base32 digest))) 26 (letters_16 place.0 named.0.len)
-    ∙ ap (λ (xs : List ℕ). 46 ∷ xs) (sym (append_assoc (decimal place.1) (46 ∷ []) (base32 digest)))
+rest_part name key digest named is =
+    ap (drop 26) (is ∙ from_left key digest) ∙ drop_at (base32 key.0) (46 ∷ (decimal key.1 ++ (46 ∷ base32 digest))) 26 (letters_16 key.0 named.0.len)
+    ∙ ap (λ (xs : List ℕ). 46 ∷ xs) (sym (append_assoc (decimal key.1) (46 ∷ []) (base32 digest)))
 
 before_digest : (n : ℕ) (digest : List ℕ) → length digest ≡ 32 → length (mid n) ≡ length (mid n ++ base32 digest) - 52
 before_digest n digest len =
     let long = length-append (mid n) (base32 digest) in
     omega (arith, long, letters_32 digest len)
 
-pub share_part : (name : List ℕ) (place : Place) (digest : List ℕ) → IsNamed place digest → name ≡ closed_name place digest
-    → take (length (drop 26 name) - 52) (drop 26 name) ≡ 46 ∷ (decimal place.1 ++ 46 ∷ [])
+pub share_part : (name : List ℕ) (key : ShareKey) (digest : List ℕ) → IsNamed key digest → name ≡ closed_name key digest
+    → take (length (drop 26 name) - 52) (drop 26 name) ≡ 46 ∷ (decimal key.1 ++ 46 ∷ [])
 unfolding mid
-share_part name place digest named is =
-    ap (λ (xs : List ℕ). take (length xs - 52) xs) (rest_part name place digest named is)
-    ∙ take_at (mid place.1) (base32 digest) _ (before_digest place.1 digest named.2.len)
+share_part name key digest named is =
+    ap (λ (xs : List ℕ). take (length xs - 52) xs) (rest_part name key digest named is)
+    ∙ take_at (mid key.1) (base32 digest) _ (before_digest key.1 digest named.2.len)
 
-pub digest_part : (name : List ℕ) (place : Place) (digest : List ℕ) → IsNamed place digest → name ≡ closed_name place digest
+pub digest_part : (name : List ℕ) (key : ShareKey) (digest : List ℕ) → IsNamed key digest → name ≡ closed_name key digest
     → drop (length (drop 26 name) - 52) (drop 26 name) ≡ base32 digest
-digest_part name place digest named is =
-    ap (λ (xs : List ℕ). drop (length xs - 52) xs) (rest_part name place digest named is)
-    ∙ drop_at (mid place.1) (base32 digest) _ (before_digest place.1 digest named.2.len)
+digest_part name key digest named is =
+    ap (λ (xs : List ℕ). drop (length xs - 52) xs) (rest_part name key digest named is)
+    ∙ drop_at (mid key.1) (base32 digest) _ (before_digest key.1 digest named.2.len)
 
-pub long_enough : (name : List ℕ) (place : Place) (digest : List ℕ) → IsNamed place digest → name ≡ closed_name place digest → length name < 80 → ⊥
-long_enough name place digest named is short =
-    let first = length-append (base32 place.0) (46 ∷ (decimal place.1 ++ (46 ∷ base32 digest))) in
-    let last = length-append (decimal place.1) (46 ∷ base32 digest) in
-    let whole : length name ≡ length (base32 place.0 ++ (46 ∷ (decimal place.1 ++ (46 ∷ base32 digest)))) = ap length (is ∙ from_left place digest) in
-    omega (arith, whole, first, last, letters_16 place.0 named.0.len, letters_32 digest named.2.len, short)
+pub long_enough : (name : List ℕ) (key : ShareKey) (digest : List ℕ) → IsNamed key digest → name ≡ closed_name key digest → length name < 80 → ⊥
+long_enough name key digest named is short =
+    let first = length-append (base32 key.0) (46 ∷ (decimal key.1 ++ (46 ∷ base32 digest))) in
+    let last = length-append (decimal key.1) (46 ∷ base32 digest) in
+    let whole : length name ≡ length (base32 key.0 ++ (46 ∷ (decimal key.1 ++ (46 ∷ base32 digest)))) = ap length (is ∙ from_left key digest) in
+    omega (arith, whole, first, last, letters_16 key.0 named.0.len, letters_32 digest named.2.len, short)
 
 -- an open share's name, from the left
-open_from_left : (place : Place) → open_name place ≡ base32 place.0 ++ (mid place.1 ++ codes "open")
+open_from_left : (key : ShareKey) → open_name key ≡ base32 key.0 ++ (mid key.1 ++ codes "open")
 unfolding mid
-open_from_left place =
-    append_assoc (base32 place.0 ++ 46 ∷ []) (decimal place.1) (codes ".open") ∙ append_assoc (base32 place.0) (46 ∷ []) (decimal place.1 ++ codes ".open")
-    ∙ ap (λ (xs : List ℕ). base32 place.0 ++ (46 ∷ xs)) (sym (append_assoc (decimal place.1) (46 ∷ []) (codes "open")))
+open_from_left key =
+    append_assoc (base32 key.0 ++ 46 ∷ []) (decimal key.1) (codes ".open") ∙ append_assoc (base32 key.0) (46 ∷ []) (decimal key.1 ++ codes ".open")
+    ∙ ap (λ (xs : List ℕ). base32 key.0 ++ (46 ∷ xs)) (sym (append_assoc (decimal key.1) (46 ∷ []) (codes "open")))
 
-pub open_index_part : (name : List ℕ) (place : Place) → IsPlace place → name ≡ open_name place → take 26 name ≡ base32 place.0
-open_index_part name place placed is = ap (take 26) (is ∙ open_from_left place) ∙ take_at (base32 place.0) (mid place.1 ++ codes "open") 26 (letters_16 place.0 placed.0.len)
+pub open_index_part : (name : List ℕ) (key : ShareKey) → IsShareKey key → name ≡ open_name key → take 26 name ≡ base32 key.0
+open_index_part name key placed is = ap (take 26) (is ∙ open_from_left key) ∙ take_at (base32 key.0) (mid key.1 ++ codes "open") 26 (letters_16 key.0 placed.0.len)
 
-open_rest_part : (name : List ℕ) (place : Place) → IsPlace place → name ≡ open_name place → drop 26 name ≡ mid place.1 ++ codes "open"
-open_rest_part name place placed is = ap (drop 26) (is ∙ open_from_left place) ∙ drop_at (base32 place.0) (mid place.1 ++ codes "open") 26 (letters_16 place.0 placed.0.len)
+open_rest_part : (name : List ℕ) (key : ShareKey) → IsShareKey key → name ≡ open_name key → drop 26 name ≡ mid key.1 ++ codes "open"
+open_rest_part name key placed is = ap (drop 26) (is ∙ open_from_left key) ∙ drop_at (base32 key.0) (mid key.1 ++ codes "open") 26 (letters_16 key.0 placed.0.len)
 
 before_end : (n : ℕ) → length (mid n) ≡ length (mid n ++ codes "open") - 4
 before_end n =
     let long : length (mid n ++ codes "open") ≡ length (mid n) + 4 = length-append (mid n) (codes "open") in
     omega (arith, long)
 
-pub open_share_part : (name : List ℕ) (place : Place) → IsPlace place → name ≡ open_name place
-    → take (length (drop 26 name) - 4) (drop 26 name) ≡ 46 ∷ (decimal place.1 ++ 46 ∷ [])
+pub open_share_part : (name : List ℕ) (key : ShareKey) → IsShareKey key → name ≡ open_name key
+    → take (length (drop 26 name) - 4) (drop 26 name) ≡ 46 ∷ (decimal key.1 ++ 46 ∷ [])
 unfolding mid
-open_share_part name place placed is =
-    ap (λ (xs : List ℕ). take (length xs - 4) xs) (open_rest_part name place placed is) ∙ take_at (mid place.1) (codes "open") _ (before_end place.1)
+open_share_part name key placed is =
+    ap (λ (xs : List ℕ). take (length xs - 4) xs) (open_rest_part name key placed is) ∙ take_at (mid key.1) (codes "open") _ (before_end key.1)
 
-pub open_end_part : (name : List ℕ) (place : Place) → IsPlace place → name ≡ open_name place → drop (length (drop 26 name) - 4) (drop 26 name) ≡ codes "open"
-open_end_part name place placed is =
-    ap (λ (xs : List ℕ). drop (length xs - 4) xs) (open_rest_part name place placed is) ∙ drop_at (mid place.1) (codes "open") _ (before_end place.1)
+pub open_end_part : (name : List ℕ) (key : ShareKey) → IsShareKey key → name ≡ open_name key → drop (length (drop 26 name) - 4) (drop 26 name) ≡ codes "open"
+open_end_part name key placed is =
+    ap (λ (xs : List ℕ). drop (length xs - 4) xs) (open_rest_part name key placed is) ∙ drop_at (mid key.1) (codes "open") _ (before_end key.1)
 
-pub open_long_enough : (name : List ℕ) (place : Place) → IsPlace place → name ≡ open_name place → length name < 30 → ⊥
-open_long_enough name place placed is short =
-    let first = length-append (base32 place.0) (mid place.1 ++ codes "open") in
-    let last : length (mid place.1 ++ codes "open") ≡ length (mid place.1) + 4 = length-append (mid place.1) (codes "open") in
-    let whole : length name ≡ length (base32 place.0 ++ (mid place.1 ++ codes "open")) = ap length (is ∙ open_from_left place) in
-    omega (arith, whole, first, last, letters_16 place.0 placed.0.len, short)
+pub open_long_enough : (name : List ℕ) (key : ShareKey) → IsShareKey key → name ≡ open_name key → length name < 30 → ⊥
+open_long_enough name key placed is short =
+    let first = length-append (base32 key.0) (mid key.1 ++ codes "open") in
+    let last : length (mid key.1 ++ codes "open") ≡ length (mid key.1) + 4 = length-append (mid key.1) (codes "open") in
+    let whole : length name ≡ length (base32 key.0 ++ (mid key.1 ++ codes "open")) = ap length (is ∙ open_from_left key) in
+    omega (arith, whole, first, last, letters_16 key.0 placed.0.len, short)
 
 -- what its parts are put together to
 pub open_parts : (name front rest share end index : List ℕ) (n : ℕ) → front ≡ take 26 name → rest ≡ drop 26 name → share ≡ take (length rest - 4) rest

@@ -14,19 +14,19 @@ use Rattle.std.proofs.lemmas.Map.Entries.{sum_by-insert_entry}
 use Rattle.std.proofs.lemmas.Map.Lookups.{exact_pairs, exact_bytes, exact_unsigned}
 use Rattle.wire.specs.declared.message.HeldShare.{HeldShare}
 use Rattle.share_store.specs.declared.shelf.ClosedShare.{ClosedShare}
-use Rattle.share_store.specs.Shelf.{Place, order, same_place, at, used, is_under, held}
+use Rattle.share_store.specs.Shelf.{ShareKey, order, same_key, at, used, is_under, held}
 use Rattle.share_store.proofs.HeldLaws.{share_of}
-use Rattle.share_store.proofs.PlaceLaws.{order_total, both, equal}
+use Rattle.share_store.proofs.KeyLaws.{order_total, both, equal}
 
 bytes_of : Option ClosedShare → ℕ
 bytes_of found = unwrap_or (option_map (λ (c : ClosedShare). length c.bytes) found) 0
 
-pub used_with : (cs : List (Place × ClosedShare)) (place : Place) (share : ClosedShare) → IsStrictlySortedBy order (keys_of cs) → at place cs ≡ None
-    → used (insert_entry order cs place share) ≡ used cs + length share.bytes
+pub used_with : (cs : List (ShareKey × ClosedShare)) (key : ShareKey) (share : ClosedShare) → IsStrictlySortedBy order (keys_of cs) → at key cs ≡ None
+    → used (insert_entry order cs key share) ≡ used cs + length share.bytes
 unfolding bytes_of
-used_with cs place share sorted none =
-    let total = sum_by-insert_entry (λ (c : ClosedShare). length c.bytes) order_total cs place share sorted in
-    let nothing : bytes_of (at place cs) ≡ 0 = ap bytes_of none in
+used_with cs key share sorted none =
+    let total = sum_by-insert_entry (λ (c : ClosedShare). length c.bytes) order_total cs key share sorted in
+    let nothing : bytes_of (at key cs) ≡ 0 = ap bytes_of none in
     omega (arith, total, nothing)
 
 absurd_of : Equal ≡ Greater → ⊥
@@ -42,75 +42,75 @@ module _ {B : Type 0} where
   swapped true false x y z apart = refl
   swapped false b x y z apart = refl
 
--- a place is not both
-not_both : (q p r : Place) → order p r ≡ Greater → same_place q r ≡ true → same_place q p ≡ true → ⊥
+-- a key is not both
+not_both : (q p r : ShareKey) → order p r ≡ Greater → same_key q r ≡ true → same_key q p ≡ true → ⊥
 not_both q p r e a b = absurd_of (sym (sym (order_total.congr q p r (equal (order q p) b)) ∙ equal (order q r) a) ∙ e)
 
-below_less : (x y : Place) (ps : List Place) → order x y ≡ Less → AllByRecursion (λ z. order y z ≡ Less) ps → AllByRecursion (λ z. order x z ≡ Less) ps
+below_less : (x y : ShareKey) (ps : List ShareKey) → order x y ≡ Less → AllByRecursion (λ z. order y z ≡ Less) ps → AllByRecursion (λ z. order x z ≡ Less) ps
 below_less x y [] less below = tt
 below_less x y (p ∷ ps) less below = (order_total.trans x y p less below.0, below_less x y ps less below.1)
 
 module _ {A : Type 0} where
-  -- the new entry at its place, and the old ones at every other
-  pub at_with : (q place : Place) (share : A) (cs : List (Place × A)) → at q (insert_entry order cs place share) ≡ cond (same_place q place) (Some share) (at q cs)
-  at_with q place share [] = refl
-  at_with q place share (c ∷ cs) =
-      elim (order place c.0) as (λ r. order place c.0 ≡ r
-      → at q (match_ordering r ((place, share) ∷ c ∷ cs) ((c.0, share) ∷ cs) (c ∷ insert_entry order cs place share)) ≡ cond (same_place q place) (Some share) (at q (c ∷ cs))) [
+  -- the new entry at its key, and the old ones at every other
+  pub at_with : (q key : ShareKey) (share : A) (cs : List (ShareKey × A)) → at q (insert_entry order cs key share) ≡ cond (same_key q key) (Some share) (at q cs)
+  at_with q key share [] = refl
+  at_with q key share (c ∷ cs) =
+      elim (order key c.0) as (λ r. order key c.0 ≡ r
+      → at q (match_ordering r ((key, share) ∷ c ∷ cs) ((c.0, share) ∷ cs) (c ∷ insert_entry order cs key share)) ≡ cond (same_key q key) (Some share) (at q (c ∷ cs))) [
         | Less ↦ λ e. refl
-        | Equal ↦ λ e. shadowed (same_place q c.0) (Some share) (Some c.1) (at q cs)
-            ∙ ap (λ r. cond (is_eq r) (Some share) (at q (c ∷ cs))) (sym (alike_right order_total place c.0 q e))
-        | Greater ↦ λ e. ap (cond (same_place q c.0) (Some c.1)) (at_with q place share cs)
-            ∙ swapped (same_place q c.0) (same_place q place) (Some c.1) (Some share) (at q cs) (not_both q place c.0 e)
+        | Equal ↦ λ e. shadowed (same_key q c.0) (Some share) (Some c.1) (at q cs)
+            ∙ ap (λ r. cond (is_eq r) (Some share) (at q (c ∷ cs))) (sym (alike_right order_total key c.0 q e))
+        | Greater ↦ λ e. ap (cond (same_key q c.0) (Some c.1)) (at_with q key share cs)
+            ∙ swapped (same_key q c.0) (same_key q key) (Some c.1) (Some share) (at q cs) (not_both q key c.0 e)
       ] refl
 
-  -- what holds of every place and of the new one holds of every place after
-  all_with : (P : Place → Type 0) (place : Place) (share : A) (cs : List (Place × A)) → P place → AllByRecursion P (keys_of cs) → AllByRecursion P (keys_of (insert_entry order cs place share))
-  all_with P place share [] new old = (new, tt)
-  all_with P place share (c ∷ cs) new old =
-      elim (order place c.0) as (λ r. AllByRecursion P (keys_of (match_ordering r ((place, share) ∷ c ∷ cs) ((c.0, share) ∷ cs) (c ∷ insert_entry order cs place share)))) [
+  -- what holds of every key and of the new one holds of every key after
+  all_with : (P : ShareKey → Type 0) (key : ShareKey) (share : A) (cs : List (ShareKey × A)) → P key → AllByRecursion P (keys_of cs) → AllByRecursion P (keys_of (insert_entry order cs key share))
+  all_with P key share [] new old = (new, tt)
+  all_with P key share (c ∷ cs) new old =
+      elim (order key c.0) as (λ r. AllByRecursion P (keys_of (match_ordering r ((key, share) ∷ c ∷ cs) ((c.0, share) ∷ cs) (c ∷ insert_entry order cs key share)))) [
         | Less ↦ (new, old)
         | Equal ↦ old
-        | Greater ↦ (old.0, all_with P place share cs new old.1)
+        | Greater ↦ (old.0, all_with P key share cs new old.1)
       ]
 
-  -- the places still rise
-  pub sorted_with : (place : Place) (share : A) (cs : List (Place × A)) → IsStrictlySortedBy order (keys_of cs) → IsStrictlySortedBy order (keys_of (insert_entry order cs place share))
+  -- the keys still rise
+  pub sorted_with : (key : ShareKey) (share : A) (cs : List (ShareKey × A)) → IsStrictlySortedBy order (keys_of cs) → IsStrictlySortedBy order (keys_of (insert_entry order cs key share))
   unfolding IsStrictlySortedBy
-  sorted_with place share [] sorted = (tt, tt)
-  sorted_with place share (c ∷ cs) sorted =
-      elim (order place c.0) as (λ r. order place c.0 ≡ r
-      → IsStrictlySortedBy order (keys_of (match_ordering r ((place, share) ∷ c ∷ cs) ((c.0, share) ∷ cs) (c ∷ insert_entry order cs place share)))) [
-        | Less ↦ λ e. ((e, below_less place c.0 (keys_of cs) e sorted.0), sorted)
+  sorted_with key share [] sorted = (tt, tt)
+  sorted_with key share (c ∷ cs) sorted =
+      elim (order key c.0) as (λ r. order key c.0 ≡ r
+      → IsStrictlySortedBy order (keys_of (match_ordering r ((key, share) ∷ c ∷ cs) ((c.0, share) ∷ cs) (c ∷ insert_entry order cs key share)))) [
+        | Less ↦ λ e. ((e, below_less key c.0 (keys_of cs) e sorted.0), sorted)
         | Equal ↦ λ e. sorted
-        | Greater ↦ λ e. (all_with (λ y. order c.0 y ≡ Less) place share cs (order_total.antisymm c.0 place ∙ ap ordering_reverse e) sorted.0, sorted_with place share cs sorted.1)
+        | Greater ↦ λ e. (all_with (λ y. order c.0 y ≡ Less) key share cs (order_total.antisymm c.0 key ∙ ap ordering_reverse e) sorted.0, sorted_with key share cs sorted.1)
       ] refl
 
-  -- every entry is found at its place
-  pub found_at : (cs : List (Place × A)) → IsStrictlySortedBy order (keys_of cs) → AllByRecursion (λ (e : Place × A). at e.0 cs ≡ Some e.1) cs
+  -- every entry is found at its key
+  pub found_at : (cs : List (ShareKey × A)) → IsStrictlySortedBy order (keys_of cs) → AllByRecursion (λ (e : ShareKey × A). at e.0 cs ≡ Some e.1) cs
   unfolding IsStrictlySortedBy
   found_at [] sorted = tt
   found_at (c ∷ cs) sorted =
       (ap (λ r. cond (is_eq r) (Some c.1) (at c.0 cs)) (tied_itself order_total c.0), later c cs cs sorted.0 (found_at cs sorted.1))
     where
-      later : (c : Place × A) (cs ds : List (Place × A)) → AllByRecursion (λ y. order c.0 y ≡ Less) (keys_of ds)
-          → AllByRecursion (λ (e : Place × A). at e.0 cs ≡ Some e.1) ds → AllByRecursion (λ (e : Place × A). at e.0 (c ∷ cs) ≡ Some e.1) ds
+      later : (c : ShareKey × A) (cs ds : List (ShareKey × A)) → AllByRecursion (λ y. order c.0 y ≡ Less) (keys_of ds)
+          → AllByRecursion (λ (e : ShareKey × A). at e.0 cs ≡ Some e.1) ds → AllByRecursion (λ (e : ShareKey × A). at e.0 (c ∷ cs) ≡ Some e.1) ds
       later c cs [] below found = tt
       later c cs (d ∷ ds) below found =
           (ap (λ r. cond (is_eq r) (Some c.1) (at d.0 cs)) (order_total.antisymm d.0 c.0 ∙ ap ordering_reverse below.0) ∙ found.0, later c cs ds below.1 found.1)
 
--- places that the order does not tell apart are one
-pub same_is : (p q : Place) → same_place p q ≡ true → p ≡ q
+-- keys that the order does not tell apart are one
+pub same_is : (p q : ShareKey) → same_key p q ≡ true → p ≡ q
 same_is p q e = exact_pairs (slice_cmp nat_cmp) nat_cmp exact_bytes exact_unsigned p q (equal (order p q) e)
 
 index_is : (index other : List ℕ) → is_eq (slice_cmp nat_cmp index other) ≡ true → index ≡ other
 index_is index other e = exact_bytes index other (equal (slice_cmp nat_cmp index other) e)
 
 -- what is listed under a storage index is closed with that digest
-IsTold : List ℕ → List (Place × ClosedShare) → HeldShare → Type 0
+IsTold : List ℕ → List (ShareKey × ClosedShare) → HeldShare → Type 0
 IsTold index cs h = option_map (λ (c : ClosedShare). c.digest) (at (index, h.share) cs) ≡ Some h.digest
 
-told_of : (index : List ℕ) (cs ds : List (Place × ClosedShare)) → AllByRecursion (λ (e : Place × ClosedShare). at e.0 cs ≡ Some e.1) ds → AllByRecursion (IsTold index cs) (held index ds)
+told_of : (index : List ℕ) (cs ds : List (ShareKey × ClosedShare)) → AllByRecursion (λ (e : ShareKey × ClosedShare). at e.0 cs ≡ Some e.1) ds → AllByRecursion (IsTold index cs) (held index ds)
 unfolding IsTold
 told_of index cs [] found = tt
 told_of index cs (d ∷ ds) found =
@@ -122,7 +122,7 @@ told_of index cs (d ∷ ds) found =
       | false ↦ λ u. told_of index cs ds found.1
     ] refl
 
-pub held_told : (index : List ℕ) (cs : List (Place × ClosedShare)) → IsStrictlySortedBy order (keys_of cs)
+pub held_told : (index : List ℕ) (cs : List (ShareKey × ClosedShare)) → IsStrictlySortedBy order (keys_of cs)
     → AllByRecursion (λ (h : HeldShare). option_map (λ (c : ClosedShare). c.digest) (at (index, h.share) cs) ≡ Some h.digest) (held index cs)
 unfolding IsTold
 held_told index cs sorted = told_of index cs cs (found_at cs sorted)

@@ -10,7 +10,7 @@ use Rattle.wire.specs.declared.message.HeldShare.{HeldShare}
 use Rattle.share_store.specs.declared.table.KeptShare.{KeptShare}
 use Rattle.share_store.specs.declared.error.StoreError.{StoreError}
 use Rattle.share_store.specs.declared.error.StoreError.TheVariants.{OutOfMemory, StoreFault}
-use Rattle.share_store.specs.Shelf.{Place, place_of, order, same_place, at, held_by}
+use Rattle.share_store.specs.Shelf.{ShareKey, key_of, order, same_key, at, held_by}
 use Rattle.share_store.specs.Calls.{Calls}
 use Rattle.share_store.specs.Table.{AreSeen}
 use Rattle.share_store.specs.declared.files.OpenShare.{OpenShare}
@@ -19,13 +19,13 @@ use Rattle.share_store.specs.declared.files.OpenShare.{OpenShare}
 -- that the closed ones have together, and the faults so far
 pub record FolderState : Type 0 where
   pub folder : List ℕ
-  pub closed : List (Place × KeptShare)
-  pub opened : List (Place × ℕ)
+  pub closed : List (ShareKey × KeptShare)
+  pub opened : List (ShareKey × ℕ)
   pub used : ℕ
   pub failures : ℕ
 
 abbrev pub kept_at : ShareId → FolderState → Option KeptShare
-kept_at id s = at (place_of id) s.closed
+kept_at id s = at (key_of id) s.closed
 
 abbrev pub kept_digest : ShareId → FolderState → Option (List ℕ)
 kept_digest id s = option_map (λ (k : KeptShare). k.digest) (kept_at id s)
@@ -39,20 +39,20 @@ abbrev pub kept_length : ShareId → FolderState → ℕ
 kept_length id s = length_of (kept_at id s)
 
 -- how many bytes were written to an open share
-abbrev pub length_at : Place → List (Place × ℕ) → ℕ
-length_at place opened = unwrap_or (at place opened) 0
+abbrev pub length_at : ShareKey → List (ShareKey × ℕ) → ℕ
+length_at key opened = unwrap_or (at key opened) 0
 
 -- how many bytes were written to each open share
-abbrev pub lengths_of : {F : Type 0} → List (Place × OpenShare F) → List (Place × ℕ)
-lengths_of {F} = map (λ (e : Place × OpenShare F). (e.0, e.1.length))
+abbrev pub lengths_of : {F : Type 0} → List (ShareKey × OpenShare F) → List (ShareKey × ℕ)
+lengths_of {F} = map (λ (e : ShareKey × OpenShare F). (e.0, e.1.length))
 
--- every open share at another place is as long as it was
-abbrev pub IsOpenedAt : Place → List (Place × ℕ) → List (Place × ℕ) → Type 0
-IsOpenedAt place old new =
-    (other : Place) → same_place place other ≡ false → length_at other new ≡ length_at other old
+-- every open share at another key is as long as it was
+abbrev pub IsOpenedAt : ShareKey → List (ShareKey × ℕ) → List (ShareKey × ℕ) → Type 0
+IsOpenedAt key old new =
+    (other : ShareKey) → same_key key other ≡ false → length_at other new ≡ length_at other old
 
-abbrev pub OthersStay : ShareId → List (Place × ℕ) → List (Place × ℕ) → Type 0
-OthersStay id = IsOpenedAt (place_of id)
+abbrev pub OthersStay : ShareId → List (ShareKey × ℕ) → List (ShareKey × ℕ) → Type 0
+OthersStay id = IsOpenedAt (key_of id)
 
 -- the faults after a call
 abbrev pub counted : {A : Type 0} → Result A StoreError → ℕ → ℕ
@@ -84,15 +84,15 @@ abbrev pub FolderWrites : FolderState → ShareId → ℕ → List ℕ → Resul
 FolderWrites s id offset bytes r t =
     (t.folder ≡ s.folder) × (t.closed ≡ s.closed) × (t.used ≡ s.used)
     × (t.failures ≡ counted r s.failures) × OthersStay id s.opened t.opened
-    × OnOk r (length_at (place_of id) t.opened
-    ≡ (if offset == 0 then 0 else length_at (place_of id) s.opened) + length bytes)
+    × OnOk r (length_at (key_of id) t.opened
+    ≡ (if offset == 0 then 0 else length_at (key_of id) s.opened) + length bytes)
 
 abbrev pub FolderCloses : FolderState → ShareId → List ℕ → Result Unit StoreError
     → FolderState → Type 0
 FolderCloses s id digest (Ok u) t =
-    (t.closed ≡ insert_entry order s.closed (place_of id)
-    (record { length = Some (length_at (place_of id) s.opened); digest = digest }))
-    × (t.used ≡ min (s.used + length_at (place_of id) s.opened) (2 ^ 64 - 1))
+    (t.closed ≡ insert_entry order s.closed (key_of id)
+    (record { length = Some (length_at (key_of id) s.opened); digest = digest }))
+    × (t.used ≡ min (s.used + length_at (key_of id) s.opened) (2 ^ 64 - 1))
     × (t.folder ≡ s.folder) × (t.failures ≡ s.failures) × OthersStay id s.opened t.opened
 FolderCloses s id digest (Err OutOfMemory) t = t ≡ s
 FolderCloses s id digest (Err StoreFault) t = t ≡ faulted s

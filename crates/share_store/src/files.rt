@@ -7,7 +7,7 @@ ghost use Rattle.wire.specs.Limits.{most_data};
 
 use crate::disk::Durability;
 use crate::error::StoreError;
-use crate::shelf::Place;
+use crate::shelf::ShareKey;
 use std::alloc::Global;
 use std::cell::Cell;
 use std::fs::{File, Metadata, OpenFile, OpenOptions};
@@ -173,7 +173,7 @@ fn is_same_file(one: &Metadata, other: &Metadata) -> bool {
 /// The file of a closed share that is read. It stays open while no other share is read.
 #[derive(Drop)]
 pub(crate) struct RecentFile<F> {
-    pub(crate) place: Place,
+    pub(crate) key: ShareKey,
     file: F,
     // where the next byte is read
     position: u64,
@@ -182,14 +182,14 @@ pub(crate) struct RecentFile<F> {
 /// Opens the file of a closed share.
 pub(crate) fn open_closed<R: Files>(
     rt: &R,
-    place: &Place,
+    key: &ShareKey,
     path: &str,
 ) -> Result<RecentFile<R::File>, StoreError> {
     if regular_length(rt, path)?.is_none() {
         return Err(StoreError::StoreFault);
     }
     Ok(RecentFile {
-        place: *place,
+        key: *key,
         file: File::open(rt, path)?,
         position: 0,
     })

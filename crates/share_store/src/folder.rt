@@ -6,7 +6,7 @@ ghost use Rattle.std.specs.Prelude.{OnErr};
 ghost use Rattle.std.specs.BTreeMap.{insert_entry, IsOrdered};
 ghost use Rattle.share_store.specs.declared.error.StoreError.{StoreError};
 ghost use Rattle.wire.specs.Limits.{most_data};
-ghost use Rattle.share_store.specs.Shelf.{Place, at, order};
+ghost use Rattle.share_store.specs.Shelf.{ShareKey, at, order};
 ghost use Rattle.share_store.specs.Table.{kept_bytes, AreSeen};
 ghost use Rattle.share_store.specs.Folder.{FolderState, counted, kept_digest, kept_length};
 ghost use Rattle.share_store.specs.Folder.{length_of, IsOpenedAt, OthersStay, LooksAt};
@@ -19,7 +19,7 @@ use crate::lengths::{look_at, look_at_all};
 pub use crate::listing::Purpose;
 use crate::listing::{Listing, list_folder};
 use crate::names::{closed_path, open_path};
-use crate::shelf::{Place, place_of};
+use crate::shelf::{ShareKey, key_of};
 use crate::store::Store;
 use crate::table::{KeptShare, held_under, total};
 use std::alloc::Global;
@@ -46,8 +46,8 @@ use wire::message::{Digest, HeldList, ReadData, ReadLength, ShareId, StorageInde
 pub struct FolderStore<R: Files> {
     rt: R,
     folder: String,
-    closed: BTreeMap<Place, KeptShare>,
-    opened: BTreeMap<Place, OpenShare<R::File>>,
+    closed: BTreeMap<ShareKey, KeptShare>,
+    opened: BTreeMap<ShareKey, OpenShare<R::File>>,
     closed_bytes: u64,
     failures: u64,
     readonly: bool,
@@ -106,10 +106,10 @@ impl<R: Files + AllocGlobal + Clone + Drop> FolderStore<R> {
 
 // How many bytes were written to an open share.
 #[tactic(auto, using(crate::proofs::FolderLaws::length_is, crate::proofs::FolderLaws::opened_at))]
-fn written_length<F>(opened: &BTreeMap<Place, OpenShare<F>>, place: &Place) -> u64
-    ensures { result ≡ length_at place.now (lengths_of opened.now.entries) }
+fn written_length<F>(opened: &BTreeMap<ShareKey, OpenShare<F>>, key: &ShareKey) -> u64
+    ensures { result ≡ length_at key.now (lengths_of opened.now.entries) }
 {
-    match opened.get(place) {
+    match opened.get(key) {
         Some(share) => share.length,
         None => 0,
     }
@@ -118,33 +118,33 @@ fn written_length<F>(opened: &BTreeMap<Place, OpenShare<F>>, place: &Place) -> u
 // Puts an open share's file into the table, in place of one that was there.
 #[tactic(auto, using(crate::proofs::FolderLaws::length_is, crate::proofs::FolderLaws::opened_at))]
 fn put_begun<F: Drop>(
-    opened: &mut BTreeMap<Place, OpenShare<F>>,
-    place: &Place,
+    opened: &mut BTreeMap<ShareKey, OpenShare<F>>,
+    key: &ShareKey,
     share: OpenShare<F>,
 ) -> Result<(), StoreError>
     ensures begun { OnOk result
-        (length_at place.now (lengths_of opened.new.entries) ≡ share.length) }
-    ensures others { IsOpenedAt place.now (lengths_of opened.old.entries)
+        (length_at key.now (lengths_of opened.new.entries) ≡ share.length) }
+    ensures others { IsOpenedAt key.now (lengths_of opened.old.entries)
         (lengths_of opened.new.entries) }
     ensures memory { IsOkUnless result StoreError.OutOfMemory }
 {
-    opened.insert(*place, share)?;
+    opened.insert(*key, share)?;
     Ok(())
 }
 
 // Adds bytes to the file of an open share.
 #[tactic(auto, using(crate::proofs::FolderLaws::length_is, crate::proofs::FolderLaws::opened_at))]
 fn append_there<F: Write>(
-    opened: &mut BTreeMap<Place, OpenShare<F>>,
-    place: &Place,
+    opened: &mut BTreeMap<ShareKey, OpenShare<F>>,
+    key: &ShareKey,
     bytes: &[u8],
 ) -> Result<(), StoreError>
-    ensures written { OnOk result (length_at place.now (lengths_of opened.new.entries)
-        ≡ length_at place.now (lengths_of opened.old.entries) + length bytes.now) }
-    ensures others { IsOpenedAt place.now (lengths_of opened.old.entries)
+    ensures written { OnOk result (length_at key.now (lengths_of opened.new.entries)
+        ≡ length_at key.now (lengths_of opened.old.entries) + length bytes.now) }
+    ensures others { IsOpenedAt key.now (lengths_of opened.old.entries)
         (lengths_of opened.new.entries) }
 {
-    match opened.get_mut(place) {
+    match opened.get_mut(key) {
         Some(share) => share.append(bytes),
         None => Err(StoreError::StoreFault),
     }
@@ -152,38 +152,38 @@ fn append_there<F: Write>(
 
 // Adds bytes to an open share, which is open no longer where that fails.
 fn append_to<F: Write + Drop>(
-    opened: &mut BTreeMap<Place, OpenShare<F>>,
-    place: &Place,
+    opened: &mut BTreeMap<ShareKey, OpenShare<F>>,
+    key: &ShareKey,
     bytes: &[u8],
 ) -> Result<(), StoreError>
-    ensures written { OnOk result (length_at place.now (lengths_of opened.new.entries)
-        ≡ length_at place.now (lengths_of opened.old.entries) + length bytes.now) }
-    ensures others { IsOpenedAt place.now (lengths_of opened.old.entries)
+    ensures written { OnOk result (length_at key.now (lengths_of opened.new.entries)
+        ≡ length_at key.now (lengths_of opened.old.entries) + length bytes.now) }
+    ensures others { IsOpenedAt key.now (lengths_of opened.old.entries)
         (lengths_of opened.new.entries) }
 {
-    let outcome = append_there(opened, place, bytes);
+    let outcome = append_there(opened, key, bytes);
     if outcome.is_err() {
-        forget_open(opened, place);
+        forget_open(opened, key);
     }
     outcome
 }
 
 // Forgets an open share.
 #[tactic(auto, using(crate::proofs::FolderLaws::length_is, crate::proofs::FolderLaws::opened_at))]
-fn forget_open<F: Drop>(opened: &mut BTreeMap<Place, OpenShare<F>>, place: &Place)
-    ensures { IsOpenedAt place.now (lengths_of opened.old.entries)
+fn forget_open<F: Drop>(opened: &mut BTreeMap<ShareKey, OpenShare<F>>, key: &ShareKey)
+    ensures { IsOpenedAt key.now (lengths_of opened.old.entries)
         (lengths_of opened.new.entries) }
 {
-    opened.remove(place);
+    opened.remove(key);
 }
 
 // Gives an open share's file, to which nothing may have been written, its closed name.
 fn close_file<R: Files>(
     closing: &Closing<'_, R>,
-    opened: &BTreeMap<Place, OpenShare<R::File>>,
-    place: &Place,
+    opened: &BTreeMap<ShareKey, OpenShare<R::File>>,
+    key: &ShareKey,
 ) -> Result<(), StoreError> {
-    match opened.get(place) {
+    match opened.get(key) {
         Some(share) => share.close(closing),
         None => begin_share(closing.rt, closing.open)?.close(closing),
     }
@@ -192,19 +192,19 @@ fn close_file<R: Files>(
 // Gives an open share's file its closed name, and puts the share into the table.
 fn put_closed<R: Files>(
     closing: &Closing<'_, R>,
-    opened: &BTreeMap<Place, OpenShare<R::File>>,
-    closed: &mut BTreeMap<Place, KeptShare>,
-    place: &Place,
+    opened: &BTreeMap<ShareKey, OpenShare<R::File>>,
+    closed: &mut BTreeMap<ShareKey, KeptShare>,
+    key: &ShareKey,
     share: &KeptShare,
 ) -> Result<(), StoreError>
-    requires { at place.now closed.old.entries ≡ None }
+    requires { at key.now closed.old.entries ≡ None }
     ensures closed { OnOk result
-        (closed.new.entries ≡ insert_entry order closed.old.entries place.now share.now) }
+        (closed.new.entries ≡ insert_entry order closed.old.entries key.now share.now) }
     ensures err { OnErr result (closed.new.entries ≡ closed.old.entries) }
 {
     // room first: once the file is renamed, no memory is asked for
-    if let Entry::Vacant(room) = closed.entry(*place)? {
-        close_file(closing, opened, place)?;
+    if let Entry::Vacant(room) = closed.entry(*key)? {
+        close_file(closing, opened, key)?;
         room.insert(*share);
     }
     Ok(())
@@ -232,31 +232,31 @@ impl<R: Files + AllocGlobal + Drop> FolderStore<R> {
     }
 
     // Begins an open share anew.
-    fn begin(&mut self, place: &Place) -> Result<(), StoreError>
+    fn begin(&mut self, key: &ShareKey) -> Result<(), StoreError>
         ensures folder { self.new.folder ≡ self.old.folder }
         ensures closed { self.new.closed ≡ self.old.closed }
         ensures used { self.new.used ≡ self.old.used }
         ensures failures { self.new.failures ≡ self.old.failures }
-        ensures others { IsOpenedAt place.now self.old.opened self.new.opened }
-        ensures begun { OnOk result (length_at place.now self.new.opened ≡ 0) }
+        ensures others { IsOpenedAt key.now self.old.opened self.new.opened }
+        ensures begun { OnOk result (length_at key.now self.new.opened ≡ 0) }
     {
-        let path = open_path(self.rt.alloc(), self.folder.as_str(), place)?;
+        let path = open_path(self.rt.alloc(), self.folder.as_str(), key)?;
         let share = begin_share(&self.rt, path.as_str())?;
-        put_begun(&mut self.opened, place, share)
+        put_begun(&mut self.opened, key, share)
     }
 
     // Begins an open share anew, where a write at this offset does, or nothing was written to it.
-    fn begin_at(&mut self, place: &Place, offset: u64) -> Result<(), StoreError>
+    fn begin_at(&mut self, key: &ShareKey, offset: u64) -> Result<(), StoreError>
         ensures folder { self.new.folder ≡ self.old.folder }
         ensures closed { self.new.closed ≡ self.old.closed }
         ensures used { self.new.used ≡ self.old.used }
         ensures failures { self.new.failures ≡ self.old.failures }
-        ensures others { IsOpenedAt place.now self.old.opened self.new.opened }
-        ensures begun { OnOk result (length_at place.now self.new.opened
-            ≡ (if offset == 0 then 0 else length_at place.now self.old.opened)) }
+        ensures others { IsOpenedAt key.now self.old.opened self.new.opened }
+        ensures begun { OnOk result (length_at key.now self.new.opened
+            ≡ (if offset == 0 then 0 else length_at key.now self.old.opened)) }
     {
-        if offset == 0 || written_length(&self.opened, place) == 0 {
-            return self.begin(place);
+        if offset == 0 || written_length(&self.opened, key) == 0 {
+            return self.begin(key);
         }
         Ok(())
     }
@@ -272,9 +272,9 @@ impl<R: Files + AllocGlobal + Drop> FolderStore<R> {
             then 0 else length_at (id.now.index, id.now.share) self.old.opened)
             + length bytes.now) }
     {
-        let place = place_of(id);
-        self.begin_at(&place, offset)?;
-        append_to(&mut self.opened, &place, bytes)
+        let key = key_of(id);
+        self.begin_at(&key, offset)?;
+        append_to(&mut self.opened, &key, bytes)
     }
 
     fn close_open(&mut self, id: &ShareId, digest: &Digest) -> Result<(), StoreError>
@@ -292,12 +292,12 @@ impl<R: Files + AllocGlobal + Drop> FolderStore<R> {
         ensures others { OthersStay id.now self.old.opened self.new.opened }
         ensures err { OnErr result (self.new ≡ self.old) }
     {
-        let place = place_of(id);
+        let key = key_of(id);
         let alloc = self.rt.alloc();
         let folder = self.folder.as_str();
-        let open = open_path(alloc, folder, &place)?;
-        let closed = closed_path(alloc, folder, &place, digest)?;
-        let length = written_length(&self.opened, &place);
+        let open = open_path(alloc, folder, &key)?;
+        let closed = closed_path(alloc, folder, &key, digest)?;
+        let length = written_length(&self.opened, &key);
         put_closed(
             &Closing {
                 rt: &self.rt,
@@ -308,13 +308,13 @@ impl<R: Files + AllocGlobal + Drop> FolderStore<R> {
             },
             &self.opened,
             &mut self.closed,
-            &place,
+            &key,
             &KeptShare {
                 length: Some(length),
                 digest: *digest,
             },
         )?;
-        forget_open(&mut self.opened, &place);
+        forget_open(&mut self.opened, &key);
         self.closed_bytes = self.closed_bytes.saturating_add(length);
         Ok(())
     }
@@ -330,20 +330,20 @@ impl<R: Files + AllocGlobal + Drop> FolderStore<R> {
         ensures long { IfOk result
             (λ bytes. length bytes ≡ min count (kept_length id.now self.new - offset)) }
     {
-        let place = place_of(id);
-        look_at(&self.rt, self.folder.as_str(), &mut self.closed, &place)?;
-        if !self.closed.contains_key(&place) {
+        let key = key_of(id);
+        look_at(&self.rt, self.folder.as_str(), &mut self.closed, &key)?;
+        if !self.closed.contains_key(&key) {
             return Err(StoreError::StoreFault);
         }
-        let left = bytes_left(kept_length(&self.closed, &place), offset, count);
-        self.read_part(alloc, &place, offset, left)
+        let left = bytes_left(kept_length(&self.closed, &key), offset, count);
+        self.read_part(alloc, &key, offset, left)
     }
 
     // So many bytes of a closed share's file.
     fn read_part(
         &mut self,
         alloc: Global,
-        place: &Place,
+        key: &ShareKey,
         offset: u64,
         count: u32,
     ) -> Result<ReadData, StoreError>
@@ -355,8 +355,8 @@ impl<R: Files + AllocGlobal + Drop> FolderStore<R> {
             return Ok(ReadData::from_vec(Vec::new(alloc)).unwrap());
         }
         let mut file = match self.recent.take() {
-            Some(file) if file.place == *place => file,
-            _ => self.file_of(place)?,
+            Some(file) if file.key == *key => file,
+            _ => self.file_of(key)?,
         };
         let bytes = file.read_at(alloc, offset, count)?;
         self.recent = Some(file);
@@ -364,21 +364,21 @@ impl<R: Files + AllocGlobal + Drop> FolderStore<R> {
     }
 
     // A closed share's file.
-    fn file_of(&self, place: &Place) -> Result<RecentFile<R::File>, StoreError> {
-        let Some(share) = self.closed.get(place) else {
+    fn file_of(&self, key: &ShareKey) -> Result<RecentFile<R::File>, StoreError> {
+        let Some(share) = self.closed.get(key) else {
             return Err(StoreError::StoreFault);
         };
         let folder = self.folder.as_str();
-        let path = closed_path(self.rt.alloc(), folder, place, &share.digest)?;
-        open_closed(&self.rt, place, path.as_str())
+        let path = closed_path(self.rt.alloc(), folder, key, &share.digest)?;
+        open_closed(&self.rt, key, path.as_str())
     }
 }
 
 // The length of a closed share, as far as it is known.
-fn kept_length(closed: &BTreeMap<Place, KeptShare>, place: &Place) -> u64
-    ensures { result ≡ length_of (at place.now closed.now.entries) }
+fn kept_length(closed: &BTreeMap<ShareKey, KeptShare>, key: &ShareKey) -> u64
+    ensures { result ≡ length_of (at key.now closed.now.entries) }
 {
-    match closed.get(place) {
+    match closed.get(key) {
         Some(share) => share.length.unwrap_or(0),
         None => 0,
     }
@@ -398,7 +398,7 @@ impl<R: Files + AllocGlobal + Drop> Store for FolderStore<R> {
     ghost fault_count = { λ s. s.failures };
 
     fn closed(&self, id: &ShareId) -> Option<Digest> {
-        match self.closed.get(&place_of(id)) {
+        match self.closed.get(&key_of(id)) {
             Some(share) => Some(share.digest),
             None => None,
         }

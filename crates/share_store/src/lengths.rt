@@ -2,13 +2,13 @@
 
 ghost use Rattle.std.specs.Prelude.{◌≡◌, None, Some, false, IfSome, IsOkUnless, OnErr, OnOk};
 ghost use Rattle.share_store.specs.declared.error.StoreError.{StoreError};
-ghost use Rattle.share_store.specs.Shelf.{Place, at, same_place};
+ghost use Rattle.share_store.specs.Shelf.{ShareKey, at, same_key};
 ghost use Rattle.share_store.specs.Table.{AreSeen};
 
 use crate::error::StoreError;
 use crate::files::regular_length;
 use crate::names::closed_path;
-use crate::shelf::Place;
+use crate::shelf::ShareKey;
 use crate::table::KeptShare;
 use std::collections::BTreeMap;
 use std::rt::Files;
@@ -19,20 +19,20 @@ use wire::message::{Digest, HeldShare, StorageIndex};
 pub(crate) fn look_at<R: Files + AllocGlobal>(
     rt: &R,
     folder: &str,
-    closed: &mut BTreeMap<Place, KeptShare>,
-    place: &Place,
+    closed: &mut BTreeMap<ShareKey, KeptShare>,
+    key: &ShareKey,
 ) -> Result<(), StoreError>
     ensures seen { AreSeen closed.old.entries closed.new.entries }
     ensures memory { IsOkUnless result StoreError.OutOfMemory }
 {
-    let Some(digest) = digest_to_look_at(closed, place) else {
+    let Some(digest) = digest_to_look_at(closed, key) else {
         return Ok(());
     };
-    let path = closed_path(rt.alloc(), folder, place, &digest)?;
+    let path = closed_path(rt.alloc(), folder, key, &digest)?;
     match regular_length(rt, path.as_str())? {
-        Some(length) => note_length(closed, place, length, &digest),
+        Some(length) => note_length(closed, key, length, &digest),
         None => {
-            forget_closed(closed, place);
+            forget_closed(closed, key);
             Ok(())
         }
     }
@@ -42,7 +42,7 @@ pub(crate) fn look_at<R: Files + AllocGlobal>(
 pub(crate) fn look_at_all<R: Files + AllocGlobal>(
     rt: &R,
     folder: &str,
-    closed: &mut BTreeMap<Place, KeptShare>,
+    closed: &mut BTreeMap<ShareKey, KeptShare>,
     index: &StorageIndex,
     shares: &[HeldShare],
 ) -> Result<(), StoreError>
@@ -56,11 +56,11 @@ pub(crate) fn look_at_all<R: Files + AllocGlobal>(
 }
 
 // The digest of a closed share whose length is not known.
-fn digest_to_look_at(closed: &BTreeMap<Place, KeptShare>, place: &Place) -> Option<Digest>
-    ensures { IfSome result (λ digest. at place.now closed.now.entries
+fn digest_to_look_at(closed: &BTreeMap<ShareKey, KeptShare>, key: &ShareKey) -> Option<Digest>
+    ensures { IfSome result (λ digest. at key.now closed.now.entries
         ≡ Some (record { length = None; digest = digest })) }
 {
-    let share = closed.get(place)?;
+    let share = closed.get(key)?;
     if share.length.is_some() {
         return None;
     }
@@ -69,14 +69,14 @@ fn digest_to_look_at(closed: &BTreeMap<Place, KeptShare>, place: &Place) -> Opti
 
 // Notes the length of a closed share.
 fn note_length(
-    closed: &mut BTreeMap<Place, KeptShare>,
-    place: &Place,
+    closed: &mut BTreeMap<ShareKey, KeptShare>,
+    key: &ShareKey,
     length: u64,
     digest: &Digest,
 ) -> Result<(), StoreError>
-    ensures noted { OnOk result (at place.now closed.new.entries
+    ensures noted { OnOk result (at key.now closed.new.entries
         ≡ Some (record { length = Some length; digest = digest.now })) }
-    ensures others { OnOk result ((other : Place) → same_place place.now other ≡ false
+    ensures others { OnOk result ((other : ShareKey) → same_key key.now other ≡ false
         → at other closed.new.entries ≡ at other closed.old.entries) }
     ensures err { OnErr result (closed.new.entries ≡ closed.old.entries) }
     ensures memory { IsOkUnless result StoreError.OutOfMemory }
@@ -85,15 +85,15 @@ fn note_length(
         length: Some(length),
         digest: *digest,
     };
-    closed.insert(*place, share)?;
+    closed.insert(*key, share)?;
     Ok(())
 }
 
 // Forgets a closed share.
-fn forget_closed(closed: &mut BTreeMap<Place, KeptShare>, place: &Place)
-    ensures gone { at place.now closed.new.entries ≡ None }
-    ensures others { (other : Place) → same_place place.now other ≡ false
+fn forget_closed(closed: &mut BTreeMap<ShareKey, KeptShare>, key: &ShareKey)
+    ensures gone { at key.now closed.new.entries ≡ None }
+    ensures others { (other : ShareKey) → same_key key.now other ≡ false
         → at other closed.new.entries ≡ at other closed.old.entries }
 {
-    closed.remove(place);
+    closed.remove(key);
 }

@@ -5,7 +5,7 @@ use crate::error::StoreError;
 use crate::files::length_of_regular;
 use crate::lengths::look_at;
 use crate::names::ClosedName;
-use crate::shelf::Place;
+use crate::shelf::ShareKey;
 use crate::table::{KeptShare, keep_lower};
 use std::alloc::Global;
 use std::collections::BTreeMap;
@@ -41,7 +41,7 @@ impl Purpose {
 /// The closed shares of a folder, by the names of its files, and whether it has a file `readonly`.
 #[derive(Drop)]
 pub(crate) struct Listing {
-    pub(crate) closed: BTreeMap<Place, KeptShare>,
+    pub(crate) closed: BTreeMap<ShareKey, KeptShare>,
     pub(crate) readonly: bool,
 }
 
@@ -106,10 +106,10 @@ fn take_entry<R: Files + AllocGlobal>(
     let Some(name) = ClosedName::read(name.as_bytes()) else {
         return Ok(());
     };
-    let is_second = listing.closed.contains_key(&name.place);
+    let is_second = listing.closed.contains_key(&name.key);
     if is_second {
         // what is no regular file does not stand before one that is
-        look_at(rt, folder, &mut listing.closed, &name.place)?;
+        look_at(rt, folder, &mut listing.closed, &name.key)?;
     }
     let length = if is_second || purpose != Purpose::Reading {
         match length_of_regular(entry.metadata())? {
@@ -123,7 +123,7 @@ fn take_entry<R: Files + AllocGlobal>(
     keep_lower(
         rt.alloc(),
         &mut listing.closed,
-        &name.place,
+        &name.key,
         &KeptShare { length, digest },
     )
 }

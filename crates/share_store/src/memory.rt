@@ -10,7 +10,7 @@ ghost use Rattle.share_store.specs.Memory.{MemoryState, faulted, memory_calls};
 ghost use Rattle.share_store.specs.MemoryKeeps.{memory_keeps};
 
 use crate::error::StoreError;
-use crate::shelf::{ClosedShare, Place, ShareBytes, place_of};
+use crate::shelf::{ClosedShare, ShareBytes, ShareKey, key_of};
 use crate::store::{Keeping, Store};
 use crate::table::held_under;
 use std::alloc::{AllocError, Global};
@@ -23,8 +23,8 @@ use wire::message::{Digest, HeldList, ReadData, ReadLength, ShareId, StorageInde
 #[derive(Drop)]
 pub struct MemoryStore {
     alloc: Global,
-    closed: BTreeMap<Place, ClosedShare>,
-    opened: BTreeMap<Place, ShareBytes>,
+    closed: BTreeMap<ShareKey, ClosedShare>,
+    opened: BTreeMap<ShareKey, ShareBytes>,
     // The sum of the closed lengths.
     closed_bytes: u64,
     failures: u64,
@@ -99,33 +99,33 @@ impl MemoryStore {
 // Begins an open share anew with these bytes.
 fn begin_written(
     alloc: Global,
-    opened: &mut BTreeMap<Place, ShareBytes>,
-    place: &Place,
+    opened: &mut BTreeMap<ShareKey, ShareBytes>,
+    key: &ShareKey,
     bytes: &[u8],
 ) -> Result<(), StoreError>
-    ensures written { OnOk result (written_at place.now opened.new.entries ≡ bytes.now) }
-    ensures others { IsPutAt place.now opened.old.entries opened.new.entries }
+    ensures written { OnOk result (written_at key.now opened.new.entries ≡ bytes.now) }
+    ensures others { IsPutAt key.now opened.old.entries opened.new.entries }
     ensures err { IfErr result
         (λ e. (e ≡ StoreError.OutOfMemory) × (opened.new.entries ≡ opened.old.entries)) }
 {
-    opened.insert(*place, ShareBytes::from_slice(alloc, bytes)?)?;
+    opened.insert(*key, ShareBytes::from_slice(alloc, bytes)?)?;
     Ok(())
 }
 
 // Adds bytes at the end of an open share.
 fn extend_written(
-    opened: &mut BTreeMap<Place, ShareBytes>,
-    place: &Place,
+    opened: &mut BTreeMap<ShareKey, ShareBytes>,
+    key: &ShareKey,
     bytes: &[u8],
 ) -> Result<(), StoreError>
-    requires { IsSome (at place.now opened.old.entries) }
-    ensures written { OnOk result (written_at place.now opened.new.entries
-        ≡ written_at place.now opened.old.entries ++ bytes.now) }
-    ensures others { IsPutAt place.now opened.old.entries opened.new.entries }
+    requires { IsSome (at key.now opened.old.entries) }
+    ensures written { OnOk result (written_at key.now opened.new.entries
+        ≡ written_at key.now opened.old.entries ++ bytes.now) }
+    ensures others { IsPutAt key.now opened.old.entries opened.new.entries }
     ensures memory { IsOkUnless result StoreError.OutOfMemory }
     ensures err { OnErr result (opened.new.entries ≡ opened.old.entries) }
 {
-    if let Some(written) = opened.get_mut(place) {
+    if let Some(written) = opened.get_mut(key) {
         written.extend(bytes)?;
     }
     Ok(())
@@ -134,29 +134,29 @@ fn extend_written(
 // Writes to an open share: at offset 0 it begins anew, and else the bytes come at its end.
 fn put_written(
     alloc: Global,
-    opened: &mut BTreeMap<Place, ShareBytes>,
-    place: &Place,
+    opened: &mut BTreeMap<ShareKey, ShareBytes>,
+    key: &ShareKey,
     offset: u64,
     bytes: &[u8],
 ) -> Result<(), StoreError>
-    ensures written { OnOk result (written_at place.now opened.new.entries
+    ensures written { OnOk result (written_at key.now opened.new.entries
         ≡ (if offset == 0
-        then bytes.now else written_at place.now opened.old.entries ++ bytes.now)) }
-    ensures others { IsPutAt place.now opened.old.entries opened.new.entries }
+        then bytes.now else written_at key.now opened.old.entries ++ bytes.now)) }
+    ensures others { IsPutAt key.now opened.old.entries opened.new.entries }
     ensures err { IfErr result
         (λ e. (e ≡ StoreError.OutOfMemory) × (opened.new.entries ≡ opened.old.entries)) }
 {
-    if offset == 0 || !opened.contains_key(place) {
-        return begin_written(alloc, opened, place, bytes);
+    if offset == 0 || !opened.contains_key(key) {
+        return begin_written(alloc, opened, key, bytes);
     }
-    extend_written(opened, place, bytes)
+    extend_written(opened, key, bytes)
 }
 
 // How many bytes an open share has.
-fn written_length(opened: &BTreeMap<Place, ShareBytes>, place: &Place) -> usize
-    ensures { result ≡ length (written_at place.now opened.now.entries) }
+fn written_length(opened: &BTreeMap<ShareKey, ShareBytes>, key: &ShareKey) -> usize
+    ensures { result ≡ length (written_at key.now opened.now.entries) }
 {
-    match opened.get(place) {
+    match opened.get(key) {
         Some(written) => written.len(),
         None => 0,
     }
@@ -165,25 +165,25 @@ fn written_length(opened: &BTreeMap<Place, ShareBytes>, place: &Place) -> usize
 // Moves an open share to the closed ones, with no copy of its bytes.
 fn move_closed(
     alloc: Global,
-    closed: &mut BTreeMap<Place, ClosedShare>,
-    opened: &mut BTreeMap<Place, ShareBytes>,
-    place: &Place,
+    closed: &mut BTreeMap<ShareKey, ClosedShare>,
+    opened: &mut BTreeMap<ShareKey, ShareBytes>,
+    key: &ShareKey,
     digest: &Digest,
 ) -> Result<(), StoreError>
-    requires { at place.now closed.old.entries ≡ None }
+    requires { at key.now closed.old.entries ≡ None }
     ensures closed { OnOk result (closed.new.entries
-        ≡ insert_entry order closed.old.entries place.now (record {
-          bytes = written_at place.now opened.old.entries;
+        ≡ insert_entry order closed.old.entries key.now (record {
+          bytes = written_at key.now opened.old.entries;
           digest = digest.now;
         })) }
-    ensures opened { IsPutAt place.now opened.old.entries opened.new.entries }
+    ensures opened { IsPutAt key.now opened.old.entries opened.new.entries }
     ensures ordered { IsOrdered order closed.old }
     ensures err { IfErr result (λ e. (e ≡ StoreError.OutOfMemory)
         × (closed.new.entries ≡ closed.old.entries)
         × (opened.new.entries ≡ opened.old.entries)) }
 {
-    if let Entry::Vacant(room) = closed.entry(*place)? {
-        let bytes = match opened.remove(place) {
+    if let Entry::Vacant(room) = closed.entry(*key)? {
+        let bytes = match opened.remove(key) {
             Some(written) => written,
             None => ShareBytes::new(alloc),
         };
@@ -195,8 +195,8 @@ fn move_closed(
     Ok(())
 }
 
-// A law: the closed shares stand in the order of their places. The call does nothing.
-fn know_rising(closed: &BTreeMap<Place, ClosedShare>)
+// A law: the closed shares stand in the order of their keys. The call does nothing.
+fn know_rising(closed: &BTreeMap<ShareKey, ClosedShare>)
     ensures { AreRising closed.now.entries }
 {
     let _ = closed.len();
@@ -208,7 +208,7 @@ impl Store for MemoryStore {
     ghost fault_count = { λ s. s.failures };
 
     fn closed(&self, id: &ShareId) -> Option<Digest> {
-        match self.closed.get(&place_of(id)) {
+        match self.closed.get(&key_of(id)) {
             Some(share) => Some(share.digest),
             None => None,
         }
@@ -224,25 +224,19 @@ impl Store for MemoryStore {
 
     fn write(&mut self, id: &ShareId, offset: u64, bytes: &[u8]) -> Result<(), StoreError> {
         self.begin()?;
-        put_written(self.alloc, &mut self.opened, &place_of(id), offset, bytes)
+        put_written(self.alloc, &mut self.opened, &key_of(id), offset, bytes)
     }
 
     // The sum of the closed lengths stays below 2^64: a share for which it would not is refused as
     // one too many for the memory.
     fn close(&mut self, id: &ShareId, digest: &Digest) -> Result<(), StoreError> {
         self.begin()?;
-        let place = place_of(id);
-        let written = written_length(&self.opened, &place) as u64;
+        let key = key_of(id);
+        let written = written_length(&self.opened, &key) as u64;
         let Some(used) = self.closed_bytes.checked_add(written) else {
             return Err(StoreError::OutOfMemory);
         };
-        move_closed(
-            self.alloc,
-            &mut self.closed,
-            &mut self.opened,
-            &place,
-            digest,
-        )?;
+        move_closed(self.alloc, &mut self.closed, &mut self.opened, &key, digest)?;
         self.closed_bytes = used;
         Ok(())
     }
@@ -256,7 +250,7 @@ impl Store for MemoryStore {
     ) -> Result<ReadData, StoreError> {
         self.begin()?;
         let nothing = ShareBytes::new(alloc);
-        let bytes = match self.closed.get(&place_of(id)) {
+        let bytes = match self.closed.get(&key_of(id)) {
             Some(share) => &share.bytes,
             None => &nothing,
         };

@@ -6,11 +6,11 @@ ghost use Rattle.std.specs.Prelude.{◌≡◌, ◌++◌, ◌<◌, ℕ, List, cod
 ghost use Rattle.std.specs.Prelude.{IsSomeAnd, IsOkUnless};
 ghost use Rattle.std.specs.String.{string_bytes};
 ghost use Rattle.cap_text.specs.Base32.{base32};
-ghost use Rattle.share_store.specs.Names.{IsNamed, IsPlace, closed_name, open_name, in_folder};
-ghost use Rattle.share_store.specs.Shelf.{Place};
+ghost use Rattle.share_store.specs.Names.{IsNamed, IsShareKey, closed_name, open_name, in_folder};
+ghost use Rattle.share_store.specs.Shelf.{ShareKey};
 
 use crate::error::StoreError;
-use crate::shelf::Place;
+use crate::shelf::ShareKey;
 use cap_text::{from_base32, to_base32};
 use std::alloc::Global;
 use tagged_hash::read_decimal;
@@ -28,7 +28,7 @@ const OPEN: &[u8] = b"open";
 #[derive(Clone, Copy)]
 pub struct ClosedName {
     /// The storage index and the number of the share.
-    pub place: Place,
+    pub key: ShareKey,
     /// The digest that the share was closed with.
     pub digest: Digest,
 }
@@ -36,9 +36,9 @@ pub struct ClosedName {
 impl ClosedName {
     /// The share and the digest of a closed share's file, by its name; `None` for every other name.
     pub fn read(name: &[u8]) -> Option<ClosedName>
-        ensures value { IfSome result (λ named. name.now ≡ closed_name named.place named.digest) }
-        ensures only { (place : Place) (digest : List ℕ) → IsNamed place digest
-            → name.now ≡ closed_name place digest → IsSome result }
+        ensures value { IfSome result (λ named. name.now ≡ closed_name named.key named.digest) }
+        ensures only { (key : ShareKey) (digest : List ℕ) → IsNamed key digest
+            → name.now ≡ closed_name key digest → IsSome result }
     {
         if name.len() < INDEX_LETTERS + DIGEST_LETTERS + 2 {
             return None;
@@ -54,19 +54,19 @@ impl ClosedName {
         if !from_base32(digest_text, &mut digest) {
             return None;
         }
-        let place = (index, share);
-        Some(ClosedName { place, digest })
+        let key = (index, share);
+        Some(ClosedName { key, digest })
     }
 
     /// The name of the closed share's file.
     pub fn text(&self, alloc: Global) -> Result<String, StoreError>
         ensures text { IfOk result
-            (λ text. string_bytes text ≡ closed_name self.now.place self.now.digest) }
+            (λ text. string_bytes text ≡ closed_name self.now.key self.now.digest) }
         ensures memory { IsOkUnless result StoreError.OutOfMemory }
     {
-        let index = base32_of(alloc, &self.place.0)?;
+        let index = base32_of(alloc, &self.key.0)?;
         let digest = base32_of(alloc, &self.digest)?;
-        Ok(format!(in alloc; "{index}.{}.{digest}", self.place.1)?)
+        Ok(format!(in alloc; "{index}.{}.{digest}", self.key.1)?)
     }
 }
 
@@ -74,15 +74,15 @@ impl ClosedName {
 pub fn closed_path(
     alloc: Global,
     folder: &str,
-    place: &Place,
+    key: &ShareKey,
     digest: &Digest,
 ) -> Result<String, StoreError>
     ensures path { IfOk result
-        (λ path. string_bytes path ≡ in_folder folder.now (closed_name place.now digest.now)) }
+        (λ path. string_bytes path ≡ in_folder folder.now (closed_name key.now digest.now)) }
     ensures memory { IsOkUnless result StoreError.OutOfMemory }
 {
     let named = ClosedName {
-        place: *place,
+        key: *key,
         digest: *digest,
     };
     let name = named.text(alloc)?;
@@ -90,19 +90,19 @@ pub fn closed_path(
 }
 
 /// The path of an open share's file.
-pub fn open_path(alloc: Global, folder: &str, place: &Place) -> Result<String, StoreError>
+pub fn open_path(alloc: Global, folder: &str, key: &ShareKey) -> Result<String, StoreError>
     ensures path { IfOk result
-        (λ path. string_bytes path ≡ in_folder folder.now (open_name place.now)) }
+        (λ path. string_bytes path ≡ in_folder folder.now (open_name key.now)) }
     ensures memory { IsOkUnless result StoreError.OutOfMemory }
 {
-    let index = base32_of(alloc, &place.0)?;
-    Ok(format!(in alloc; "{folder}/{index}.{}.open", place.1)?)
+    let index = base32_of(alloc, &key.0)?;
+    Ok(format!(in alloc; "{folder}/{index}.{}.open", key.1)?)
 }
 
 /// The share of an open share's file, by its name; `None` for every other name.
-pub fn read_open_name(name: &[u8]) -> Option<Place>
-    ensures value { IfSome result (λ place. name.now ≡ open_name place) }
-    ensures only { (place : Place) → IsPlace place → name.now ≡ open_name place → IsSome result }
+pub fn read_open_name(name: &[u8]) -> Option<ShareKey>
+    ensures value { IfSome result (λ key. name.now ≡ open_name key) }
+    ensures only { (key : ShareKey) → IsShareKey key → name.now ≡ open_name key → IsSome result }
 {
     if name.len() < INDEX_LETTERS + OPEN.len() {
         return None;

@@ -8,12 +8,12 @@ use std::alloc::{AllocError, Global};
 use std::marker::Model;
 use wire::message::{Digest, ReadData, ReadLength, ShareId, StorageIndex};
 
-/// A share's place in the order of shares: its storage index, and then its number.
-pub type Place = (StorageIndex, u8);
+/// A share's key in the order of shares: its storage index, and then its number.
+pub type ShareKey = (StorageIndex, u8);
 
-/// The place of a share.
-pub fn place_of(id: &ShareId) -> Place
-    ensures { result ≡ shelf.place_of id.now }
+/// The key of a share.
+pub fn key_of(id: &ShareId) -> ShareKey
+    ensures { result ≡ shelf.key_of id.now }
 {
     (id.index, id.share)
 }

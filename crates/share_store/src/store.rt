@@ -84,7 +84,7 @@ pub trait Keeping: Store {
     /// What it holds.
     ghost shelf: { Self → Shelf };
 
-    /// A law: its closed shares stand in the order of their places, each once. The call does
+    /// A law: its closed shares stand in the order of their keys, each once. The call does
     /// nothing.
     fn know_order(&self)
         ensures { AreRising (shelf self.now).closed };

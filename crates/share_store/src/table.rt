@@ -1,14 +1,14 @@
-//! Tables of closed shares in the order of their places.
+//! Tables of closed shares in the order of their keys.
 
 ghost use Rattle.std.specs.Prelude.{◌≡◌, ◌-◌, ◌^◌, ℕ, List, Some, false, IfOk, OnOk, OnErr};
 ghost use Rattle.std.specs.Prelude.{IsOkUnless};
 ghost use Rattle.std.specs.declared.ops.Bound.TheVariants.{Included};
-ghost use Rattle.share_store.specs.Shelf.{Place, at, held_by, same_place};
+ghost use Rattle.share_store.specs.Shelf.{ShareKey, at, held_by, same_key};
 ghost use Rattle.share_store.specs.Table.{has_lower_text, kept_bytes, lower_of};
 
 use crate::error::StoreError;
 use crate::names::base32_of;
-use crate::shelf::{ClosedShare, Place};
+use crate::shelf::{ClosedShare, ShareKey};
 use std::alloc::Global;
 use std::collections::BTreeMap;
 use std::ops::Bound;
@@ -47,8 +47,8 @@ impl HasDigest for KeptShare {
     }
 }
 
-// The places under a storage index, from the lowest to the highest.
-fn under(index: &StorageIndex) -> (Bound<Place>, Bound<Place>)
+// The keys under a storage index, from the lowest to the highest.
+fn under(index: &StorageIndex) -> (Bound<ShareKey>, Bound<ShareKey>)
     ensures { result ≡ (Included (index.now, 0), Included (index.now, 255)) }
 {
     (
@@ -60,7 +60,7 @@ fn under(index: &StorageIndex) -> (Bound<Place>, Bound<Place>)
 /// The closed shares under a storage index, lowest number first.
 pub(crate) fn held_under<T: HasDigest>(
     alloc: Global,
-    closed: &BTreeMap<Place, T>,
+    closed: &BTreeMap<ShareKey, T>,
     index: &StorageIndex,
 ) -> Result<HeldList, StoreError>
     ensures value { IfOk result
@@ -68,9 +68,9 @@ pub(crate) fn held_under<T: HasDigest>(
     ensures memory { IsOkUnless result StoreError.OutOfMemory }
 {
     let mut found = Vec::new(alloc);
-    for (place, share) in closed.range(under(index)) {
+    for (key, share) in closed.range(under(index)) {
         found.push(HeldShare {
-            share: place.1,
+            share: key.1,
             digest: share.digest(),
         })?;
     }
@@ -78,7 +78,7 @@ pub(crate) fn held_under<T: HasDigest>(
 }
 
 /// The sum of the shares' lengths, and 2^64 - 1 where it would be more, or one is not known.
-pub(crate) fn total(closed: &BTreeMap<Place, KeptShare>) -> u64
+pub(crate) fn total(closed: &BTreeMap<ShareKey, KeptShare>) -> u64
     ensures { result ≡ kept_bytes closed.now.entries }
 {
     let mut total: u64 = 0;
@@ -88,27 +88,27 @@ pub(crate) fn total(closed: &BTreeMap<Place, KeptShare>) -> u64
     total
 }
 
-/// Puts a closed share into the table. Where there is one at its place, the one with the lower
+/// Puts a closed share into the table. Where there is one at its key, the one with the lower
 /// digest text counts.
 pub(crate) fn keep_lower(
     alloc: Global,
-    closed: &mut BTreeMap<Place, KeptShare>,
-    place: &Place,
+    closed: &mut BTreeMap<ShareKey, KeptShare>,
+    key: &ShareKey,
     share: &KeptShare,
 ) -> Result<(), StoreError>
-    ensures kept { OnOk result (at place.now closed.new.entries
-        ≡ Some (lower_of (at place.now closed.old.entries) share.now)) }
-    ensures others { OnOk result ((other : Place) → same_place place.now other ≡ false
+    ensures kept { OnOk result (at key.now closed.new.entries
+        ≡ Some (lower_of (at key.now closed.old.entries) share.now)) }
+    ensures others { OnOk result ((other : ShareKey) → same_key key.now other ≡ false
         → at other closed.new.entries ≡ at other closed.old.entries) }
     ensures err { OnErr result (closed.new.entries ≡ closed.old.entries) }
     ensures memory { IsOkUnless result StoreError.OutOfMemory }
 {
-    if let Some(other) = closed.get(place) {
+    if let Some(other) = closed.get(key) {
         if !is_lower_text(alloc, &share.digest, &other.digest)? {
             return Ok(());
         }
     }
-    closed.insert(*place, *share)?;
+    closed.insert(*key, *share)?;
     Ok(())
 }
 

@@ -9,7 +9,7 @@ pub length-first_chunks : (n k : ℕ) (xs : List ℕ) → length (first_chunks n
 length-first_chunks n zero xs = refl
 length-first_chunks n (suc k) xs = ap (λ (j : ℕ). suc j) (length-first_chunks n k (drop n xs))
 
--- the chunk at a place
+-- the chunk at a position
 pub get_or-first_chunks : (n k : ℕ) (xs : List ℕ) (i : ℕ) (d : List ℕ) → i < k → get_or (first_chunks n k xs) i d ≡ take n (drop (i * n) xs)
 get_or-first_chunks n zero xs i d below = absurd (omega arith)
 get_or-first_chunks n (suc k) xs zero d below = let none : 0 * n ≡ 0 = omega arith in rw none refl

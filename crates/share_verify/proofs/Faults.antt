@@ -11,8 +11,8 @@ use Rattle.ueb.specs.declared.error.UebError.{UebError}
 use Rattle.ueb.specs.Limits.{max_length}
 use Rattle.ueb.proofs.Refusals.{read_unique, refusal_unique, refused}
 use Rattle.share_layout.specs.Geometry.{Geometry}
-use Rattle.share_layout.specs.Layout.{places_of}
-use Rattle.share_layout.specs.Places.{HasOwnPlaces, LocatesUeb, places_in}
+use Rattle.share_layout.specs.Layout.{offsets_of}
+use Rattle.share_layout.specs.Offsets.{HasOwnOffsets, LocatesUeb, offsets_in}
 use Rattle.share_layout.specs.Reading.{HasHeader, HasNumbers, IsLocateFault, IsReadFault}
 use Rattle.share_layout.specs.Share.{IsShare, Sections}
 use Rattle.share_layout.specs.declared.error.LayoutError.{LayoutError}
@@ -57,18 +57,18 @@ module _ (c : VerifyCapValue) (block : List ℕ) (u : Contents) (own : IsUebFor 
 no_locating_fault : (share block : List ℕ) → LocatesUeb share block → (fault : ShareFault) → IsLayoutFault (IsLocateFault share) fault → ⊥
 no_locating_fault share block located fault held =
     let found = layout_error (IsLocateFault share) fault held in
-    no_fault (HasOwnPlaces share) (Unit {0}) (places_in share) share (located_whole share block located) tt found.error found.holds
+    no_fault (HasOwnOffsets share) (Unit {0}) (offsets_in share) share (located_whole share block located) tt found.error found.holds
 
 no_layout_fault : (g : Geometry) (num : ℕ) (share : List ℕ) (s : Sections) → IsShare g num share s → (fault : ShareFault)
     → IsLayoutFault (IsReadFault g num share) fault → ⊥
 no_layout_fault g num share s is fault held =
     let found = layout_error (IsReadFault g num share) fault held in
-    no_fault (HasHeader g share) (HasNumbers g num share) (places_of g) share (share_whole g num share s is) (share_numbers g num share s is) found.error found.holds
+    no_fault (HasHeader g share) (HasNumbers g num share) (offsets_of g) share (share_whole g num share s is) (share_numbers g num share s is) found.error found.holds
 
 module _ (c : VerifyCapValue) (num : ℕ) (share : List ℕ) where
   locating_fails : (fault : ShareFault) → IsLayoutFault (IsLocateFault share) fault → Passes c num share (check_of fault) → ⊥
   locating_fails (Layout error) f p =
-      no_fault (HasOwnPlaces share) (Unit {0}) (places_in share) share (located_whole share p.1.extension_block p.2.located) tt error f
+      no_fault (HasOwnOffsets share) (Unit {0}) (offsets_in share) share (located_whole share p.1.extension_block p.2.located) tt error f
   locating_fails OtherUeb f p = f
   locating_fails (Ueb error) f p = f
   locating_fails Unused f p = f
@@ -101,7 +101,7 @@ module _ (c : VerifyCapValue) (num : ℕ) (share : List ℕ) where
         let g = geometry_by u in
         let is : IsShare g num share p.1 =
         subst (λ w. IsShare (geometry_by w) num share p.1) (sym (same_contents u p.0 p.1 own p.2)) p.2.layout in
-        no_fault (HasHeader g share) (HasNumbers g num share) (places_of g) share (share_whole g num share p.1 is) (share_numbers g num share p.1 is) error f
+        no_fault (HasHeader g share) (HasNumbers g num share) (offsets_of g) share (share_whole g num share p.1 is) (share_numbers g num share p.1 is) error f
     share_fails u own OtherUeb f p = f
     share_fails u own (Ueb error) f p = f
     share_fails u own Unused f p = f
@@ -196,7 +196,7 @@ module _ (c : VerifyCapValue) (num : ℕ) (share : List ℕ) where
 
   pub one_reading_fault : (f g : ShareFault) → IsReadingFault c num share f → IsReadingFault c num share g → f ≡ g
   one_reading_fault f g (not_located held) (not_located also) =
-      one_layout_fault (IsLocateFault share) (one_fault (HasOwnPlaces share) (Unit {0}) (places_in share) share) f g held also
+      one_layout_fault (IsLocateFault share) (one_fault (HasOwnOffsets share) (Unit {0}) (offsets_in share) share) f g held also
   one_reading_fault f g (not_located held) (no_ueb block located also) = not_beyond f g held block located
   one_reading_fault f g (not_located held) (no_share block v located own also) = not_beyond f g held block located
   one_reading_fault f g (no_ueb block located held) (not_located also) = sym (not_beyond g f also block located)
@@ -208,7 +208,7 @@ module _ (c : VerifyCapValue) (num : ℕ) (share : List ℕ) where
   one_reading_fault f g (no_share block u located own held) (no_share other v there its also) =
       let h = geometry_by u in
       let same : u ≡ v = one_contents c block u own v (subst (λ b. IsUebFor c b v) (sym (same_block share block other located there)) its) in
-      one_layout_fault (IsReadFault h num share) (one_fault (HasHeader h share) (HasNumbers h num share) (places_of h) share) f g held
+      one_layout_fault (IsReadFault h num share) (one_fault (HasHeader h share) (HasNumbers h num share) (offsets_of h) share) f g held
       (subst (λ w. IsLayoutFault (IsReadFault (geometry_by w) num share) g) (sym same) also)
 
   -- what a call says that answers it

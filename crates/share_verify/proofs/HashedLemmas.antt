@@ -9,13 +9,13 @@ use Rattle.cap_text.specs.Cap.{VerifyCapValue}
 use Rattle.merkle.specs.Tree.{height, needed_numbers}
 use Rattle.ueb.specs.Shape.{Contents}
 use Rattle.share_layout.specs.Geometry.{Geometry, IsGeometry}
-use Rattle.share_layout.specs.Layout.{layout_of, places_of}
-use Rattle.share_layout.specs.declared.places.Places.{Places}
-use Rattle.share_layout.specs.Places.{EndsWith, HasVersion, LocatesUeb}
+use Rattle.share_layout.specs.Layout.{layout_of, offsets_of}
+use Rattle.share_layout.specs.declared.offsets.Offsets.{Offsets}
+use Rattle.share_layout.specs.Offsets.{EndsWith, HasVersion, LocatesUeb}
 use Rattle.share_layout.specs.Reading.{HasHeader, HasNumbers, IsWhole}
 use Rattle.share_layout.specs.Share.{CarriesNumbers, HaveLengths, Sections, share_bytes}
 use Rattle.share_layout.specs.declared.error.LayoutError.TheVariants.{BadShareHashes}
-use Rattle.share_layout.proofs.LawLemmas.{tells_places}
+use Rattle.share_layout.proofs.LawLemmas.{tells_offsets}
 use Rattle.share_layout.proofs.LayoutLemmas.{layout_is}
 use Rattle.share_layout.proofs.ShareLemmas.{Parts, parts_of}
 use Rattle.share_verify.specs.CapBlock.{IsUebFor, geometry_by}
@@ -31,11 +31,11 @@ pub hash_behind : (size : ℕ) (text rest : List ℕ) (first : ℕ) → rest ≡
 hash_behind size text rest first is i =
     let after : first ≤ first + i = omega arith in
     let more : first + i - first ≡ i = omega arith in
-    let place : first * size + i * size ≡ (first + i) * size =
+    let offset : first * size + i * size ≡ (first + i) * size =
     ap (λ (n : ℕ). first * size + n * size) (sym more) ∙ pieces_more first (first + i) size after in
     ap (λ (b : List ℕ). tagged_hash Block (take size (drop (i * size) b))) is
     ∙ ap (λ (b : List ℕ). tagged_hash Block (take size b)) (drop-drop (i * size) (first * size) text)
-    ∙ ap (λ (n : ℕ). tagged_hash Block (take size (drop n text))) place
+    ∙ ap (λ (n : ℕ). tagged_hash Block (take size (drop n text))) offset
 
 -- leaves of which the first are known
 module _ (leaves hashes : List (List ℕ)) (size : ℕ) (text rest : List ℕ) (begins : BeginsWith size text hashes rest)
@@ -95,18 +95,18 @@ module _ (g : Geometry) (valid : IsGeometry g) (s : Sections) (lengths : HaveLen
   pub leads_to_block : LocatesUeb (share_bytes g s) s.extension_block
   leads_to_block =
       let bytes = share_bytes g s in
-      let told = tells_places g bytes valid parts.header in
-      let ends : EndsWith (places_of g) bytes s.extension_block =
-      record { text = parts.text; place = omega (arith, parts.tail.long); short = lengths.extension_block } in
+      let told = tells_offsets g bytes valid parts.header in
+      let ends : EndsWith (offsets_of g) bytes s.extension_block =
+      record { text = parts.text; offset = omega (arith, parts.tail.long); short = lengths.extension_block } in
       record {
         version = subst (λ m. HasVersion m bytes) (sym (layout_is (layout_of g) bytes told.0.version)) told.0;
-        places = told.1;
-        ends = subst (λ (p : Places). EndsWith p bytes s.extension_block) (sym told.2) ends;
+        offsets = told.1;
+        ends = subst (λ (p : Offsets). EndsWith p bytes s.extension_block) (sym told.2) ends;
       }
 
-  pub is_whole : IsWhole (HasHeader g (share_bytes g s)) (places_of g) (share_bytes g s)
+  pub is_whole : IsWhole (HasHeader g (share_bytes g s)) (offsets_of g) (share_bytes g s)
   is_whole = record {
-    version = (tells_places g (share_bytes g s) valid parts.header).0;
+    version = (tells_offsets g (share_bytes g s) valid parts.header).0;
     right = parts.header;
     short = omega (arith, parts.tail.number, lengths.extension_block);
     end = omega (arith, parts.tail.number, parts.tail.long);

@@ -46,7 +46,7 @@ module _ (size : ℕ) (text rest : List ℕ) (hashes : List (List ℕ)) (begins 
       → BeginsWith size (take part text) hashes (take (part - length hashes * size) rest)
   begins_part part low high =
       let n : ℕ = length hashes * size in
-      let place : n + (part - n) ≡ part = omega arith in
+      let offset : n + (part - n) ≡ part = omega arith in
       record {
         whole = omega (arith, length-take-le part text high);
         first = λ i below.
@@ -58,7 +58,7 @@ module _ (size : ℕ) (text rest : List ℕ) (hashes : List (List ℕ)) (begins 
             begins.first i below
             ∙ ap (tagged_hash Block) (sym (ap (take size) cut ∙ take-take size (part - a) (drop a text) fits));
         behind = ap (take (part - n)) begins.behind ∙ sym (drop-take n (part - n) text)
-            ∙ ap (λ (k : ℕ). drop n (take k text)) place;
+            ∙ ap (λ (k : ℕ). drop n (take k text)) offset;
       }
 
   -- more blocks are hashed

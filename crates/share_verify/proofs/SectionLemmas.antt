@@ -16,22 +16,22 @@ use Rattle.merkle.specs.Nodes.{AreTreeNodes}
 use Rattle.share_verify.specs.Leaves.{AreBlockHashes}
 use Rattle.share_verify.specs.TreeSection.{AreHashes, HoldsTree, IsTreeSection, IsTreeWithRoot, hashes_in, root_in}
 use Rattle.share_verify.proofs.ChunkLemmas.{first_chunk, first_chunks-joined, get_or-first_chunks, pieces_are_chunks, joined-first_chunks, length-chunk, length-first_chunks, length-joined}
-use Rattle.merkle.proofs.NodesLemmas.{inner_place, leaf_count_is}
+use Rattle.merkle.proofs.NodesLemmas.{inner_position, leaf_count_is}
 
 -- each node of a tree of hashes is a hash
-pub length-tree_node : (leaves : List (List ℕ)) → AreHashes leaves → (row place : ℕ) → row ≤ height (length leaves) → place < 2 ^ row
-    → length (node (height (length leaves)) (padded leaves) row place) ≡ 32
-length-tree_node leaves hashes row place low inside =
+pub length-tree_node : (leaves : List (List ℕ)) → AreHashes leaves → (row offset : ℕ) → row ≤ height (length leaves) → offset < 2 ^ row
+    → length (node (height (length leaves)) (padded leaves) row offset) ≡ 32
+length-tree_node leaves hashes row offset low inside =
     let m : ℕ = height (length leaves) in
     elim (cases_lt row m) [
-      | inl inner ↦ ap length (node_split m (padded leaves) row place inner) ∙ length-double_sha256 _
+      | inl inner ↦ ap length (node_split m (padded leaves) row offset inner) ∙ length-double_sha256 _
       | inr last ↦
           let same : row ≡ m = omega arith in
-          let within : place < 2 ^ m = rw (← same) inside in
-          rw same (ap length (node-leaf m (padded leaves) place)
-          ∙ elim (cases_lt place (length leaves)) [
-            | inl own ↦ ap length (padded_to-leaf (2 ^ m) leaves place own) ∙ hashes place [] own
-            | inr after ↦ ap length (padded_to-empty (2 ^ m) leaves place after within) ∙ length-double_sha256 _
+          let within : offset < 2 ^ m = rw (← same) inside in
+          rw same (ap length (node-leaf m (padded leaves) offset)
+          ∙ elim (cases_lt offset (length leaves)) [
+            | inl own ↦ ap length (padded_to-leaf (2 ^ m) leaves offset own) ∙ hashes offset [] own
+            | inr after ↦ ap length (padded_to-empty (2 ^ m) leaves offset after within) ∙ length-double_sha256 _
           ])
     ]
 
@@ -39,7 +39,7 @@ pub tree_nodes_are_hashes : (leaves : List (List ℕ)) → AreHashes leaves → 
     → length (get_or (tree_nodes leaves) i []) ≡ 32
 tree_nodes_are_hashes leaves hashes i below =
     let m : ℕ = height (length leaves) in
-    let found = inner_place (m + 1) i (omega (arith, length-tree_nodes leaves)) in
+    let found = inner_position (m + 1) i (omega (arith, length-tree_nodes leaves)) in
     let here : i ≡ node_number found.0 found.1 = found.4 in
     let low : found.0 ≤ m = omega (arith, found.2) in
     ap (λ (k : ℕ). length (get_or (tree_nodes leaves) k [])) here
@@ -138,9 +138,9 @@ module _ (n : ℕ) (section : List ℕ) (long : length section ≡ (2 * 2 ^ heig
         holds = record {
           hashes = λ i d below.
               let own : i < n = omega (arith, count) in
-              let place : 2 ^ m - 1 + i < k = omega (arith, chunk_count, height_room n, pow_pos m) in
+              let offset : 2 ^ m - 1 + i < k = omega (arith, chunk_count, height_room n, pow_pos m) in
               ap length (get_or-take n (drop (2 ^ m - 1) nodes) i d own ∙ get_or-drop (2 ^ m - 1) nodes i d)
-              ∙ length-chunk 32 k section (2 ^ m - 1 + i) d (omega arith) place;
+              ∙ length-chunk 32 k section (2 ^ m - 1 + i) d (omega arith) offset;
           nodes = sym (joined-first_chunks 32 k section whole) ∙ ap joined are;
         };
       }

@@ -2,7 +2,7 @@
 use Rattle.std.specs.Prelude.{ℕ, List}
 use Rattle.cap_text.specs.Cap.{VerifyCapValue}
 use Rattle.ueb.specs.Shape.{Contents}
-use Rattle.share_layout.specs.Places.{LocatesUeb}
+use Rattle.share_layout.specs.Offsets.{LocatesUeb}
 use Rattle.share_layout.specs.Share.{Sections}
 use Rattle.share_verify.specs.CapBlock.{IsUebFor}
 use Rattle.share_verify.specs.Verify.{HasBlockTree, HasBlocks, HasCiphertextTree, HasShareHashes}

@@ -8,7 +8,7 @@ use Rattle.ueb.specs.Shape.{Contents}
 use Rattle.ueb.specs.declared.block.Expect.{Expect}
 use Rattle.ueb.specs.declared.error.UebError.{UebError}
 use Rattle.share_layout.specs.Geometry.{block_size, segment_count}
-use Rattle.share_layout.specs.Places.{LocatesUeb}
+use Rattle.share_layout.specs.Offsets.{LocatesUeb}
 use Rattle.share_layout.specs.Reading.{IsLocateFault, IsReadFault}
 use Rattle.share_layout.specs.Share.{IsShare, Sections}
 use Rattle.share_layout.specs.declared.error.LayoutError.{LayoutError}
@@ -29,7 +29,7 @@ pub record ReadsAs (cap : VerifyCapValue) (num : ℕ) (share : List ℕ) (u : Co
   pub ueb : IsUebFor cap s.extension_block u
   pub layout : IsShare (geometry_by u) num share s
 
--- the place of the tree that is no longer used holds zeros
+-- the section of the tree that is no longer used holds zeros
 abbrev pub HasZeros : Sections → Type 0
 HasZeros s = s.unused ≡ replicate (length s.unused) 0
 

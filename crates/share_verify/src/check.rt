@@ -9,11 +9,11 @@ use crate::fault::ShareFault;
 /// A check of a share, by what it is about.
 #[derive(Clone, Copy, PartialEq, Eq)]
 pub enum Check {
-    /// The layout: the header, the places of the sections and the numbers of the share hashes.
+    /// The layout: the header, the offsets of the sections and the numbers of the share hashes.
     Layout,
     /// The extension block, against the cap.
     Ueb,
-    /// The place of the tree that is no longer used.
+    /// The offset of the tree that is no longer used.
     Unused,
     /// The ciphertext tree, against the extension block's root.
     CiphertextTree,

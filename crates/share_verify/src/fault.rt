@@ -13,7 +13,7 @@ pub enum ShareFault {
     OtherUeb,
     /// Its extension block is not one of a file with the cap's numbers (number 42).
     Ueb(UebError),
-    /// The place of the tree that is no longer used holds other bytes than zeros (number 41).
+    /// The section of the tree that is no longer used holds other bytes than zeros (number 41).
     Unused,
     /// The ciphertext tree has wrong inner nodes or padding, or another root than the extension
     /// block's (number 43).

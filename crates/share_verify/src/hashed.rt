@@ -27,7 +27,7 @@ pub struct HashedBlocks<'a> {
 /// The sections of a share that stand between its blocks and its extension block, as slices.
 #[derive(Clone, Copy)]
 pub struct HashSections<'a> {
-    /// The place of the tree that is no longer used: `Geometry::tree_size` bytes.
+    /// The offset of the tree that is no longer used: `Geometry::tree_size` bytes.
     pub unused: &'a [u8],
     /// The ciphertext tree: as many.
     pub ciphertext_tree: &'a [u8],

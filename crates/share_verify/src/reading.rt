@@ -7,7 +7,7 @@ ghost use Rattle.ueb.specs.Block.{IsUeb};
 ghost use Rattle.ueb.specs.Reading.{Agrees, IsRefused};
 ghost use Rattle.ueb.specs.Shape.{Contents};
 ghost use Rattle.ueb.specs.declared.error.UebError.{UebError};
-ghost use Rattle.share_layout.specs.Places.{LocatesUeb};
+ghost use Rattle.share_layout.specs.Offsets.{LocatesUeb};
 ghost use Rattle.share_layout.specs.Reading.{IsLocateFault, IsReadFault, sections_in};
 ghost use Rattle.share_layout.specs.Share.{IsShare, Sections};
 ghost use Rattle.share_verify.specs.CapBlock.{IsUebFor, geometry_by};
@@ -36,7 +36,7 @@ pub struct ReadShare<'a> {
 
 /// What share `num` of the cap's file says, where its own header leads to the cap's extension
 /// block, and it is laid out under the geometry of that block. Otherwise the first fault, as
-/// `verify_share` tells it. The unused place, the trees, the share hashes and the blocks are not
+/// `verify_share` tells it. The unused section, the trees, the share hashes and the blocks are not
 /// looked at: `verify_share` tells whether these are right.
 pub fn read_share<'a>(
     cap: &VerifyCap,

@@ -54,7 +54,7 @@ pub(crate) fn is_tree_with_root(section: &[u8], leaf_count: u32, root: &[u8; 32]
 }
 
 /// Whether a section is the nodes of a tree over `leaf_count` leaves, row by row: each inner node
-/// the hash of its children, and the places after the leaves padded. It has the length of such a
+/// the hash of its children, and the positions after the leaves padded. It has the length of such a
 /// tree.
 pub(crate) fn is_tree_section(section: &[u8], leaf_count: u32) -> bool
     requires few { leaf_count ≤ max_leaves }

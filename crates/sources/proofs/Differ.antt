@@ -1,4 +1,4 @@
--- Two readings that brought different bytes differed at one place.
+-- Two readings that brought different bytes differed at one offset.
 use Rattle.std.proofs.Common.{◌≡◌, ℕ, suc, ◌+◌, ◌-◌, ◌<◌, List, [], ◌∷◌, ◌++◌, length, get_or, Some, refl, inl, inr, ap, sym, subst, ◌∙◌, arith}
 use Rattle.std.specs.Prelude.{◌≢◌, Contains}
 use Rattle.std.proofs.lemmas.Bool.{cases_lt}
@@ -9,26 +9,26 @@ use Rattle.sources.specs.Change.{Brings, HasChanged}
 use Rattle.sources.specs.Source.{AreConsecutive, IsPass, Read, Reads, bytes_of}
 
 -- each byte of a reading was brought by one of its reads
-brings : (reads : List Read) (place end i : ℕ) → AreConsecutive place reads end → i < length (bytes_of reads)
-    → (read : Read) × Contains reads read × Brings read (place + i) (get_or (bytes_of reads) i 0)
-brings [] place end i run inside = absurd (omega arith)
-brings (r ∷ rs) place end i run inside =
+brings : (reads : List Read) (position end i : ℕ) → AreConsecutive position reads end → i < length (bytes_of reads)
+    → (read : Read) × Contains reads read × Brings read (position + i) (get_or (bytes_of reads) i 0)
+brings [] position end i run inside = absurd (omega arith)
+brings (r ∷ rs) position end i run inside =
     elim (cases_lt i (length r.1)) [
       | inl within ↦ (
         r,
         (0, omega arith, refl),
         record {
           offset = i;
-          place_is = ap (λ n. n + i) (sym run.0);
+          position_is = ap (λ n. n + i) (sym run.0);
           byte_is = slice_get-get_or r.1 i 0 within ∙ ap Some (sym (get_or_append_left r.1 (bytes_of rs) 0 i within));
         },
       )
-      | inr after ↦ (let ih = brings rs (place + length r.1) end (i - length r.1) run.1 (omega (arith, inside, after, length-append r.1 (bytes_of rs))) in (
+      | inr after ↦ (let ih = brings rs (position + length r.1) end (i - length r.1) run.1 (omega (arith, inside, after, length-append r.1 (bytes_of rs))) in (
         ih.0,
         Contains-append_right (r ∷ []) rs ih.0 ih.1,
         record {
           offset = ih.2.offset;
-          place_is = omega (arith, after, ih.2.place_is);
+          position_is = omega (arith, after, ih.2.position_is);
           byte_is = ih.2.byte_is ∙ ap Some (sym (get_or-append_right r.1 (bytes_of rs) (length r.1) i 0 refl after));
         },
       ))
@@ -68,7 +68,7 @@ module _ {S : Type 0} (gives : S → ℕ → List ℕ → S → Type 0) where
         changed = inl record {
           one = one.0;
           other = other.0;
-          place = 0 + i;
+          offset = 0 + i;
           byte = get_or (bytes_of a.read.reads) i 0;
           other_byte = get_or (bytes_of b.read.reads) i 0;
           among = Contains-append_left a.read.reads b.read.reads one.0 one.1;

@@ -3,23 +3,23 @@ use Rattle.std.specs.Prelude.{◌≡◌, ◌≢◌, ◌⊎◌, ℕ, ◌+◌, ◌
 use Rattle.std.specs.Prelude.{slice_get, Some}
 use Rattle.sources.specs.Source.{Read, Reads}
 
--- a read brought this byte for this place
-pub record Brings (read : Read) (place byte : ℕ) : Type 0 where
+-- a read brought this byte for this position
+pub record Brings (read : Read) (position byte : ℕ) : Type 0 where
   pub offset : ℕ
-  pub place_is : place ≡ read.0 + offset
+  pub position_is : position ≡ read.0 + offset
   pub byte_is : slice_get read.1 offset ≡ Some byte
 
--- two of these reads brought different bytes for one place
+-- two of these reads brought different bytes for one offset
 pub record HaveDiffered (reads : List Read) : Type 0 where
   pub one : Read
   pub other : Read
-  pub place : ℕ
+  pub offset : ℕ
   pub byte : ℕ
   pub other_byte : ℕ
   pub among : Contains reads one
   pub among_too : Contains reads other
-  pub brings : Brings one place byte
-  pub brings_too : Brings other place other_byte
+  pub brings : Brings one offset byte
+  pub brings_too : Brings other offset other_byte
   pub differ : byte ≢ other_byte
 
 -- one of these reads found no more bytes before so many
@@ -42,7 +42,7 @@ pub record HasOther (reads : List Read) (file : List ℕ) : Type 0 where
   pub among : Contains reads read
   pub other : read.1 ≢ take (length read.1) (drop read.0 file)
 
--- two reads of one place differed, or the source ended before its size
+-- two reads of one offset differed, or the source ended before its size
 pub record HasChanged {S : Type 0} (gives : S → ℕ → List ℕ → S → Type 0) (old : S) (size : ℕ)
     (new : S) : Type 0 where
   pub reads : List Read

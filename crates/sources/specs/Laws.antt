@@ -4,7 +4,7 @@ use Rattle.sources.specs.Source.{IsPass}
 use Rattle.sources.specs.Change.{HasChanged}
 use Rattle.sources.specs.Texts.{Changing, GivesChanging, GivesText, read_once, text_of}
 
--- a law: where two passes brought different bytes, two reads of one place did
+-- a law: where two passes brought different bytes, two reads of one offset did
 abbrev pub UnlikePassesDiffer : {S : Type 0} → (S → ℕ → List ℕ → S → Type 0) → Type 0
 UnlikePassesDiffer gives = (size : ℕ) (old mid new : _) (first second : List ℕ)
     → IsPass gives size old first mid → IsPass gives size mid second new → first ≢ second

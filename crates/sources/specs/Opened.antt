@@ -8,12 +8,12 @@ pub record Opened (F : Type 0) : Type 0 where
   pub size : ℕ
   pub failures : ℕ
 
--- The file was moved to a place, and then read: these are the next bytes that it has there, and
+-- The file was moved to an offset, and then read: these are the next bytes that it has there, and
 -- none only where it has no more. That says something of files whose bytes are known alone.
 pub record WasRead {F : Type 0} (position : F → Option ℕ) (contents remaining : F → Option (List ℕ))
-    (old : F) (place : ℕ) (bytes : List ℕ) (new : F) : Type 0 where
+    (old : F) (offset : ℕ) (bytes : List ℕ) (new : F) : Type 0 where
   pub moved : F
-  pub position_is : IfSome (position old) (λ _. position moved ≡ Some place)
+  pub position_is : IfSome (position old) (λ _. position moved ≡ Some offset)
   pub contents_stay : Keeps (contents old) (contents moved)
   pub next : Consumes (remaining moved) (remaining new) bytes
   pub end : bytes ≡ [] → IsAtEnd (remaining new)
@@ -21,8 +21,8 @@ pub record WasRead {F : Type 0} (position : F → Option ℕ) (contents remainin
 -- the file was read within its size, or not at all behind it
 abbrev pub GivesOpened : {F : Type 0} → (F → Option ℕ) → (F → Option (List ℕ))
     → (F → Option (List ℕ)) → Opened F → ℕ → List ℕ → Opened F → Type 0
-GivesOpened position contents remaining s place bytes after =
-    ((s.size ≤ place) × (bytes ≡ []) × (after ≡ s))
-    ⊎ ((place < s.size) × (place + length bytes ≤ s.size)
-    × WasRead position contents remaining s.file place bytes after.file
+GivesOpened position contents remaining s offset bytes after =
+    ((s.size ≤ offset) × (bytes ≡ []) × (after ≡ s))
+    ⊎ ((offset < s.size) × (offset + length bytes ≤ s.size)
+    × WasRead position contents remaining s.file offset bytes after.file
     × (after ≡ record s { file = after.file }))

@@ -4,7 +4,7 @@ use Rattle.sources.specs.Source.{IsFrom}
 
 -- each read comes from one text, which stays
 abbrev pub GivesText : List ℕ → ℕ → List ℕ → List ℕ → Type 0
-GivesText text place bytes after = IsFrom text place bytes × (after ≡ text)
+GivesText text offset bytes after = IsFrom text offset bytes × (after ≡ text)
 
 -- of the bytes that it hands out the first `left` come from `file`, later ones from `other`
 pub record Changing : Type 0 where
@@ -14,10 +14,10 @@ pub record Changing : Type 0 where
 
 -- each read comes from one of the two texts
 abbrev pub GivesChanging : Changing → ℕ → List ℕ → Changing → Type 0
-GivesChanging s place bytes after =
-    ((s.left ≢ 0) × IsFrom s.file place bytes × (length bytes ≤ s.left)
+GivesChanging s offset bytes after =
+    ((s.left ≢ 0) × IsFrom s.file offset bytes × (length bytes ≤ s.left)
     × (after ≡ record s { left = s.left - length bytes }))
-    ⊎ ((s.left ≡ 0) × IsFrom s.other place bytes × (after ≡ s))
+    ⊎ ((s.left ≡ 0) × IsFrom s.other offset bytes × (after ≡ s))
 
 -- what its next pass brings: the first `left` bytes of `file`, and `other` from there on
 abbrev pub text_of : Changing → List ℕ

@@ -10,7 +10,7 @@ use crate::source::Source;
 use std::marker::Model;
 
 /// Two texts of one length. The first `left` bytes that it hands out, counted over all reads, come
-/// from `file`, later ones from `other`, each at its own place.
+/// from `file`, later ones from `other`, each at its own offset.
 #[derive(Drop)]
 pub struct ChangingSource {
     file: Vec<u8>,
@@ -58,12 +58,12 @@ impl Source for ChangingSource {
         self.file.len() as u64
     }
 
-    fn read_at(&mut self, place: u64, out: &mut [u8]) -> Result<usize, SourceFault> {
+    fn read_at(&mut self, offset: u64, out: &mut [u8]) -> Result<usize, SourceFault> {
         if self.left == 0 {
-            return Ok(copy_from(&self.other, place, out));
+            return Ok(copy_from(&self.other, offset, out));
         }
         let room = out.len().min(self.left as usize);
-        let count = copy_from(&self.file, place, &mut out[..room]);
+        let count = copy_from(&self.file, offset, &mut out[..room]);
         self.left -= count as u64;
         Ok(count)
     }

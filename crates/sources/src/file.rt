@@ -10,7 +10,7 @@ use std::io::{Read, Seek, SeekFrom};
 use std::marker::Model;
 
 /// An open file, and the size that it had when it was opened. Of the bytes of a file of the system
-/// nothing is known: two reads of one place may bring what they like. It is read to that size and
+/// nothing is known: two reads of one offset may bring what they like. It is read to that size and
 /// no further: where it was cut, reads end early, and what was added since is not read. A seek or a
 /// read that fails is counted, an interrupted one too.
 #[derive(Drop)]
@@ -46,19 +46,19 @@ impl<F: Read + Seek + Drop> Source for FileSource<F> {
 
     ghost failures = { λ s. s.failures };
 
-    ghost gives = { λ s place bytes after.
-        GivesOpened F.stream_position F.stream_bytes F.remaining s place bytes after };
+    ghost gives = { λ s offset bytes after.
+        GivesOpened F.stream_position F.stream_bytes F.remaining s offset bytes after };
 
     fn len(&self) -> u64 {
         self.size
     }
 
-    fn read_at(&mut self, place: u64, out: &mut [u8]) -> Result<usize, SourceFault> {
-        if self.size <= place {
+    fn read_at(&mut self, offset: u64, out: &mut [u8]) -> Result<usize, SourceFault> {
+        if self.size <= offset {
             return Ok(0);
         }
-        let room = out.len().min((self.size - place) as usize);
-        match read_from(&mut self.file, place, &mut out[..room]) {
+        let room = out.len().min((self.size - offset) as usize);
+        match read_from(&mut self.file, offset, &mut out[..room]) {
             Ok(count) => Ok(count),
             Err(_) => {
                 self.failures = self.failures.saturating_add(1);
@@ -72,12 +72,12 @@ impl<F: Read + Seek + Drop> Source for FileSource<F> {
     }
 }
 
-// Some bytes of an open file from a place on.
-fn read_from<F: Read + Seek>(file: &mut F, place: u64, out: &mut [u8]) -> io::Result<usize>
+// Some bytes of an open file from an offset on.
+fn read_from<F: Read + Seek>(file: &mut F, offset: u64, out: &mut [u8]) -> io::Result<usize>
     ensures few { IfOk result (λ count. count ≤ length out.old) }
     ensures read { 0 < length out.old → IfOk result (λ count. WasRead F.stream_position
-        F.stream_bytes F.remaining file.old place (take count out.new) file.new) }
+        F.stream_bytes F.remaining file.old offset (take count out.new) file.new) }
 {
-    file.seek(SeekFrom::Start(place))?;
+    file.seek(SeekFrom::Start(offset))?;
     file.read(out)
 }

@@ -4,7 +4,7 @@ ghost use Rattle.sources.specs.Laws.{ChangesAreBrought, TextsStay, UnlikePassesD
 
 use crate::source::Source;
 
-/// Two passes over one source that brought different bytes brought them for one place.
+/// Two passes over one source that brought different bytes brought them for one offset.
 pub fn unlike_passes_differ<S: Source>()
     ensures { UnlikePassesDiffer S.gives }
 {}

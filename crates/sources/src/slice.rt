@@ -42,8 +42,8 @@ impl<'a> Source for SliceSource<'a> {
         self.bytes.len() as u64
     }
 
-    fn read_at(&mut self, place: u64, out: &mut [u8]) -> Result<usize, SourceFault> {
-        Ok(copy_from(self.bytes, place, out))
+    fn read_at(&mut self, offset: u64, out: &mut [u8]) -> Result<usize, SourceFault> {
+        Ok(copy_from(self.bytes, offset, out))
     }
 
     fn failures(&self) -> u64 {
@@ -51,13 +51,13 @@ impl<'a> Source for SliceSource<'a> {
     }
 }
 
-/// Copies as many bytes of a text from a place on as there are and as `out` has room for, and says
-/// how many.
-pub(crate) fn copy_from(text: &[u8], place: u64, out: &mut [u8]) -> usize
+/// Copies as many bytes of a text from an offset on as there are and as `out` has room for, and
+/// says how many.
+pub(crate) fn copy_from(text: &[u8], offset: u64, out: &mut [u8]) -> usize
     ensures few { result ≤ length out.old }
-    ensures from { 0 < length out.old → IsFrom text.now place (take result out.new) }
+    ensures from { 0 < length out.old → IsFrom text.now offset (take result out.new) }
 {
-    let start = text.len().min(place as usize);
+    let start = text.len().min(offset as usize);
     let count = out.len().min(text.len() - start);
     out[..count].copy_from_slice(&text[start..start + count]);
     count

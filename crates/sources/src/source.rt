@@ -5,8 +5,8 @@ ghost use Rattle.sources.specs.Source.{HasFailedMore};
 
 use crate::error::SourceFault;
 
-/// A file that is read at any place, by a relation of its own: what a read brings, from the state
-/// before it to the state after it. Two reads of one place may bring different bytes.
+/// A file that is read at any offset, by a relation of its own: what a read brings, from the state
+/// before it to the state after it. Two reads of one offset may bring different bytes.
 pub trait Source {
     /// How many bytes it says that it has. That stays, whatever becomes of the file.
     ghost size: { Self → ℕ };
@@ -14,7 +14,7 @@ pub trait Source {
     /// How many reads of it failed.
     ghost failures: { Self → ℕ };
 
-    /// From this state a read at this place brought these bytes, and it is in that state then. A
+    /// From this state a read at this offset brought these bytes, and it is in that state then. A
     /// read that brings none found no more bytes.
     ghost gives: { Self → ℕ → List ℕ → Self → Type 0 };
 
@@ -22,12 +22,12 @@ pub trait Source {
     fn len(&self) -> u64
         ensures { result ≡ size self.now };
 
-    /// Reads some bytes from a place on, at most as many as `out` has: none only where there are no
-    /// more, or where `out` is empty. After a failed read `out` holds any bytes.
-    fn read_at(&mut self, place: u64, out: &mut [u8]) -> Result<usize, SourceFault>
+    /// Reads some bytes from an offset on, at most as many as `out` has: none only where there are
+    /// no more, or where `out` is empty. After a failed read `out` holds any bytes.
+    fn read_at(&mut self, offset: u64, out: &mut [u8]) -> Result<usize, SourceFault>
         ensures few { IfOk result (λ count. count ≤ length out.old) }
         ensures gives { 0 < length out.old
-            → IfOk result (λ count. gives self.old place (take count out.new) self.new) }
+            → IfOk result (λ count. gives self.old offset (take count out.new) self.new) }
         ensures size { size self.new ≡ size self.old }
         ensures ok { OnOk result (failures self.new ≡ failures self.old) }
         ensures err { OnErr result (HasFailedMore (failures self.old) (failures self.new)) };

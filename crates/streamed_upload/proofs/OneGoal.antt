@@ -10,7 +10,7 @@ use Rattle.cap_text.specs.Cap.{verify_cap_of}
 use Rattle.ueb.specs.Block.{ueb_text}
 use Rattle.ueb.specs.Shape.{IsShape}
 use Rattle.share_layout.specs.Geometry.{Geometry}
-use Rattle.share_layout.specs.Layout.{header, layout_of, places_of, spelled, width}
+use Rattle.share_layout.specs.Layout.{header, layout_of, offsets_of, spelled, width}
 use Rattle.share_layout.specs.Pieces.{segments_of}
 use Rattle.share_layout.specs.Share.{HaveLengths, Sections, share_bytes}
 use Rattle.share_layout.proofs.LayoutLemmas.{length-header, length-spelled}
@@ -29,7 +29,7 @@ some_shares needed total size segment_size shape = omega (arith, shape.file.some
 
 -- the length of a share, by that of its extension block
 length-share : (g : Geometry) (s : Sections) → HaveLengths g s
-    → length (share_bytes g s) ≡ (places_of g).extension_block + width (layout_of g) + length s.extension_block
+    → length (share_bytes g s) ≡ (offsets_of g).extension_block + width (layout_of g) + length s.extension_block
 length-share g s are =
     let all = eight_long (header g) s.blocks s.unused s.ciphertext_tree s.block_tree s.share_hashes (spelled (layout_of g) (length s.extension_block)) s.extension_block in
     omega (arith, all, length-header (layout_of g) g, length-spelled (layout_of g) (length s.extension_block), are.blocks, are.unused, are.ciphertext_tree, are.block_tree, are.share_hashes)

@@ -47,12 +47,12 @@ pub fn pair(left: &[u8; 32], right: &[u8; 32]) -> [u8; 32]
     input.finish()
 }
 
-/// The leaf that pads a tree at place `i`: the hash of `i` in decimal.
+/// The leaf that pads a tree at position `i`: the hash of `i` in decimal.
 pub fn empty_leaf(i: u32) -> [u8; 32]
     ensures { result ≡ empty_leaf_hash i }
 {
-    let place = DecimalText::new(u64::from(i));
-    tagged(Tag::EmptyLeaf, place.as_bytes())
+    let position = DecimalText::new(u64::from(i));
+    tagged(Tag::EmptyLeaf, position.as_bytes())
 }
 
 /// The storage index of a file's key: the first 16 bytes of the key's hash.

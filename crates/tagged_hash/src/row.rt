@@ -20,7 +20,7 @@ pub fn tagged_eight(tag: Tag, messages: &[&[u8]; 8], len: usize) -> [[u8; 32]; 8
     double_sha256_of_eight(tag.netstring(), messages, len)
 }
 
-/// The hashes under `tag` of the first pieces of a text, as many as `hashes` has places. Pieces
+/// The hashes under `tag` of the first pieces of a text, as many as `hashes` has positions. Pieces
 /// have `size` bytes; the last of the text may be shorter, and those behind it are empty.
 pub fn tagged_pieces(tag: Tag, text: &[u8], size: usize, hashes: &mut [[u8; 32]])
     ensures { (i : ℕ) → i < length hashes.old → slice_index_or hashes.new i []

@@ -57,9 +57,9 @@ fn are_all(pieces: &[Piece], byte: Option<u8>) -> bool {
     true
 }
 
-/// Is the message at this place so, or is there none?
-pub fn is_said(world: &World, place: usize, said: Option<(NodeId, NodeId, u8)>) -> bool {
-    match (world.sent().get(place), said) {
+/// Is the message at this position so, or is there none?
+pub fn is_said(world: &World, position: usize, said: Option<(NodeId, NodeId, u8)>) -> bool {
+    match (world.sent().get(position), said) {
         (Some(sent), Some((from, to, byte))) => {
             sent.from == from && sent.to == to && sent.body.as_slice() == [byte].as_slice()
         }
@@ -189,7 +189,7 @@ pub fn says(all: &[Sent], node: NodeId, count: usize) -> bool {
 /// Did the first downloads, each from a pair of servers of the file that is no code word, end as
 /// they have to? Its ciphertext tree tells that its second segment is bytes `told`. From the right
 /// pair all of the file comes, and from any other its first segment, which is a code word, and no
-/// more. No place has two bytes.
+/// more. No position has two bytes.
 pub fn kept_end(alloc: Global, world: &World, told: u8, pairs: &[(u8, u8)]) -> bool {
     for (number, pair) in pairs.iter().enumerate() {
         let (status, counts) = if is_right(told, *pair) {
@@ -231,13 +231,13 @@ fn agree(alloc: Global, operations: &[Operation]) -> bool {
 // Has a piece the bytes that are known? Those that are not known yet are so from then on.
 fn agrees(known: &mut [Option<u8>], piece: &Piece) -> bool {
     for (i, byte) in piece.bytes.as_slice().iter().enumerate() {
-        let Some(place) = known.get_mut((piece.place as usize).saturating_add(i)) else {
+        let Some(position) = known.get_mut((piece.offset as usize).saturating_add(i)) else {
             return false;
         };
-        if place.is_some() && *place != Some(*byte) {
+        if position.is_some() && *position != Some(*byte) {
             return false;
         }
-        *place = Some(*byte);
+        *position = Some(*byte);
     }
     true
 }

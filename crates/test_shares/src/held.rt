@@ -70,7 +70,7 @@ fn held_by(held: &[Held], node: NodeId, share: u8) -> Option<&Held> {
     None
 }
 
-// So many bytes of a share from a place on, or fewer where it ends before.
+// So many bytes of a share from an offset on, or fewer where it ends before.
 fn data(alloc: Global, bytes: &[u8], offset: u64, length: u32) -> Option<Body> {
     let from = offset.min(bytes.len() as u64) as usize;
     let end = from.saturating_add(length as usize).min(bytes.len());

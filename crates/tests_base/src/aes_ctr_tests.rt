@@ -59,7 +59,7 @@ const ZERO_KEY_STREAM: [u8; 32] = [
 ];
 
 #[test]
-fn adds_the_stream_from_each_place(rt: HostRuntime) {
+fn adds_the_stream_from_each_offset(rt: HostRuntime) {
     let aes = Aes128::new(&[0; 16]);
     for (start, end) in [
         (0, 32),

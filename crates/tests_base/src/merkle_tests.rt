@@ -90,8 +90,8 @@ static PATH: [[u8; 4]; 3] = [
     [0x0c, 0x0d, 0x81, 0xd9],
 ];
 
-// Whether this path leads from the last of five leaves to the root, and from no other leaf, place
-// or number of leaves, and not cut.
+// Whether this path leads from the last of five leaves to the root, and from no other leaf,
+// position or number of leaves, and not cut.
 fn leads(root: &[u8; 32], path: &[[u8; 32]]) -> bool {
     check_path(root, 5, 4, &LEAVES[4], path)
         && !check_path(root, 5, 4, &LEAVES[3], path)

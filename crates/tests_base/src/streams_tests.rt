@@ -30,7 +30,7 @@ fn add(streams: &mut Sha256Streams, text: &[u8], len: usize, from: usize, to: us
     streams.update(&messages, to - from);
 }
 
-// The digests of the eight messages, cut at two places.
+// The digests of the eight messages, cut at two positions.
 fn cut_at(text: &[u8], len: usize, first: usize, second: usize) -> [[u8; 32]; 8]
     requires small { len < 100_000 }
     requires whole { length text.now ≡ 8 * len }

@@ -5,7 +5,7 @@ use checker::Check;
 use checker::status::CheckStatus;
 use file_encoding::{Encoded, Params, encode_all};
 use request_record::operation::Operation;
-use share_layout::Places;
+use share_layout::Offsets;
 use share_reading::Verdict;
 use share_verify::Check as Section;
 use std::alloc::{AllocError, Global};
@@ -33,14 +33,14 @@ enum Wrong {
     Byte(usize),
     // This byte from its end.
     ByteFromEnd(usize),
-    // The first byte of this section: the unused place, the ciphertext tree, the block tree, or
+    // The first byte of this section: the unused section, the ciphertext tree, the block tree, or
     // the share hashes.
     Section(usize),
     // The extension block's length is 0.
     NoBlock,
     // More bytes stand behind the extension block.
     Grown,
-    // The share ends at this place.
+    // The share ends at this offset.
     Cut(usize),
     // The header and the length of the extension block are spelled in the second layout.
     SecondLayout,
@@ -97,37 +97,37 @@ fn verify_cap(encoded: &Encoded) -> Option<VerifyCap> {
 // The share as its server has it.
 fn kept_share(alloc: Global, share: &[u8], wrong: Wrong) -> Option<Vec<u8>> {
     let mut bytes = Vec::from_slice(alloc, share).ok()?;
-    let places = Places::read(share).ok()?;
-    let block = places.extension_block as usize;
+    let offsets = Offsets::read(share).ok()?;
+    let block = offsets.extension_block as usize;
     match wrong {
-        Wrong::Byte(place) => *bytes.get_mut(place)? ^= 1,
+        Wrong::Byte(offset) => *bytes.get_mut(offset)? ^= 1,
         Wrong::ByteFromEnd(behind) => *bytes.get_mut(share.len().checked_sub(behind)?)? ^= 1,
         Wrong::Section(number) => {
             let sections = [
-                places.unused,
-                places.ciphertext_tree,
-                places.block_tree,
-                places.share_hashes.saturating_add(2),
+                offsets.unused,
+                offsets.ciphertext_tree,
+                offsets.block_tree,
+                offsets.share_hashes.saturating_add(2),
             ];
             *bytes.get_mut(*sections.get(number)? as usize)? ^= 1;
         }
         Wrong::NoBlock => {
-            for place in block..block.saturating_add(4) {
-                *bytes.get_mut(place)? = 0;
+            for offset in block..block.saturating_add(4) {
+                *bytes.get_mut(offset)? = 0;
             }
         }
         Wrong::Grown => bytes.extend_from_slice(&[7; 40]).ok()?,
-        Wrong::Cut(place) => bytes.truncate(place),
-        Wrong::SecondLayout => return second_layout(alloc, share, &places),
+        Wrong::Cut(offset) => bytes.truncate(offset),
+        Wrong::SecondLayout => return second_layout(alloc, share, &offsets),
         _ => {}
     }
     Some(bytes)
 }
 
-// The share spelled in the second layout: all places are 32 bytes further, and the length of the
+// The share spelled in the second layout: all offsets are 32 bytes further, and the length of the
 // extension block takes four bytes more.
-fn second_layout(alloc: Global, share: &[u8], places: &Places) -> Option<Vec<u8>> {
-    let block = places.extension_block as usize;
+fn second_layout(alloc: Global, share: &[u8], offsets: &Offsets) -> Option<Vec<u8>> {
+    let block = offsets.extension_block as usize;
     let mut bytes = Vec::new(alloc);
     bytes.extend_from_slice(&[0, 0, 0, 2]).ok()?;
     for i in 0..8usize {
@@ -330,7 +330,7 @@ fn good_ones(good: usize) -> Ending {
 }
 
 static WRONG_SHARES: [(Wrong, Found); 15] = [
-    // The version, the blocks' length, and the place of the share hashes.
+    // The version, the blocks' length, and the offset of the share hashes.
     (Wrong::Byte(3), Found::Layout),
     (Wrong::Byte(7), Found::Layout),
     (Wrong::Byte(30), Found::Layout),

@@ -3,7 +3,7 @@
 
 use cap_text::{Cap, VerifyCap};
 use file_encoding::{Encoded, Params, encode_all};
-use share_layout::Places;
+use share_layout::Offsets;
 use share_verify::{Judging, ShareFault, read_ueb, verify_share};
 use std::alloc::Global;
 
@@ -72,11 +72,11 @@ fn judged(
     share: &[u8],
     read: usize,
 ) -> Option<Result<(), ShareFault>> {
-    let places = Places::read(share).ok()?;
-    let end = places.extension_block as usize;
-    let block = share.get(end.saturating_add(places.layout.width())..)?;
+    let offsets = Offsets::read(share).ok()?;
+    let end = offsets.extension_block as usize;
+    let block = share.get(end.saturating_add(offsets.layout.width())..)?;
     let mut judging = Judging::begin(alloc, &read_ueb(cap, block).ok()?);
-    let mut left = share.get(places.layout.header_size()..end)?;
+    let mut left = share.get(offsets.layout.header_size()..end)?;
     for _ in 0..share.len() {
         if judging.is_whole() {
             return Some(judging.verdict(num));
@@ -99,16 +99,16 @@ fn are_as_whole(alloc: Global, cap: &VerifyCap, num: u16, share: &[u8]) -> bool 
     true
 }
 
-// The share with another byte at a place.
-fn changed(alloc: Global, share: &[u8], place: usize) -> Option<Vec<u8>> {
+// The share with another byte at an offset.
+fn changed(alloc: Global, share: &[u8], offset: usize) -> Option<Vec<u8>> {
     let mut bytes = Vec::from_slice(alloc, share).ok()?;
-    *bytes.get_mut(place)? ^= 1;
+    *bytes.get_mut(offset)? ^= 1;
     Some(bytes)
 }
 
-// Whether a share with another byte at a place has this fault first, whole and in each read.
-fn has_fault(alloc: Global, shared: &Shared, place: usize, fault: ShareFault) -> bool {
-    match changed(alloc, &shared.share, place) {
+// Whether a share with another byte at an offset has this fault first, whole and in each read.
+fn has_fault(alloc: Global, shared: &Shared, offset: usize, fault: ShareFault) -> bool {
+    match changed(alloc, &shared.share, offset) {
         Some(share) => {
             verify_share(&shared.cap, 0, &share) == Err(fault)
                 && are_as_whole(alloc, &shared.cap, 0, &share)
@@ -135,8 +135,8 @@ fn wrong_shares_have_their_first_fault(rt: HostRuntime) {
     let made = made_share(rt.alloc());
     assert!(rt; made.is_some());
     if let Some(it) = &made {
-        for (i, (place, fault)) in WRONG.iter().enumerate() {
-            assert!(rt; has_fault(rt.alloc(), it, *place, *fault), "share {i}");
+        for (i, (offset, fault)) in WRONG.iter().enumerate() {
+            assert!(rt; has_fault(rt.alloc(), it, *offset, *fault), "share {i}");
         }
     }
 }

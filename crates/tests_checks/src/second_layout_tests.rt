@@ -88,9 +88,9 @@ fn a_header_is_measured_by_its_version(rt: HostRuntime) {
     assert!(rt; has_fault(&last, LayoutError::Truncated(Section::Data)));
 }
 
-// A header of eight-byte numbers that names places near 2^64.
+// A header of eight-byte numbers that names offsets near 2^64.
 #[test]
-fn places_of_a_lying_long_header_do_not_wrap(rt: HostRuntime) {
+fn offsets_of_a_lying_long_header_do_not_wrap(rt: HostRuntime) {
     let mut bytes = [0u8; 80];
     let numbers = [
         0,
@@ -111,7 +111,7 @@ fn places_of_a_lying_long_header_do_not_wrap(rt: HostRuntime) {
     assert!(rt; has_fault(&bytes, LayoutError::BadOffset));
 }
 
-// Share 3 of 56 bytes, spelled in the second layout: all places are 32 bytes further, and the
+// Share 3 of 56 bytes, spelled in the second layout: all offsets are 32 bytes further, and the
 // length of the extension block has eight bytes.
 fn spelled_long(alloc: Global) -> Option<Vec<u8>> {
     let share = share_three(alloc)?;

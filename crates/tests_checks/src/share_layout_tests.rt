@@ -2,10 +2,10 @@
 
 ghost use Rattle.std.specs.Prelude.{◌≡◌, ◌≤◌, ◌+◌, false, length, IsTrue, OnErr};
 ghost use Rattle.ueb.specs.Limits.{max_length};
-ghost use Rattle.share_layout.specs.Layout.{header_size, layout_of, places_of};
+ghost use Rattle.share_layout.specs.Layout.{header_size, layout_of, offsets_of};
 
 use file_encoding::{Encoded, Params, Share, encode_all};
-use share_layout::{Geometry, LayoutError, Places, Section, ShareView, ShareWriter, locate_ueb};
+use share_layout::{Geometry, LayoutError, Offsets, Section, ShareView, ShareWriter, locate_ueb};
 use std::alloc::Global;
 use std::io;
 use std::test::Fail;
@@ -153,10 +153,10 @@ fn put_all<W: io::Write>(
     middle: &[u8],
     extension_block: &[u8],
 ) -> Result<(), LayoutError>
-    requires start { share.old.place ≡ 0 }
+    requires start { share.old.offset ≡ 0 }
     requires sound { share.old.failed ≡ false }
     requires whole { header_size (layout_of share.old.geometry) + length middle.now
-        ≡ (places_of share.old.geometry).extension_block }
+        ≡ (offsets_of share.old.geometry).extension_block }
     requires short { length extension_block.now ≤ max_length }
     ensures { OnErr result (IsTrue share.new.failed) }
 {
@@ -167,11 +167,11 @@ fn put_all<W: io::Write>(
 // Whether this stands between the header and the extension block of a share.
 fn fits(geometry: &Geometry, middle: &[u8], extension_block: &[u8]) -> bool
     ensures { IsTrue result → (header_size (layout_of geometry.now) + length middle.now
-        ≡ (places_of geometry.now).extension_block)
+        ≡ (offsets_of geometry.now).extension_block)
         × (length extension_block.now ≤ max_length) }
 {
     let header = geometry.layout().header_size() as u64;
-    Places::of(geometry).extension_block == header + middle.len() as u64
+    Offsets::of(geometry).extension_block == header + middle.len() as u64
         && extension_block.len() <= ueb::MAX_LENGTH
 }
 
@@ -297,7 +297,7 @@ const HEADER: [u8; 36] = [
     0, 0, 151, 0, 0, 1, 65,
 ];
 
-// Whether the sections of a share stand at their places.
+// Whether the sections of a share stand at their offsets.
 fn has_sections(share: &[u8], geometry: &Geometry) -> bool {
     let Ok(view) = ShareView::read(share, 3, geometry) else {
         return false;
@@ -352,7 +352,7 @@ fn shares_carry_the_numbers_of_their_nodes(rt: HostRuntime) {
             "at {number}"
         );
     }
-    for (place, refusal) in [
+    for (offset, refusal) in [
         (151, other),
         (152, other),
         (153, None),
@@ -360,11 +360,14 @@ fn shares_carry_the_numbers_of_their_nodes(rt: HostRuntime) {
         (186, other),
         (288, other),
     ] {
-        if place < share.len() {
-            share[place] ^= 1;
-            assert!(rt; read_refusal(&share, 3, &geometry) == refusal, "at {place}");
+        if offset < share.len() {
+            share[offset] ^= 1;
+            assert!(rt;
+                read_refusal(&share, 3, &geometry) == refusal,
+                "at {offset}"
+            );
             assert!(rt; locate_refusal(&share).is_none());
-            share[place] ^= 1;
+            share[offset] ^= 1;
         }
     }
 }
@@ -406,25 +409,25 @@ fn a_changed_header_is_refused(rt: HostRuntime) {
         assert!(rt; false);
         return;
     };
-    for place in 0..36 {
-        if place < share.len() {
-            share[place] ^= 1;
-            let refusal = if place < 4 {
+    for offset in 0..36 {
+        if offset < share.len() {
+            share[offset] ^= 1;
+            let refusal = if offset < 4 {
                 LayoutError::BadVersion
             } else {
                 LayoutError::BadOffset
             };
             let read = read_refusal(&share, 3, &geometry);
-            assert!(rt; read == Some(refusal), "at {place}");
-            let located = match place {
+            assert!(rt; read == Some(refusal), "at {offset}");
+            let located = match offset {
                 0..=3 => Some(LayoutError::BadVersion),
                 4..=11 => None,
                 _ => Some(LayoutError::BadOffset),
             };
-            if place < 16 {
-                assert!(rt; locate_refusal(&share) == located, "at {place}");
+            if offset < 16 {
+                assert!(rt; locate_refusal(&share) == located, "at {offset}");
             }
-            share[place] ^= 1;
+            share[offset] ^= 1;
         }
     }
 }
@@ -468,7 +471,7 @@ pub(crate) fn has_fault(bytes: &[u8], fault: LayoutError) -> bool {
 }
 
 #[test]
-fn places_of_a_lying_header_do_not_wrap(rt: HostRuntime) {
+fn offsets_of_a_lying_header_do_not_wrap(rt: HostRuntime) {
     let mut bytes = [0u8; 40];
     let numbers = [
         1,

@@ -13,7 +13,7 @@ const UEB_HASH: [u8; 32] = [
     0xe3, 0x04, 0xd0, 0x98, 0x78, 0xfc, 0x1c, 0x44, 0x9e, 0x88, 0x12, 0x3f, 0x54, 0x3d, 0x72, 0x68,
 ];
 
-// Places at which one bit is turned, and the fault.
+// Offsets at which one bit is turned, and the fault.
 static FLIPS: [(usize, ShareFault); 22] = [
     // the header
     (3, ShareFault::Layout(LayoutError::BadVersion)),
@@ -89,9 +89,9 @@ const SHARE: [u8; 1179] = *b"\
     \x61\x72\x65\x73\x3a\x31\x3a\x33\x2c";
 
 // Turns the lowest bit of a byte.
-fn turn(bytes: &mut [u8], place: usize) {
-    if place < bytes.len() {
-        bytes[place] ^= 1;
+fn turn(bytes: &mut [u8], offset: usize) {
+    if offset < bytes.len() {
+        bytes[offset] ^= 1;
     }
 }
 
@@ -113,10 +113,10 @@ fn the_share_passes_under_its_number_alone(rt: HostRuntime) -> Result<(), Fail> 
 fn each_bit_counts(rt: HostRuntime) -> Result<(), Fail> {
     let cap = ReadCap::new([0; 16], UEB_HASH, 1, 3, 60)?.to_verify();
     let mut share = Vec::from_slice(rt.alloc(), &SHARE)?;
-    for &(place, fault) in &FLIPS {
-        turn(&mut share, place);
-        assert!(rt; verify_share(&cap, 2, &share) == Err(fault), "at {place}");
-        turn(&mut share, place);
+    for &(offset, fault) in &FLIPS {
+        turn(&mut share, offset);
+        assert!(rt; verify_share(&cap, 2, &share) == Err(fault), "at {offset}");
+        turn(&mut share, offset);
     }
     Ok(())
 }
@@ -135,9 +135,9 @@ fn the_first_fault_is_told(rt: HostRuntime) -> Result<(), Fail> {
         (874, ShareFault::OtherUeb),
         (3, ShareFault::Layout(LayoutError::BadVersion)),
     ];
-    for (place, fault) in order {
-        turn(&mut share, place);
-        assert!(rt; verify_share(&cap, 2, &share) == Err(fault), "at {place}");
+    for (offset, fault) in order {
+        turn(&mut share, offset);
+        assert!(rt; verify_share(&cap, 2, &share) == Err(fault), "at {offset}");
     }
     Ok(())
 }

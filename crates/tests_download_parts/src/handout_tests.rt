@@ -58,7 +58,7 @@ const LEAVES: Nodes = Nodes {
 
 pub(crate) const KEY: [u8; 16] = [0, 1, 2, 3, 4, 5, 6, 7, 8, 9, 10, 11, 12, 13, 14, 15];
 
-// The bytes of the file from one place up to another are wanted.
+// The bytes of the file from one offset up to another are wanted.
 fn handout(alloc: Global, from: u64, to: u64) -> Result<Handout, AllocError>
     requires ordered { from ≤ to }
     requires inside { to ≤ 300 }
@@ -105,11 +105,11 @@ fn pieces_are_decrypted(rt: HostRuntime) -> Result<(), Fail> {
     }
     assert!(rt; handout.is_complete() && handout.next() == None);
     let mut made = Vec::new(rt.alloc());
-    for place in [50, 100, 200] {
+    for offset in [50, 100, 200] {
         let Some(piece) = handout.take() else {
             panic!(rt; "piece");
         };
-        assert!(rt; piece.place == place);
+        assert!(rt; piece.offset == offset);
         made.extend_from_slice(piece.bytes.as_slice())?;
     }
     assert!(rt; handout.take().is_none());

@@ -76,25 +76,25 @@ fn in_eight_bytes(numbers: &[u64; 8]) -> [u8; 68] {
     header
 }
 
-// What a share begins with: its header, the place of the extension block's length, that length, and
-// the extension block.
+// What a share begins with: its header, the offset of the extension block's length, that length,
+// and the extension block.
 #[derive(Clone, Copy)]
 struct Beginning<'a> {
     header: &'a [u8],
-    place: u64,
+    offset: u64,
     told: &'a [u8],
     block: &'a [u8],
 }
 
 impl Beginning<'_> {
-    fn read(&self, place: u64, length: u32) -> &[u8] {
-        if place == self.place {
+    fn read(&self, offset: u64, length: u32) -> &[u8] {
+        if offset == self.offset {
             return self.told;
         }
-        if place > self.place {
+        if offset > self.offset {
             return self.block;
         }
-        let start = place as usize;
+        let start = offset as usize;
         let end = start.saturating_add(length as usize);
         match self.header.get(start..end) {
             Some(bytes) => bytes,
@@ -106,7 +106,7 @@ impl Beginning<'_> {
     fn open(&self, cap: &VerifyCap) -> (Result<Opened, OpeningError>, usize) {
         let mut opening = Opening::start();
         for reads in 1..5 {
-            let bytes = self.read(opening.next_place(), opening.next_length());
+            let bytes = self.read(opening.next_offset(), opening.next_length());
             match opening.take(cap, bytes) {
                 Ok(Progress::Next(next)) => opening = next,
                 Ok(Progress::Done(opened)) => return (Ok(opened), reads),
@@ -125,13 +125,13 @@ fn small_cap() -> Result<VerifyCap, CapError> {
 fn refusal(
     cap: &VerifyCap,
     header: &[u8],
-    place: u64,
+    offset: u64,
     told: &[u8],
     block: &[u8],
 ) -> (Option<OpeningError>, usize) {
     let beginning = Beginning {
         header,
-        place,
+        offset,
         told,
         block,
     };
@@ -147,7 +147,7 @@ fn a_share_of_layout_1_is_opened_by_three_reads(rt: HostRuntime) -> Result<(), F
     let header = in_four_bytes(&HEADER);
     let beginning = Beginning {
         header: &header,
-        place: 222,
+        offset: 222,
         told: &[0, 0, 1, 49],
         block: BLOCK,
     };
@@ -161,9 +161,9 @@ fn a_share_of_layout_1_is_opened_by_three_reads(rt: HostRuntime) -> Result<(), F
     assert!(rt; opened.ueb.segment_size() == 56);
     assert!(rt; opened.ueb.total_shares() == 1);
     assert!(rt; opened.geometry == Geometry::of(56, 1, 1, 131_072)?);
-    assert!(rt; opened.places.layout == Layout::One);
-    assert!(rt; opened.places.share_hashes == 188);
-    assert!(rt; opened.places.extension_block == 222);
+    assert!(rt; opened.offsets.layout == Layout::One);
+    assert!(rt; opened.offsets.share_hashes == 188);
+    assert!(rt; opened.offsets.extension_block == 222);
     Ok(())
 }
 
@@ -172,7 +172,7 @@ fn a_share_of_layout_2_is_opened_by_four_reads(rt: HostRuntime) -> Result<(), Fa
     let header = in_eight_bytes(&LARGE_HEADER);
     let beginning = Beginning {
         header: &header,
-        place: 4_294_967_328,
+        offset: 4_294_967_328,
         told: &[0, 0, 0, 0, 0, 0, 1, 77],
         block: LARGE_BLOCK,
     };
@@ -184,8 +184,8 @@ fn a_share_of_layout_2_is_opened_by_four_reads(rt: HostRuntime) -> Result<(), Fa
     };
     assert!(rt; reads == 4);
     assert!(rt; opened.ueb.size() == LARGE_SIZE);
-    assert!(rt; opened.places.layout == Layout::Two);
-    assert!(rt; opened.places.extension_block == 4_294_967_328);
+    assert!(rt; opened.offsets.layout == Layout::Two);
+    assert!(rt; opened.offsets.extension_block == 4_294_967_328);
     Ok(())
 }
 
@@ -258,7 +258,7 @@ fn headers_cut_short_are_of_another_length(rt: HostRuntime) -> Result<(), Fail> 
 }
 
 #[test]
-fn places_near_2_to_the_64_are_refused(rt: HostRuntime) -> Result<(), Fail> {
+fn offsets_near_2_to_the_64_are_refused(rt: HostRuntime) -> Result<(), Fail> {
     let cap = small_cap()?;
     let mut numbers = LARGE_HEADER;
     numbers[7] = u64::MAX - 4_104;
@@ -291,6 +291,6 @@ fn an_opening_agrees_with_its_own_geometry(rt: HostRuntime) -> Result<(), Fail> 
         return Ok(());
     };
     assert!(rt; whole.agrees(&large) && !whole.agrees(&small));
-    assert!(rt; whole.next_place() == 4_294_967_328 && whole.next_length() == 8);
+    assert!(rt; whole.next_offset() == 4_294_967_328 && whole.next_length() == 8);
     Ok(())
 }

@@ -81,7 +81,7 @@ fn plans_make_so_many_reads(rt: HostRuntime) -> Result<(), Fail> {
 
 // The blocks of 300 bytes at 3 of 10, in segments of 102: the second segment alone.
 #[test]
-fn parts_have_their_places(rt: HostRuntime) -> Result<(), Fail> {
+fn parts_have_their_offsets(rt: HostRuntime) -> Result<(), Fail> {
     let geometry = Geometry::of(300, 3, 10, 100)?;
     assert!(rt; geometry.segment_count() == 3);
     let plan = Plan::of(&geometry, 1, 2);
@@ -89,18 +89,18 @@ fn parts_have_their_places(rt: HostRuntime) -> Result<(), Fail> {
     let data = plan.read(&Part::Data(0));
     assert!(rt;
         data == Read {
-            place: 70,
+            offset: 70,
             length: 34
         }
     );
-    assert!(rt; plan.block_place(1) == 70);
+    assert!(rt; plan.block_start(1) == 70);
     let pieces = plan.block_pieces(1);
     assert!(rt; (pieces.first, pieces.end) == (0, 1));
     let hashes = plan.read(&Part::ShareHashes);
     assert!(rt;
         hashes
             == Read {
-                place: 808,
+                offset: 808,
                 length: 170
             }
     );
@@ -111,14 +111,14 @@ fn parts_have_their_places(rt: HostRuntime) -> Result<(), Fail> {
     let tree = plan.read(&Part::BlockTree(piece));
     assert!(rt;
         tree == Read {
-            place: 584 + 96,
+            offset: 584 + 96,
             length: 96
         }
     );
     let tree = plan.read(&Part::CiphertextTree(piece));
     assert!(rt;
         tree == Read {
-            place: 360 + 96,
+            offset: 360 + 96,
             length: 96
         }
     );

@@ -102,7 +102,7 @@ fn eight_segments_are_handed_out(rt: HostRuntime) -> Result<(), Fail> {
         let (Some(piece), Some(other)) = (rows.take(), singles.take()) else {
             panic!(rt; "{byte}");
         };
-        assert!(rt; piece.place == other.place);
+        assert!(rt; piece.offset == other.offset);
         assert!(rt; piece.bytes.as_slice() == other.bytes.as_slice());
     }
     assert!(rt; rows.take().is_none());

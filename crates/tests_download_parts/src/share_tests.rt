@@ -47,9 +47,9 @@ fn share_at(shares: &[Share], number: u16) -> &[u8] {
 }
 
 // A copy with one byte changed.
-fn changed(alloc: Global, bytes: &[u8], place: usize) -> Option<Vec<u8>> {
+fn changed(alloc: Global, bytes: &[u8], offset: usize) -> Option<Vec<u8>> {
     let mut copy = Vec::from_slice(alloc, bytes).ok()?;
-    *copy.get_mut(place)? ^= 1;
+    *copy.get_mut(offset)? ^= 1;
     Some(copy)
 }
 
@@ -80,9 +80,9 @@ fn are_proved(
     let plan = Plan::of(geometry, 0, geometry.segment_count());
     let mut right = true;
     for segment in 0..geometry.segment_count() {
-        let place = plan.block_place(segment) as usize;
+        let offset = plan.block_start(segment) as usize;
         let length = geometry.block_length(segment) as usize;
-        let block = share.get(place..place + length)?;
+        let block = share.get(offset..offset + length)?;
         right &= tree.proves(segment, block) == Some(true);
         right &= leads(trees, ueb, geometry, segment, block)?;
     }
@@ -115,9 +115,9 @@ fn refuses_changed_hashes(alloc: Global, ueb: &Ueb, number: u16, share: &[u8]) -
     let mut trees = FileTrees::new(alloc, ueb, &geometry).ok()?;
     let hashes = part_of(share, plan.read(&Part::ShareHashes));
     let mut right = true;
-    for place in 0..hashes.len() {
-        let bytes = changed(alloc, hashes, place)?;
-        let check = if place % 34 < 2 {
+    for offset in 0..hashes.len() {
+        let bytes = changed(alloc, hashes, offset)?;
+        let check = if offset % 34 < 2 {
             Check::Layout
         } else {
             Check::ShareHashes
@@ -149,8 +149,8 @@ fn refuses_changed_block_nodes(
     let nodes = plan.nodes(piece);
     let bytes = part_of(share, plan.read(&Part::BlockTree(*piece)));
     let mut right = true;
-    for place in (0..bytes.len()).step_by(step_in(bytes)) {
-        let other = changed(alloc, bytes, place)?;
+    for offset in (0..bytes.len()).step_by(step_in(bytes)) {
+        let other = changed(alloc, bytes, offset)?;
         let refused = take_block_nodes(alloc, tree, &nodes, &other);
         right &= refused == Err(TreeFault::Check(Check::BlockTree));
     }
@@ -170,8 +170,8 @@ fn refuses_changed_nodes(
     let nodes = plan.nodes(piece);
     let bytes = part_of(share, plan.read(&Part::CiphertextTree(*piece)));
     let mut right = true;
-    for place in (0..bytes.len()).step_by(step_in(bytes)) {
-        let other = changed(alloc, bytes, place)?;
+    for offset in (0..bytes.len()).step_by(step_in(bytes)) {
+        let other = changed(alloc, bytes, offset)?;
         let refused = take_ciphertext_nodes(alloc, trees, &nodes, &other);
         right &= refused == Err(TreeFault::Check(Check::CiphertextTree));
     }

@@ -81,6 +81,6 @@ fn a_later_supply_begins_with_its_own_block(rt: HostRuntime) -> Result<(), Fail>
     assert!(rt; wanted[0].part == Part::ShareHashes && wanted[0].read.length == 170);
     assert!(rt; wanted[1].read.length == 64);
     assert!(rt; wanted[2].part == Part::Data(0));
-    assert!(rt; wanted[2].read.place == 43_727 && wanted[2].read.length == 1);
+    assert!(rt; wanted[2].read.offset == 43_727 && wanted[2].read.length == 1);
     Ok(())
 }

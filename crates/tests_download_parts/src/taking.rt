@@ -10,8 +10,8 @@ use std::alloc::Global;
 
 /// The bytes of a read; none, where the share ends before.
 pub(crate) fn part_of(share: &[u8], read: Read) -> &[u8] {
-    let end = read.place.saturating_add(u64::from(read.length));
-    share.get(read.place as usize..end as usize).unwrap_or(&[])
+    let end = read.offset.saturating_add(u64::from(read.length));
+    share.get(read.offset as usize..end as usize).unwrap_or(&[])
 }
 
 /// Takes share hashes. Those of another length, and of a share that is none of the file's, are out

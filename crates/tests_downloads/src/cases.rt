@@ -8,7 +8,7 @@ use wire::message::NodeId;
 pub(crate) struct Case {
     pub(crate) source: Source,
     pub(crate) wrong: Wrong,
-    // The bytes of the file from one place to before another.
+    // The bytes of the file from one offset to before another.
     pub(crate) from: u64,
     pub(crate) to: u64,
     pub(crate) wanted: Wanted,
@@ -53,11 +53,11 @@ pub(crate) enum Wrong {
 // What is wrong with a share.
 #[derive(Clone, Copy)]
 pub(crate) enum Fault {
-    // The byte at this place is another one.
+    // The byte at this offset is another one.
     Flipped(usize),
-    // The four bytes from this place on are 255.
+    // The four bytes from this offset on are 255.
     Full(usize),
-    // It ends at this place.
+    // It ends at this offset.
     Cut(usize),
     // Its server says that there is none where it is asked for a part.
     Gone,
@@ -99,7 +99,7 @@ pub(crate) enum Pieces {
     Each(&'static [usize]),
 }
 
-// The bytes from one place to before another, of the shares of a number up to that one.
+// The bytes from one offset to before another, of the shares of a number up to that one.
 #[derive(Clone, Copy)]
 pub(crate) struct Section {
     pub(crate) last: u8,

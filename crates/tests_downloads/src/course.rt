@@ -16,9 +16,9 @@ const SERVERS: [NodeId; 10] = [0, 1, 2, 3, 4, 5, 6, 7, 8, 9];
 // How many of these downloads, from the first on, end as they have to.
 pub(crate) fn right_ones(alloc: Global, cases: &[Case]) -> usize {
     let mut kept = Vec::new(alloc);
-    for (place, case) in cases.iter().enumerate() {
+    for (position, case) in cases.iter().enumerate() {
         if !ends_so(alloc, case, &mut kept) {
-            return place;
+            return position;
         }
     }
     cases.len()

@@ -41,7 +41,7 @@ fn encoded_at(alloc: Global, shape: &Shape, placed: &[Placed]) -> Option<Grid> {
     Grid::of(alloc, file, &encoded, shape, placed)
 }
 
-// Bytes that differ by their place and by the file's mark.
+// Bytes that differ by their position and by the file's mark.
 fn text_of(alloc: Global, shape: &Shape) -> Option<Vec<u8>> {
     let mut bytes = vec![in alloc; shape.mark; shape.size].ok()?;
     for (i, byte) in bytes.iter_mut().enumerate() {
@@ -50,14 +50,14 @@ fn text_of(alloc: Global, shape: &Shape) -> Option<Vec<u8>> {
     Some(bytes)
 }
 
-// Where the share of this place is, if there is one: each stands once, unless some are named.
-fn placed_at(shape: &Shape, placed: &[Placed], place: u8) -> Option<Placed> {
+// Where the share of this position is, if there is one: each stands once, unless some are named.
+fn placed_at(shape: &Shape, placed: &[Placed], position: u8) -> Option<Placed> {
     if !placed.is_empty() {
-        return placed.get(usize::from(place)).copied();
+        return placed.get(usize::from(position)).copied();
     }
-    if u64::from(place) < shape.total {
-        let server = usize::from(place) % shape.servers.clamp(1, 1000);
-        Some((server as NodeId, place, place))
+    if u64::from(position) < shape.total {
+        let server = usize::from(position) % shape.servers.clamp(1, 1000);
+        Some((server as NodeId, position, position))
     } else {
         None
     }
@@ -81,8 +81,8 @@ fn all_held(
     placed: &[Placed],
 ) -> Option<Vec<Held>> {
     let mut held = Vec::new(alloc);
-    for place in 0..=u8::MAX {
-        if let Some(placed) = placed_at(shape, placed, place) {
+    for position in 0..=u8::MAX {
+        if let Some(placed) = placed_at(shape, placed, position) {
             held.push(held_at(alloc, encoded, placed)?).ok()?;
         }
     }
@@ -107,10 +107,10 @@ impl Grid {
         }
     }
 
-    // Makes it wrong, if there is such a share and such a place.
+    // Makes it wrong, if there is such a share and such a position.
     pub(crate) fn spoil(&mut self, alloc: Global, wrong: &Wrong) {
-        if let Wrong::Share(place, fault) = wrong {
-            if let Some(held) = self.held.get_mut(*place) {
+        if let Wrong::Share(position, fault) = wrong {
+            if let Some(held) = self.held.get_mut(*position) {
                 spoil(alloc, held, fault);
             }
         }
@@ -119,9 +119,9 @@ impl Grid {
 
 fn spoil(alloc: Global, held: &mut Held, fault: &Fault) {
     match fault {
-        Fault::Flipped(place) => flip(held.bytes.as_mut_slice(), *place),
-        Fault::Full(place) => fill(held.bytes.as_mut_slice(), *place),
-        Fault::Cut(place) => held.bytes.truncate(*place),
+        Fault::Flipped(position) => flip(held.bytes.as_mut_slice(), *position),
+        Fault::Full(position) => fill(held.bytes.as_mut_slice(), *position),
+        Fault::Cut(position) => held.bytes.truncate(*position),
         Fault::Gone => held.gone = true,
         Fault::Other(shape) => {
             if let Some(other) = last_of(alloc, shape) {
@@ -131,14 +131,14 @@ fn spoil(alloc: Global, held: &mut Held, fault: &Fault) {
     }
 }
 
-fn flip(bytes: &mut [u8], place: usize) {
-    if place < bytes.len() {
-        bytes[place] ^= 1;
+fn flip(bytes: &mut [u8], position: usize) {
+    if position < bytes.len() {
+        bytes[position] ^= 1;
     }
 }
 
-fn fill(bytes: &mut [u8], place: usize) {
-    for i in place..place.saturating_add(4).min(bytes.len()) {
+fn fill(bytes: &mut [u8], position: usize) {
+    for i in position..position.saturating_add(4).min(bytes.len()) {
         bytes[i] = 255;
     }
 }

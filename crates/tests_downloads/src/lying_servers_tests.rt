@@ -355,7 +355,7 @@ const SMALLEST_BUT_0: Wanted = Wanted {
     ..SMALL_BUT_0
 };
 
-// A share of it that ends at some place.
+// A share of it that ends at some offset.
 const SMALLEST_CUT: Case = Case {
     source: Source::Shares(SMALLEST, &[]),
     to: 56,
@@ -382,7 +382,7 @@ static SMALLEST_WHOLE: [Case; 1] = [Case {
     ..SMALLEST_CUT
 }];
 
-// How many shares that are cut are blamed, from place 0 on.
+// How many shares that are cut are blamed, from offset 0 on.
 fn blamed_cuts(alloc: Global) -> usize {
     let mut kept = Vec::new(alloc);
     for cut in 0..633 {

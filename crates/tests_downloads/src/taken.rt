@@ -115,7 +115,7 @@ impl Site {
 }
 
 impl Asked {
-    // How many bytes it has in common with those from a place to before another.
+    // How many bytes it has in common with those from an offset to before another.
     fn shared(&self, from: u64, to: u64) -> u64 {
         self.to.min(to).saturating_sub(self.from.max(from))
     }
@@ -140,13 +140,13 @@ impl Taken {
         }
     }
 
-    // Takes a piece of a file. `false` where it has another place, or other bytes: where those of
+    // Takes a piece of a file. `false` where it has another offset, or other bytes: where those of
     // the file are not known any are right.
     pub(crate) fn take(&mut self, file: &[u8], piece: &Piece) -> bool {
         let from = self.from.saturating_add(self.bytes as u64);
         let bytes = piece.bytes.as_slice();
         self.bytes = self.bytes.saturating_add(bytes.len());
-        piece.place == from && (file.is_empty() || stands_at(file, from as usize, bytes))
+        piece.offset == from && (file.is_empty() || stands_at(file, from as usize, bytes))
     }
 
     // So many pieces were taken at once. `false` where there is no memory.

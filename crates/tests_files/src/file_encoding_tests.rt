@@ -395,8 +395,8 @@ fn share_of_two(
     extension_block: &[u8],
 ) -> Result<Share, AllocError> {
     let mut share = Vec::new(alloc);
-    for place in [1u32, 56, 56, 36, 92, 124, 156, 188, 256] {
-        share.extend_from_slice(&place.to_be_bytes())?;
+    for position in [1u32, 56, 56, 36, 92, 124, 156, 188, 256] {
+        share.extend_from_slice(&position.to_be_bytes())?;
     }
     let segment_hash = tagged(Tag::CiphertextSegment, &[7; 56]);
     let own = &block_hashes[number % 2];

@@ -44,8 +44,8 @@ fn cap_line(rt: &HostRuntime, command: &str, cap: &str) -> Result<String, AllocE
 fn lines_told(told: &[u8], beginning: &str) -> Option<u64> {
     let text = str::from_utf8(told).ok()?;
     let mut count: u64 = 0;
-    for (place, line) in text.split(CLEAR).enumerate() {
-        if place != 0 && !line.is_empty() {
+    for (position, line) in text.split(CLEAR).enumerate() {
+        if position != 0 && !line.is_empty() {
             count = count.saturating_add(1);
             if !line.starts_with(beginning) || 80 <= line.len() {
                 return None;

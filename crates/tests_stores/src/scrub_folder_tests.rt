@@ -21,8 +21,8 @@ fn path(rt: &HostRuntime, rest: &str) -> Result<String, AllocError> {
 }
 
 fn file(index: StorageIndex, number: u8, digest: Option<Digest>) -> ShareFile {
-    let place = (index, number);
-    ShareFile { place, digest }
+    let key = (index, number);
+    ShareFile { key, digest }
 }
 
 // The only fault of a path is that memory is out, and so it is of the next finding.

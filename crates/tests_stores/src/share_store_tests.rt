@@ -437,12 +437,12 @@ fn folder_fails(rt: HostRuntime) -> Result<(), Fail> {
 // Whether a name is written and read as that of a share with these digest bytes; none, where memory
 // is out.
 fn is_named(alloc: Global, number: u8, digest: u8, end: &str) -> Option<bool> {
-    let place = (INDEX, number);
+    let key = (INDEX, number);
     let digest = [digest; 32];
-    let written = ClosedName { place, digest }.text(alloc).ok()?;
+    let written = ClosedName { key, digest }.text(alloc).ok()?;
     let wanted = format!(in alloc; "{INDEX_TEXT}.{number}.{end}").ok()?;
     Some(match ClosedName::read(wanted.as_bytes()) {
-        Some(read) => read.place == place && read.digest == digest && written == wanted,
+        Some(read) => read.key == key && read.digest == digest && written == wanted,
         None => false,
     })
 }

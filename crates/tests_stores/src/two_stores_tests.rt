@@ -69,8 +69,8 @@ fn stays_whole(rt: &HostRuntime, order: u8) -> Result<bool, Fail> {
     let closed = file(rt, ".3.", SEVENS)?;
     let mut first = Writer::new(rt)?;
     let mut second = Writer::new(rt)?;
-    for place in 0..8u32 {
-        if (order >> place) & 1 == 1 {
+    for key in 0..8u32 {
+        if (order >> key) & 1 == 1 {
             first.step(rt.alloc());
         } else {
             second.step(rt.alloc());

@@ -69,10 +69,10 @@ fn has_piece<S: Source>(
     prepared: &mut Prepared,
     source: &mut S,
     shares: &[Share],
-    place: (u64, u64),
+    position: (u64, u64),
     out: &mut [u8],
 ) -> bool {
-    let (number, piece) = place;
+    let (number, piece) = position;
     let offset = piece.saturating_mul(out.len() as u64);
     let Some(part) = part_of(shares, number, offset, out.len() as u64) else {
         return false;
@@ -97,8 +97,8 @@ fn has_pieces<S: Source>(
     let count = shares.len() as u64;
     let pieces = prepared.share_length().div_ceil(out.len() as u64);
     for turn in 0..count.saturating_mul(pieces) {
-        let place = turn_of(order, count, pieces, turn);
-        if !has_piece(prepared, source, shares, place, out) {
+        let offset = turn_of(order, count, pieces, turn);
+        if !has_piece(prepared, source, shares, offset, out) {
             return false;
         }
     }

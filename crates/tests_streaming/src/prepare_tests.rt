@@ -198,7 +198,7 @@ impl Read for Halting {
 impl Seek for Halting {
     fn seek(&mut self, to: SeekFrom) -> io::Result<u64> {
         match to {
-            SeekFrom::Start(place) => Ok(place),
+            SeekFrom::Start(offset) => Ok(offset),
             _ => Err(io::Error::from(ErrorKind::NotSeekable)),
         }
     }

@@ -13,7 +13,7 @@ struct OddReader {
     at_once: usize,
     failing_read: u64,
     failing_seek: u64,
-    place: u64,
+    offset: u64,
     reads: u64,
     seeks: u64,
 }
@@ -24,10 +24,10 @@ impl Read for OddReader {
         if self.reads == self.failing_read {
             return Err(io::Error::from(ErrorKind::TimedOut));
         }
-        let start = TEXT.len().min(self.place as usize);
+        let start = TEXT.len().min(self.offset as usize);
         let count = (TEXT.len() - start).min(buf.len()).min(self.at_once);
         buf[..count].copy_from_slice(&TEXT[start..start + count]);
-        self.place = (start + count) as u64;
+        self.offset = (start + count) as u64;
         Ok(count)
     }
 }
@@ -36,9 +36,9 @@ impl Seek for OddReader {
     fn seek(&mut self, to: SeekFrom) -> io::Result<u64> {
         self.seeks = self.seeks.saturating_add(1);
         match to {
-            SeekFrom::Start(place) if self.seeks != self.failing_seek => {
-                self.place = place;
-                Ok(place)
+            SeekFrom::Start(offset) if self.seeks != self.failing_seek => {
+                self.offset = offset;
+                Ok(offset)
             }
             _ => Err(io::Error::from(ErrorKind::NotSeekable)),
         }
@@ -50,7 +50,7 @@ fn odd_source(at_once: usize, failing_read: u64, failing_seek: u64) -> FileSourc
         at_once,
         failing_read,
         failing_seek,
-        place: 0,
+        offset: 0,
         reads: 0,
         seeks: 0,
     };
@@ -109,7 +109,7 @@ fn a_text_that_is_too_short_ends(rt: HostRuntime) {
     assert!(rt; source.read_at(15, &mut out) == Ok(0) && source.failures() == 0);
 }
 
-// No place can be moved to where a seek fails for good, and each try is counted.
+// No offset can be moved to where a seek fails for good, and each try is counted.
 #[test]
 fn failures_are_counted(rt: HostRuntime) {
     let mut source = FileSource::new(NoReader, 11);
@@ -121,7 +121,7 @@ fn failures_are_counted(rt: HostRuntime) {
     assert_eq!(rt; source.len(), 11);
 }
 
-// A pipe: it cannot be moved, and a read of it would bring bytes of another place.
+// A pipe: it cannot be moved, and a read of it would bring bytes of another offset.
 #[derive(Drop)]
 struct NoReader;
 

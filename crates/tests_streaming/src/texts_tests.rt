@@ -9,11 +9,11 @@ use std::test::Fail;
 
 const TEXT: &[u8] = b"eleven byte";
 
-// What a read of the text brings at a place, with room for so many bytes.
-fn is_read_as(place: u64, room: usize, expected: &[u8]) -> bool {
+// What a read of the text brings at an offset, with room for so many bytes.
+fn is_read_as(offset: u64, room: usize, expected: &[u8]) -> bool {
     let mut source = SliceSource::new(TEXT);
     let mut out = [b'-'; 20];
-    match source.read_at(place, &mut out[..room.min(20)]) {
+    match source.read_at(offset, &mut out[..room.min(20)]) {
         Ok(count) => count == expected.len() && out.starts_with(expected) && source.failures() == 0,
         Err(_) => false,
     }
@@ -77,7 +77,7 @@ fn a_changing_source_never_fails(rt: HostRuntime) -> Result<(), Fail> {
     let mut source = ChangingSource::new(file, other, 2);
     let mut out = [b'-'; 3];
     assert_eq!(rt; source.len(), 3);
-    // Two bytes are left of the first text, and then the other one is at hand at every place.
+    // Two bytes are left of the first text, and then the other one is at hand at every offset.
     assert!(rt; source.read_at(0, &mut out) == Ok(2) && out == *b"on-");
     assert!(rt; source.read_at(0, &mut out) == Ok(3) && out == *b"two");
     assert!(rt; source.read_at(3, &mut out) == Ok(0));

@@ -116,9 +116,9 @@ fn goes_through(alloc: Global, out: &mut Vec<u8>, feed: &mut Feed, piece: &[u8])
     false
 }
 
-// Whether a stream that is cut at this place gives its frames.
-fn passes_in_two(alloc: Global, stream: &[u8], place: usize) -> bool {
-    let (front, back) = stream.split_at(place.min(stream.len()));
+// Whether a stream that is cut at this position gives its frames.
+fn passes_in_two(alloc: Global, stream: &[u8], position: usize) -> bool {
+    let (front, back) = stream.split_at(position.min(stream.len()));
     let mut feed = Feed::new(alloc);
     let mut out = Vec::new(alloc);
     goes_through(alloc, &mut out, &mut feed, front)
@@ -137,7 +137,7 @@ fn passes_in_bytes(alloc: Global, stream: &[u8]) -> bool {
     out.as_slice() == stream
 }
 
-// A stream cut at each place, and into single bytes, gives the same frames.
+// A stream cut at each position, and into single bytes, gives the same frames.
 #[test]
 fn any_cut(rt: HostRuntime) -> Result<(), AllocError> {
     let alloc = rt.alloc();
@@ -145,8 +145,11 @@ fn any_cut(rt: HostRuntime) -> Result<(), AllocError> {
     for frame in FRAMES {
         stream.extend_from_slice(frame)?;
     }
-    for place in 0..stream.len() {
-        assert!(rt; passes_in_two(alloc, &stream, place), "cut at {place}");
+    for position in 0..stream.len() {
+        assert!(rt;
+            passes_in_two(alloc, &stream, position),
+            "cut at {position}"
+        );
     }
     assert!(rt; passes_in_bytes(alloc, &stream));
     Ok(())
@@ -192,8 +195,8 @@ fn is_frame_or_refused(alloc: Global, message: &Message, frame: &[u8]) -> bool {
 // A Have, a Write and a Data.
 #[test]
 fn refused_memory_in_a_stream(rt: HostRuntime) {
-    for place in [1usize, 7, 15] {
-        assert!(rt; comes_again(rt.alloc(), FRAMES[place]), "{place}");
+    for position in [1usize, 7, 15] {
+        assert!(rt; comes_again(rt.alloc(), FRAMES[position]), "{position}");
     }
 }
 

@@ -40,15 +40,15 @@ fn reading(alloc: Global) -> Option<Ledger> {
     Some(ledger)
 }
 
-// Whether an answer counted at this place, with no bytes.
-fn is_without_bytes(counted: &Counted, place: usize) -> bool {
-    counted.place == place && counted.bytes.is_none()
+// Whether an answer counted at this position, with no bytes.
+fn is_without_bytes(counted: &Counted, position: usize) -> bool {
+    counted.position == position && counted.bytes.is_none()
 }
 
-// Whether an answer counted at this place, with the bytes of the share.
-fn is_with_bytes(counted: &Counted, place: usize) -> bool {
+// Whether an answer counted at this position, with the bytes of the share.
+fn is_with_bytes(counted: &Counted, position: usize) -> bool {
     match &counted.bytes {
-        Some(bytes) => counted.place == place && bytes.as_slice() == BYTES.as_slice(),
+        Some(bytes) => counted.position == position && bytes.as_slice() == BYTES.as_slice(),
         None => false,
     }
 }
@@ -127,7 +127,7 @@ fn writing(alloc: Global) -> Option<Ledger> {
     Some(ledger)
 }
 
-// Whether the requests in memory from a place on are the Writings at these offsets, and then the
+// Whether the requests in memory from a position on are the Writings at these offsets, and then the
 // Aborting.
 fn are_kept(entries: &[Entry], offsets: &[u64]) -> bool {
     let mut are = entries.len() == offsets.len() + 1;
@@ -140,14 +140,14 @@ fn are_kept(entries: &[Entry], offsets: &[u64]) -> bool {
     }
 }
 
-// Whether the request at this place is in memory.
-fn is_kept(ledger: &Ledger, place: usize) -> bool {
-    ledger.request_at(place).is_some()
+// Whether the request at this position is in memory.
+fn is_kept(ledger: &Ledger, position: usize) -> bool {
+    ledger.request_at(position).is_some()
 }
 
-// Whether the request at this place was lost.
-fn is_lost(ledger: &Ledger, place: usize) -> bool {
-    match ledger.request_at(place) {
+// Whether the request at this position was lost.
+fn is_lost(ledger: &Ledger, position: usize) -> bool {
+    match ledger.request_at(position) {
         Some(request) => matches!(request.outcome, Outcome::Lost),
         None => false,
     }
@@ -163,7 +163,7 @@ fn lets_go(alloc: Global) -> Option<bool> {
     let short = ledger.take_answer(9, answered(4, Body::WrongOffset(18)), 103)?;
     let refused = ledger.take_answer(9, answered(5, Body::NoShare), 104)?;
     let mut is_right = is_without_bytes(&written, 1) && is_without_bytes(&late, 0);
-    is_right &= again.is_none() && short.place == 3 && refused.place == 4;
+    is_right &= again.is_none() && short.position == 3 && refused.position == 4;
     is_right &= ledger.len() == 7 && ledger.outstanding() == 2;
     is_right &= are_kept(ledger.kept_since(0), &[10, 15, 20, 25]);
     is_right &= are_kept(ledger.kept_since(3), &[15, 20, 25]);
@@ -178,7 +178,7 @@ fn is_ended(ledger: &mut Ledger) -> Option<bool> {
     let mut is_right = ledger.tick(105).ok()?.is_empty() && ledger.outgoing_len() == 5;
     is_right &= ledger
         .take_answer(9, answered(6, Body::Wrote(30)), 106)?
-        .place
+        .position
         == 5;
     is_right &= ledger
         .take_answer(9, answered(6, Body::Wrote(30)), 107)
@@ -221,7 +221,7 @@ fn are_bytes(found: Option<&[u8]>) -> bool {
     }
 }
 
-// Whether bytes are found at their request's place once they came, and nowhere else.
+// Whether bytes are found at their request's position once they came, and nowhere else.
 fn keeps_bytes(alloc: Global) -> Option<bool> {
     let mut requests = Requests::new(alloc, 7, 100);
     ask(&mut requests, 0)?;

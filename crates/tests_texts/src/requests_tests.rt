@@ -34,8 +34,8 @@ fn closed(session: u64, number: u64) -> Message {
     }
 }
 
-fn is_lost(requests: &Requests, place: usize) -> bool {
-    match requests.request_at(place) {
+fn is_lost(requests: &Requests, position: usize) -> bool {
+    match requests.request_at(position) {
         Some(request) => matches!(request.outcome, Outcome::Lost),
         None => false,
     }
@@ -105,11 +105,11 @@ fn is_counted(alloc: Global, from: u16, session: u64, number: u64, counts: bool)
     let Some(mut requests) = asked(alloc) else {
         return false;
     };
-    let place = requests.take_answer(from, closed(session, number), 1);
+    let position = requests.take_answer(from, closed(session, number), 1);
     if counts {
-        place == Some(1) && requests.outstanding() == 1
+        position == Some(1) && requests.outstanding() == 1
     } else {
-        place == None && requests.outstanding() == 2
+        position == None && requests.outstanding() == 2
     }
 }
 
@@ -138,12 +138,12 @@ fn counts_once(alloc: Global) -> bool {
         && answers_at(&mut requests, None)
 }
 
-// Whether a Closed for the second request counts at this place.
-fn answers_at(requests: &mut Requests, place: Option<usize>) -> bool {
-    if requests.counts_at(9, &closed(7, 2)) != place {
+// Whether a Closed for the second request counts at this position.
+fn answers_at(requests: &mut Requests, position: Option<usize>) -> bool {
+    if requests.counts_at(9, &closed(7, 2)) != position {
         return false;
     }
-    requests.take_answer(9, closed(7, 2), 6) == place
+    requests.take_answer(9, closed(7, 2), 6) == position
 }
 
 #[test]
@@ -289,9 +289,9 @@ fn told_of(request: Option<&Request>) -> Option<&Body> {
 // A second sending that was not taken yet falls away with the answer.
 fn is_done_once_answered(alloc: Global) -> Option<bool> {
     let mut requests = asked_again(alloc)?;
-    let place = requests.take_answer(9, have(alloc)?, 6);
+    let position = requests.take_answer(9, have(alloc)?, 6);
     let is_kept = tells_holdings(requests.request_at(0));
-    Some(place == Some(0) && is_kept && requests.clock() == 6 && is_done(&requests))
+    Some(position == Some(0) && is_kept && requests.clock() == 6 && is_done(&requests))
 }
 
 // It falls away too where no answer comes.
@@ -332,9 +332,9 @@ fn is_first_of(request: Option<&Request>, server: u16) -> bool {
 fn begins(alloc: Global) -> Option<bool> {
     let mut requests = Requests::begin(alloc, &[3, 9, 5], 7, 100).ok()?;
     let mut is_right = requests.session() == 7 && requests.clock() == 100;
-    for (place, server) in [3u16, 9, 5].iter().enumerate() {
-        is_right &= is_first_of(requests.request_at(place), *server);
-        is_right &= requests.take_next() == Some(place);
+    for (position, server) in [3u16, 9, 5].iter().enumerate() {
+        is_right &= is_first_of(requests.request_at(position), *server);
+        is_right &= requests.take_next() == Some(position);
     }
     let mut message = have(alloc)?;
     message.number = 2;

@@ -12,7 +12,7 @@ use upload_core::Upload;
 use upload_core::pieces::WholeShares;
 use wire::message::{Body, NodeId, ShareId};
 
-// What a request asks, and of which share; of a Write, from which place on.
+// What a request asks, and of which share; of a Write, from which position on.
 #[derive(Clone, Copy, PartialEq, Eq)]
 pub(crate) enum Asked {
     Ask,

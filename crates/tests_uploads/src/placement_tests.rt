@@ -19,7 +19,7 @@ const SERVER_IDS: [ServerId; 7] = [
 ];
 
 #[test]
-fn orders_by_hash_then_id_then_place(rt: HostRuntime) -> Result<(), Fail> {
+fn orders_by_hash_then_id_then_position(rt: HostRuntime) -> Result<(), Fail> {
     let rows = [
         (
             [0, 1, 2, 3, 4, 5, 6, 7, 8, 9, 10, 11, 12, 13, 14, 15],
@@ -27,9 +27,9 @@ fn orders_by_hash_then_id_then_place(rt: HostRuntime) -> Result<(), Fail> {
         ),
         ([0; 16], [2, 0, 3, 1, 6, 4, 5]),
     ];
-    for (storage_index, places) in rows {
+    for (storage_index, positions) in rows {
         let found = order(rt.alloc(), &storage_index, &SERVER_IDS)?;
-        assert!(rt; found.as_slice() == places.as_slice());
+        assert!(rt; found.as_slice() == positions.as_slice());
     }
     Ok(())
 }
@@ -94,7 +94,7 @@ fn plans_where_nothing_is_held(rt: HostRuntime) -> Result<(), Fail> {
     let plan = place(rt.alloc(), &[], &[0, 1, 2], &[], 5)?;
     let matchings: [&[(u16, u16)]; 3] = [&[], &[], &[(0, 0), (1, 1), (2, 2)]];
     expect_plan(&rt, &plan, matchings, &[(0, 3), (1, 4)], &[]);
-    // servers go by their place in the list, not by their number
+    // servers go by their position in the list, not by their number
     let plan = place(rt.alloc(), &[], &[4, 2, 3], &[], 5)?;
     let matchings: [&[(u16, u16)]; 3] = [&[], &[], &[(4, 0), (2, 1), (3, 2)]];
     expect_plan(&rt, &plan, matchings, &[(4, 3), (2, 4)], &[]);
@@ -105,7 +105,7 @@ fn plans_where_nothing_is_held(rt: HostRuntime) -> Result<(), Fail> {
 // refused.
 fn places_or_is_refused(alloc: Global) -> bool {
     let is_ordered = match order(alloc, &[0; 16], &SERVER_IDS) {
-        Ok(places) => places.as_slice() == [2, 0, 3, 1, 6, 4, 5].as_slice(),
+        Ok(positions) => positions.as_slice() == [2, 0, 3, 1, 6, 4, 5].as_slice(),
         Err(_) => true,
     };
     let is_matched = match happiness(alloc, &[(0, 0), (0, 1), (1, 0)]) {

@@ -54,7 +54,7 @@ pub(crate) enum Conduct {
     Full,
     // It answers all as it should, but says that it keeps shares of another digest.
     OtherDigest,
-    // It answers each Write with a place that is not the next one.
+    // It answers each Write with a position that is not the next one.
     Miscounts,
 }
 

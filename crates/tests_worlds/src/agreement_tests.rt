@@ -1,6 +1,6 @@
 //! Downloads of a cap whose shares were made by nobody honest. They all pass their checks, and are
 //! no code word: downloads from other servers decode other segments. Each ends Inconsistent, or
-//! hands out what all others do: no place has two bytes.
+//! hands out what all others do: no position has two bytes.
 
 use crate::course::right_ones;
 use crate::steps::{Case, File, Kept, Liars, Step};

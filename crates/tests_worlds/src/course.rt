@@ -24,9 +24,9 @@ struct Course {
 
 // How many of these worlds, from the first on, go as they have to.
 pub(crate) fn right_ones(alloc: Global, cases: &[Case]) -> usize {
-    for (place, case) in cases.iter().enumerate() {
+    for (position, case) in cases.iter().enumerate() {
         if !goes(alloc, case) {
-            return place;
+            return position;
         }
     }
     cases.len()
@@ -101,7 +101,7 @@ impl Course {
             }
             Step::Says(node, count) => says(world.sent(), *node, *count),
             Step::NoClash => are_without_clash(self.alloc, world.operations()),
-            Step::Said(place, said) => is_said(world, *place, *said),
+            Step::Said(position, said) => is_said(world, *position, *said),
             _ => self.take(world, step) == Some(Ok(())),
         }
     }
@@ -114,12 +114,12 @@ impl Course {
 
     fn drain(&mut self, world: &mut World) -> bool {
         for _ in 0..1_000_000 {
-            let place = self.delivered;
-            if place >= world.sent().len() {
+            let position = self.delivered;
+            if position >= world.sent().len() {
                 return true;
             }
-            self.delivered = place + 1;
-            if !deliver(world, place) {
+            self.delivered = position + 1;
+            if !deliver(world, position) {
                 return false;
             }
         }
@@ -160,16 +160,16 @@ impl Course {
 
     // Delivers those of these messages that a liar sent or is to hear.
     fn deliver_liars(&self, world: &mut World, from: usize, to: usize) -> bool {
-        for place in from..to {
-            if self.is_of_liar(world, place) && !deliver(world, place) {
+        for position in from..to {
+            if self.is_of_liar(world, position) && !deliver(world, position) {
                 return false;
             }
         }
         true
     }
 
-    fn is_of_liar(&self, world: &World, place: usize) -> bool {
-        match world.sent().get(place) {
+    fn is_of_liar(&self, world: &World, position: usize) -> bool {
+        match world.sent().get(position) {
             Some(sent) => self.honest <= sent.from || self.honest <= sent.to,
             None => false,
         }
@@ -197,8 +197,8 @@ impl Course {
     }
 }
 
-fn deliver(world: &mut World, place: usize) -> bool {
-    world.step(&Event::Deliver(place)).is_ok()
+fn deliver(world: &mut World, position: usize) -> bool {
+    world.step(&Event::Deliver(position)).is_ok()
 }
 
 // Does a run take an upload to three honest nodes, and each message once, oldest first?
@@ -207,8 +207,8 @@ fn run_upload(alloc: Global, world: &mut World) -> Option<bool> {
     events
         .push(event_of(alloc, &Step::Upload(0, 1, 3, 3))?)
         .ok()?;
-    for place in 0..24 {
-        events.push(Event::Deliver(place)).ok()?;
+    for position in 0..24 {
+        events.push(Event::Deliver(position)).ok()?;
     }
     Some(world.run(events.as_slice()) == (25, Ok(())))
 }

@@ -76,9 +76,9 @@ fn answer_of(alloc: Global, held: &[Held], sent: &Sent) -> Option<Bytes> {
 
 impl Liar for Keeper {
     fn turn(&mut self, heard: &[Sent]) -> Result<Option<(NodeId, Bytes)>, LiarFault> {
-        for place in self.seen..heard.len() {
-            self.seen = place + 1;
-            if let Some(said) = self.answer_to(&heard[place]) {
+        for position in self.seen..heard.len() {
+            self.seen = position + 1;
+            if let Some(said) = self.answer_to(&heard[position]) {
                 return Ok(Some(said));
             }
         }
@@ -138,9 +138,9 @@ struct Teller {
 
 impl Liar for Teller {
     fn turn(&mut self, heard: &[Sent]) -> Result<Option<(NodeId, Bytes)>, LiarFault> {
-        for place in self.seen..heard.len() {
-            self.seen = place + 1;
-            if let Some(said) = self.answer_to(&heard[place]) {
+        for position in self.seen..heard.len() {
+            self.seen = position + 1;
+            if let Some(said) = self.answer_to(&heard[position]) {
                 return Ok(Some(said));
             }
         }
@@ -251,7 +251,7 @@ fn held_of(alloc: Global, server: NodeId, offer: &Offer) -> Option<Held> {
 fn bytes_of(alloc: Global, file: &File, share: u8, change: &Change) -> Option<Vec<u8>> {
     let mut bytes = share_of(alloc, file, share)?;
     match change {
-        Change::Set(place, text) => put(bytes.as_mut_slice(), *place, text),
+        Change::Set(position, text) => put(bytes.as_mut_slice(), *position, text),
         Change::Swapped(other, from, to) => {
             let other = share_of(alloc, file, *other)?;
             if let Some(part) = other.get(*from..*to) {
@@ -263,10 +263,10 @@ fn bytes_of(alloc: Global, file: &File, share: u8, change: &Change) -> Option<Ve
     Some(bytes)
 }
 
-// These bytes stand from this place on, as far as they fit there.
-fn put(bytes: &mut [u8], place: usize, text: &[u8]) {
+// These bytes stand from this position on, as far as they fit there.
+fn put(bytes: &mut [u8], position: usize, text: &[u8]) {
     for (i, new) in text.iter().enumerate() {
-        if let Some(byte) = bytes.get_mut(place.saturating_add(i)) {
+        if let Some(byte) = bytes.get_mut(position.saturating_add(i)) {
             *byte = *new;
         }
     }

@@ -14,8 +14,8 @@ const OWN: File = File::Filled(0, 2, 3);
 const OTHER: File = File::Filled(255, 2, 3);
 
 // The shares of both have 36 bytes of header, 28 of data up to place 64, three trees of one node
-// each, and from place 160 on three share hashes. At place 262 stands the length of the extension
-// block, and at place 266 its text.
+// each, and from position 160 on three share hashes. At position 262 stands the length of the
+// extension block, and at position 266 its text.
 
 // What a check finds.
 const UEB: Verdict = Verdict::Corrupt(Check::Ueb);

@@ -71,9 +71,9 @@ pub(crate) enum Change {
     None,
     // It says that it has none where it is asked for a part.
     Gone,
-    // These bytes stand at this place.
+    // These bytes stand at this offset.
     Set(usize, &'static [u8]),
-    // From one place to before another stand the bytes of the share of this number.
+    // From one offset to before another stand the bytes of the share of this number.
     Swapped(u8, usize, usize),
 }
 
@@ -94,7 +94,7 @@ pub(crate) enum Step {
     Changing(u64),
     // It cannot upload one whose texts have these lengths.
     Refused(usize, usize),
-    // A node downloads a file, from one place to before another.
+    // A node downloads a file, from one offset to before another.
     Download(NodeId, File, u64, u64),
     // Each node that is answered downloads the file that is no code word.
     DownloadKept,
@@ -121,21 +121,21 @@ pub(crate) enum Step {
     Blames(usize, &'static [(NodeId, u8, Check)]),
     // The check of this number finds so many shares good, and this of each other.
     Finds(usize, usize, &'static [(NodeId, u8, Verdict)]),
-    // What a node was asked to read of a share lies in these parts, each from one place to before
+    // What a node was asked to read of a share lies in these parts, each from one offset to before
     // another.
     Reads(NodeId, u8, &'static [(u64, u64)]),
     // A node said so many messages at least.
     Says(NodeId, usize),
     // The evidence of no two downloads clashes.
     NoClash,
-    // The message at this place, if there is one: who sent it, to whom, and its only byte.
+    // The message at this offset, if there is one: who sent it, to whom, and its only byte.
     Said(usize, Option<(NodeId, NodeId, u8)>),
 }
 
 // What is one event. `None` where there is no memory for it too.
 pub(crate) fn event_of(alloc: Global, step: &Step) -> Option<Event> {
     match step {
-        Step::Deliver(place) => Some(Event::Deliver(*place)),
+        Step::Deliver(offset) => Some(Event::Deliver(*offset)),
         Step::Turn(node) => Some(Event::Turn(*node)),
         Step::Pass(seconds) => Some(Event::Pass(*seconds)),
         Step::Tick(node) => Some(Event::Tick(*node)),

@@ -12,8 +12,8 @@ pub(crate) fn no_such_row() -> io::Error {
 /// The bytes that a text spells: between two `\` in hex, all else as they are.
 pub(crate) fn bytes_of(alloc: Global, text: &str) -> io::Result<Vec<u8>> {
     let mut bytes = Vec::new(alloc);
-    for (place, part) in text.split('\\').enumerate() {
-        if place % 2 == 1 {
+    for (position, part) in text.split('\\').enumerate() {
+        if position % 2 == 1 {
             add_hex(alloc, &mut bytes, part)?;
         } else {
             bytes.extend_from_slice(part.as_bytes())?;

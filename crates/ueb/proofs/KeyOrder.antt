@@ -4,52 +4,52 @@ use Rattle.std.proofs.lemmas.Bool.{cases_order}
 use Rattle.ueb.specs.declared.key.Key.{Key}
 use Rattle.ueb.specs.declared.key.Key.TheVariants.{CodecName, CodecParams, CrypttextHash, CrypttextRootHash, NeededShares, NumSegments, SegmentSize, ShareRootHash, Size, TailCodecParams, TotalShares}
 use Rattle.ueb.specs.declared.key.TheConstants.Key.{ALL}
-use Rattle.ueb.specs.Key.{place, IsFirst}
+use Rattle.ueb.specs.Key.{position, IsFirst}
 
 abbrev pub key_at : ℕ → Key
 key_at i = get_or ALL i CodecName
 
-place_below : (key : Key) → place key < 11
-place_below CodecName = lit< tt
-place_below CodecParams = lit< tt
-place_below CrypttextHash = lit< tt
-place_below CrypttextRootHash = lit< tt
-place_below NeededShares = lit< tt
-place_below NumSegments = lit< tt
-place_below SegmentSize = lit< tt
-place_below ShareRootHash = lit< tt
-place_below Size = lit< tt
-place_below TailCodecParams = lit< tt
-place_below TotalShares = lit< tt
+position_below : (key : Key) → position key < 11
+position_below CodecName = lit< tt
+position_below CodecParams = lit< tt
+position_below CrypttextHash = lit< tt
+position_below CrypttextRootHash = lit< tt
+position_below NeededShares = lit< tt
+position_below NumSegments = lit< tt
+position_below SegmentSize = lit< tt
+position_below ShareRootHash = lit< tt
+position_below Size = lit< tt
+position_below TailCodecParams = lit< tt
+position_below TotalShares = lit< tt
 
-key_at-place : (key : Key) → key_at (place key) ≡ key
-key_at-place CodecName = refl
-key_at-place CodecParams = refl
-key_at-place CrypttextHash = refl
-key_at-place CrypttextRootHash = refl
-key_at-place NeededShares = refl
-key_at-place NumSegments = refl
-key_at-place SegmentSize = refl
-key_at-place ShareRootHash = refl
-key_at-place Size = refl
-key_at-place TailCodecParams = refl
-key_at-place TotalShares = refl
+key_at-position : (key : Key) → key_at (position key) ≡ key
+key_at-position CodecName = refl
+key_at-position CodecParams = refl
+key_at-position CrypttextHash = refl
+key_at-position CrypttextRootHash = refl
+key_at-position NeededShares = refl
+key_at-position NumSegments = refl
+key_at-position SegmentSize = refl
+key_at-position ShareRootHash = refl
+key_at-position Size = refl
+key_at-position TailCodecParams = refl
+key_at-position TotalShares = refl
 
-place-key_at : (i : ℕ) → i < 11 → place (key_at i) ≡ i
-place-key_at zero lt = refl
-place-key_at (suc zero) lt = refl
-place-key_at (suc (suc zero)) lt = refl
-place-key_at (suc (suc (suc zero))) lt = refl
-place-key_at (suc (suc (suc (suc zero)))) lt = refl
-place-key_at (suc (suc (suc (suc (suc zero))))) lt = refl
-place-key_at (suc (suc (suc (suc (suc (suc zero)))))) lt = refl
-place-key_at (suc (suc (suc (suc (suc (suc (suc zero))))))) lt = refl
-place-key_at (suc (suc (suc (suc (suc (suc (suc (suc zero)))))))) lt = refl
-place-key_at (suc (suc (suc (suc (suc (suc (suc (suc (suc zero))))))))) lt = refl
-place-key_at (suc (suc (suc (suc (suc (suc (suc (suc (suc (suc zero)))))))))) lt = refl
-place-key_at (suc (suc (suc (suc (suc (suc (suc (suc (suc (suc (suc i))))))))))) lt = absurd (omega arith)
+position-key_at : (i : ℕ) → i < 11 → position (key_at i) ≡ i
+position-key_at zero lt = refl
+position-key_at (suc zero) lt = refl
+position-key_at (suc (suc zero)) lt = refl
+position-key_at (suc (suc (suc zero))) lt = refl
+position-key_at (suc (suc (suc (suc zero)))) lt = refl
+position-key_at (suc (suc (suc (suc (suc zero))))) lt = refl
+position-key_at (suc (suc (suc (suc (suc (suc zero)))))) lt = refl
+position-key_at (suc (suc (suc (suc (suc (suc (suc zero))))))) lt = refl
+position-key_at (suc (suc (suc (suc (suc (suc (suc (suc zero)))))))) lt = refl
+position-key_at (suc (suc (suc (suc (suc (suc (suc (suc (suc zero))))))))) lt = refl
+position-key_at (suc (suc (suc (suc (suc (suc (suc (suc (suc (suc zero)))))))))) lt = refl
+position-key_at (suc (suc (suc (suc (suc (suc (suc (suc (suc (suc (suc i))))))))))) lt = absurd (omega arith)
 
--- Q holds of the keys before this place
+-- Q holds of the keys before this position
 pub record HoldsBefore (Q : Key → Type 0) (i : ℕ) : Type 0 where
   pub each : (j : ℕ) → j < i → Q (key_at j)
 
@@ -61,23 +61,23 @@ one_more Q i before here = record { each = below_more (λ j. Q (key_at j)) i bef
 
 pub all_of_them : (Q : Key → Type 0) (i : ℕ) → 11 ≤ i → HoldsBefore Q i → (key : Key) → Q key
 all_of_them Q i past before key =
-    subst (λ (k : Key). Q k) (key_at-place key) (before.each (place key) (omega (arith, place_below key)))
+    subst (λ (k : Key). Q k) (key_at-position key) (before.each (position key) (omega (arith, position_below key)))
 
 pub first_here : (P Q : Key → Type 0) (i : ℕ) → i < 11 → ((key : Key) → Q key → P key → ⊥) → HoldsBefore Q i → P (key_at i) → IsFirst P (key_at i)
 first_here P Q i lt apart before here = record {
   holds = here;
   before = λ other earlier p.
-      let near : place other < i = omega (arith, earlier, place-key_at i lt) in
-      apart other (subst (λ (k : Key). Q k) (key_at-place other) (before.each (place other) near)) p;
+      let near : position other < i = omega (arith, earlier, position-key_at i lt) in
+      apart other (subst (λ (k : Key). Q k) (key_at-position other) (before.each (position other) near)) p;
 }
 
-same_place : (a b : Key) → place a ≡ place b → a ≡ b
-same_place a b e = sym (key_at-place a) ∙ ap key_at e ∙ key_at-place b
+same_position : (a b : Key) → position a ≡ position b → a ≡ b
+same_position a b e = sym (key_at-position a) ∙ ap key_at e ∙ key_at-position b
 
 pub first_unique : (P : Key → Type 0) (a b : Key) → IsFirst P a → IsFirst P b → a ≡ b
 first_unique P a b p q =
-    elim (cases_order (place a) (place b)) [
-      | inl same ↦ same_place a b same
+    elim (cases_order (position a) (position b)) [
+      | inl same ↦ same_position a b same
       | inr (inl earlier) ↦ absurd (q.before a earlier p.holds)
       | inr (inr later) ↦ absurd (p.before b later q.holds)
     ]

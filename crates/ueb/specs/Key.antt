@@ -26,21 +26,21 @@ known_keys =
     CodecName ∷ CodecParams ∷ CrypttextHash ∷ CrypttextRootHash ∷ NeededShares ∷ NumSegments
     ∷ SegmentSize ∷ ShareRootHash ∷ Size ∷ TailCodecParams ∷ TotalShares ∷ []
 
--- a key's place among them, from 0 on
-abbrev pub place : Key → ℕ
-place CodecName = 0
-place CodecParams = 1
-place CrypttextHash = 2
-place CrypttextRootHash = 3
-place NeededShares = 4
-place NumSegments = 5
-place SegmentSize = 6
-place ShareRootHash = 7
-place Size = 8
-place TailCodecParams = 9
-place TotalShares = 10
+-- a key's position among them, from 0 on
+abbrev pub position : Key → ℕ
+position CodecName = 0
+position CodecParams = 1
+position CrypttextHash = 2
+position CrypttextRootHash = 3
+position NeededShares = 4
+position NumSegments = 5
+position SegmentSize = 6
+position ShareRootHash = 7
+position Size = 8
+position TailCodecParams = 9
+position TotalShares = 10
 
 -- the first key in order of which something holds
 pub record IsFirst (P : Key → Type 0) (key : Key) : Type 0 where
   pub holds : P key
-  pub before : (other : Key) → place other < place key → ¬ P other
+  pub before : (other : Key) → position other < position key → ¬ P other

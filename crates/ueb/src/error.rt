@@ -13,8 +13,8 @@ use std::fmt;
 pub enum UebError {
     /// Memory ran out.
     OutOfMemory,
-    /// Something that stands in a field's place is no field: no key with a colon, or no netstring
-    /// behind it.
+    /// Something that stands in a field's position is no field: no key with a colon, or no
+    /// netstring behind it.
     Malformed,
     /// A key is not greater, byte by byte, than the key before it.
     KeyOrder,

@@ -187,7 +187,7 @@ told_each es k d lt h =
 pub acked_told : (g : Goal) (es : List Request) → All (IsOfTold es) es → All (IsToldPair g es) (acked_pairs g es)
 acked_told g es of-told = acked_each g es es of-told (told_each es)
 
--- what `place` asks of the held pairs
+-- what `position` asks of the held pairs
 pub acked_known : (g : Goal) (es : List Request) → All (IsOfTold es) es → All (λ (p : Pair). Contains (readonly_servers g es ++ writable_servers g es) p.0 × (p.1 < length g.digests)) (acked_pairs g es)
 acked_known g es of-told = All-weaker (IsToldPair g es) (λ (p : Pair). Contains (readonly_servers g es ++ writable_servers g es) p.0 × (p.1 < length g.digests)) (λ p h. (told_there g es p.0 h.0, h.1)) (acked_pairs g es) (acked_told g es of-told)
 

@@ -31,10 +31,10 @@ from_at from body (Some q) r e w =
     let t = both (is_outstanding q.outcome && (q.server == from)) (fits q.asked body) w in
     sym (ap (λ (x : Request). x.server) same) ∙ eqb-true q.server from (both (is_outstanding q.outcome) (q.server == from) t.0).1
 
-counts_from : (from : ℕ) (m : Message) (s : RequestsState) (place : ℕ) (r : Request) → counts_at from m s ≡ Some place → slice_get s.entries place ≡ Some r → r.server ≡ from
-counts_from from m s place r e there =
+counts_from : (from : ℕ) (m : Message) (s : RequestsState) (position : ℕ) (r : Request) → counts_at from m s ≡ Some position → slice_get s.entries position ≡ Some r → r.server ≡ from
+counts_from from m s position r e there =
     let here = slice_get s.entries (m.number - 1) in
-    let t = chosen ((m.session == s.session) && not (m.number == 0) && awaits_at from m.body here) (m.number - 1) place e in
+    let t = chosen ((m.session == s.session) && not (m.number == 0) && awaits_at from m.body here) (m.number - 1) position e in
     let last = (both ((m.session == s.session) && not (m.number == 0)) (awaits_at from m.body here) t.0).1 in
     from_at from m.body here r (ap (slice_get s.entries) t.1 ∙ there) last
 
@@ -50,9 +50,9 @@ advances_none u from m now new none e =
       ended = λ ne. ap (with_record u) is;
     }
 
-module _ (u : UploadState) (from : ℕ) (m : Message) (now : ℕ) (place : ℕ) (counts : counts_at from m u.requests ≡ Some place) where
-  abbrev a : Awaits u.requests.entries place
-  a = counts_is from m u.requests place counts
+module _ (u : UploadState) (from : ℕ) (m : Message) (now : ℕ) (position : ℕ) (counts : counts_at from m u.requests ≡ Some position) where
+  abbrev a : Awaits u.requests.entries position
+  a = counts_is from m u.requests position counts
 
   abbrev after : RequestsState
   after = after_message from m now u.requests
@@ -61,22 +61,22 @@ module _ (u : UploadState) (from : ℕ) (m : Message) (now : ℕ) (place : ℕ) 
   answered = with_outcome a.request (Answered m.body)
 
   -- what is answered is in memory until then
-  pub counted_kept : IsKeptAt u.requests.entries place
-  counted_kept = waiting_kept u.requests.entries place a.request a.there a.waits
+  pub counted_kept : IsKeptAt u.requests.entries position
+  counted_kept = waiting_kept u.requests.entries position a.request a.there a.waits
 
-  there : slice_get after.entries place ≡ Some answered
-  there = message_there u.goal from m now u.requests place counts
+  there : slice_get after.entries position ≡ Some answered
+  there = message_there u.goal from m now u.requests position counts
 
-  is : answered ≡ get_or after.entries place answered
-  is = sym (get_or_from_slice_get after.entries place answered answered there)
+  is : answered ≡ get_or after.entries position answered
+  is = sym (get_or_from_slice_get after.entries position answered answered there)
 
-  within : place < length after.entries
-  within = slice_get_within after.entries place answered there
+  within : position < length after.entries
+  within = slice_get_within after.entries position answered there
 
   from_is : a.request.server ≡ from
-  from_is = counts_from from m u.requests place a.request counts a.there
+  from_is = counts_from from m u.requests position a.request counts a.there
 
-  module _ (r : Request) (next : Option Asked) (found : slice_get u.requests.entries place ≡ Some r) (follows : next ≡ follow_up u.goal (with_outcome r (Answered m.body))) where
+  module _ (r : Request) (next : Option Asked) (found : slice_get u.requests.entries position ≡ Some r) (follows : next ≡ follow_up u.goal (with_outcome r (Answered m.body))) where
     next_is : next ≡ follow_up u.goal answered
     next_is =
         let one : Some r ≡ Some a.request = sym found ∙ a.there in
@@ -87,10 +87,10 @@ module _ (u : UploadState) (from : ℕ) (m : Message) (now : ℕ) (place : ℕ) 
     next_right mid e c =
         subst (λ (q : RequestsState). IfSome next (λ asked. IsCourse (with_record u (asked_more from asked q)))) (sym e)
         (subst (λ (s : ℕ). IfSome next (λ asked. IsCourse (with_record u (asked_more s asked after)))) from_is
-        (next_may (with_record u after) place answered is within next next_is (message_course u from m now after refl c) (answered_end u.goal from m now u.requests place counts c.trails)))
+        (next_may (with_record u after) position answered is within next next_is (message_course u from m now after refl c) (answered_end u.goal from m now u.requests position counts c.trails)))
 
-    pub next_asked : (mid : RequestsState) (new : UploadState) → mid ≡ after → MatchOption next (new ≡ with_record u mid) (λ asked. new ≡ with_record u (asked_more from asked mid)) → new ≡ with_record u (asked_all (follow_ups_at u.goal (slice_get after.entries place)) after)
+    pub next_asked : (mid : RequestsState) (new : UploadState) → mid ≡ after → MatchOption next (new ≡ with_record u mid) (λ asked. new ≡ with_record u (asked_more from asked mid)) → new ≡ with_record u (asked_all (follow_ups_at u.goal (slice_get after.entries position)) after)
     next_asked mid new e n =
-        next_follows (with_record u after) place answered is within next new next_is
+        next_follows (with_record u after) position answered is within next new next_is
         (subst (λ (s : ℕ). MatchOption next (new ≡ with_record u after) (λ asked. new ≡ with_record u (asked_more s asked after))) (sym from_is)
         (subst (λ (q : RequestsState). MatchOption next (new ≡ with_record u q) (λ asked. new ≡ with_record u (asked_more from asked q))) e n))

@@ -33,9 +33,9 @@ quiet_of (q ∷ qs) settled (suc i) r e = quiet_of qs (omega (arith, settled, co
 -- no message counts for a settled record
 settled_none : (from : ℕ) (m : Message) (r : RequestsState) → IsSettled r.entries → (o : Option ℕ) → counts_at from m r ≡ o → o ≡ None
 settled_none from m r settled None e = refl
-settled_none from m r settled (Some place) e =
-    let a = counts_is from m r place e in
-    absurd (true≢false (sym a.waits ∙ quiet_of r.entries settled place a.request a.there))
+settled_none from m r settled (Some position) e =
+    let a = counts_is from m r position e in
+    absurd (true≢false (sym a.waits ∙ quiet_of r.entries settled position a.request a.there))
 
 pub message_settled : (from : ℕ) (m : Message) (now : ℕ) (r : RequestsState) → IsSettled r.entries → (after_message from m now r).entries ≡ r.entries
 message_settled from m now r settled = uncounted from m now r (settled_none from m r settled (counts_at from m r) refl)

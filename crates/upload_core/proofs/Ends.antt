@@ -10,7 +10,7 @@ use Rattle.wire.specs.declared.message.Message.{Message}
 use Rattle.request_record.specs.declared.requests.Asked.{Asked}
 use Rattle.request_record.specs.declared.requests.Outcome.TheVariants.{Answered, Lost}
 use Rattle.request_record.specs.declared.requests.Request.{Request}
-use Rattle.request_record.specs.Record.{RequestsState, asked_all, counts_at, is_lost_at, is_outstanding, is_resent_at, places_from, resent_one, ticked_one, with_outcome}
+use Rattle.request_record.specs.Record.{RequestsState, asked_all, counts_at, is_lost_at, is_outstanding, is_resent_at, positions_from, resent_one, ticked_one, with_outcome}
 use Rattle.request_record.specs.Asking.{after_message, after_tick, lost_by_tick}
 use Rattle.placement.specs.Matching.{Pair}
 use Rattle.upload_core.specs.State.{Goal}
@@ -26,46 +26,46 @@ use Rattle.upload_core.proofs.Records.{Goes, about_was, was_goes}
 use Rattle.upload_core.proofs.Goes.{get_asked_all, message_goes, tick_goes}
 use Rattle.upload_core.proofs.Followed.{asked_after, entries_all, inside_at, message_there, new_of}
 
--- what waited at a place and waits no more
-end_goes : (g : Goal) (es ns : List Request) → Goes es ns → AreTrails g es → (place : ℕ) (r n : Request) → slice_get es place ≡ Some r → is_outstanding r.outcome ≡ true → slice_get ns place ≡ Some n → is_outstanding n.outcome ≡ false → IsAtEnd ns place
-end_goes g es ns k trails place r n was waits there quiet = record {
+-- what waited at a position and waits no more
+end_goes : (g : Goal) (es ns : List Request) → Goes es ns → AreTrails g es → (position : ℕ) (r n : Request) → slice_get es position ≡ Some r → is_outstanding r.outcome ≡ true → slice_get ns position ≡ Some n → is_outstanding n.outcome ≡ false → IsAtEnd ns position
+end_goes g es ns k trails position r n was waits there quiet = record {
   request = n;
   there = there;
   quiet = quiet;
   last = λ i q pair lt e about next.
-      let first = was_goes es ns k place n there in
+      let first = was_goes es ns k position n there in
       let second = was_goes es ns k i q e in
       let one : Some first.request ≡ Some r = sym first.there ∙ was in
       let same : first.request ≡ r = cc in
-      let before = trails place i first.request second.request pair lt first.there second.there (about_was pair first.request n first.same about) (about_was pair second.request q second.same next) in
+      let before = trails position i first.request second.request pair lt first.there second.there (about_was pair first.request n first.same about) (about_was pair second.request q second.same next) in
       true≢false (sym waits ∙ ap (λ (x : Request). is_outstanding x.outcome) (sym same) ∙ before.quiet);
 }
 
-pub answered_end : (g : Goal) (from : ℕ) (m : Message) (now : ℕ) (r : RequestsState) (place : ℕ) → counts_at from m r ≡ Some place → AreTrails g r.entries → IsAtEnd (after_message from m now r).entries place
-answered_end g from m now r place counts trails =
-    let a = counts_is from m r place counts in
-    end_goes g r.entries (after_message from m now r).entries (message_goes from m now r) trails place a.request (with_outcome a.request (Answered m.body)) a.there a.waits (message_there g from m now r place counts) refl
+pub answered_end : (g : Goal) (from : ℕ) (m : Message) (now : ℕ) (r : RequestsState) (position : ℕ) → counts_at from m r ≡ Some position → AreTrails g r.entries → IsAtEnd (after_message from m now r).entries position
+answered_end g from m now r position counts trails =
+    let a = counts_is from m r position counts in
+    end_goes g r.entries (after_message from m now r).entries (message_goes from m now r) trails position a.request (with_outcome a.request (Answered m.body)) a.there a.waits (message_there g from m now r position counts) refl
 
 -- ---- what is lost
 
--- the request at a place passes the test
-record IsPlace (test : Request → Bool) (first : ℕ) (rs : List Request) (p : ℕ) : Type 0 where
+-- the request at a position passes the test
+record IsPositionOf (test : Request → Bool) (first : ℕ) (rs : List Request) (p : ℕ) : Type 0 where
   pub behind : first ≤ p
   pub request : Request
   pub there : slice_get rs (p - first) ≡ Some request
   pub passes : test request ≡ true
 
-place_behind : (test : Request → Bool) (first : ℕ) (r : Request) (rs : List Request) (p : ℕ) → IsPlace test (first + 1) rs p → IsPlace test first (r ∷ rs) p
-place_behind test first r rs p w =
+position_behind : (test : Request → Bool) (first : ℕ) (r : Request) (rs : List Request) (p : ℕ) → IsPositionOf test (first + 1) rs p → IsPositionOf test first (r ∷ rs) p
+position_behind test first r rs p w =
     let next : p - first ≡ suc (p - (first + 1)) = omega (arith, w.behind) in
     record { behind = omega (arith, w.behind); request = w.request; there = ap (slice_get (r ∷ rs)) next ∙ w.there; passes = w.passes }
 
-place_from : (test : Request → Bool) (first : ℕ) (rs : List Request) (p : ℕ) → Contains (places_from test first rs) p → IsPlace test first rs p
-place_from test first [] p c = absurd (Contains-nil p c)
-place_from test first (r ∷ rs) p c = by (test r) refl c (λ d. place_behind test first r rs p (place_from test (first + 1) rs p d))
+position_from : (test : Request → Bool) (first : ℕ) (rs : List Request) (p : ℕ) → Contains (positions_from test first rs) p → IsPositionOf test first rs p
+position_from test first [] p c = absurd (Contains-nil p c)
+position_from test first (r ∷ rs) p c = by (test r) refl c (λ d. position_behind test first r rs p (position_from test (first + 1) rs p d))
   where
-    by : (b : Bool) → test r ≡ b → Contains (cond b (first ∷ places_from test (first + 1) rs) (places_from test (first + 1) rs)) p → (Contains (places_from test (first + 1) rs) p → IsPlace test first (r ∷ rs) p) → IsPlace test first (r ∷ rs) p
-    by true e d later = elim (Contains-uncons first (places_from test (first + 1) rs) p d) [
+    by : (b : Bool) → test r ≡ b → Contains (cond b (first ∷ positions_from test (first + 1) rs) (positions_from test (first + 1) rs)) p → (Contains (positions_from test (first + 1) rs) p → IsPositionOf test first (r ∷ rs) p) → IsPositionOf test first (r ∷ rs) p
+    by true e d later = elim (Contains-uncons first (positions_from test (first + 1) rs) p d) [
       | inl same ↦ (
           let at : p - first ≡ 0 = omega (arith, same) in
           record { behind = omega (arith, same); request = r; there = ap (slice_get (r ∷ rs)) at; passes = e })
@@ -73,17 +73,17 @@ place_from test first (r ∷ rs) p c = by (test r) refl c (λ d. place_behind te
     ]
     by false e d later = later d
 
-places_once : (test : Request → Bool) (first : ℕ) (rs : List Request) → IsDistinct eqb (places_from test first rs)
+positions_once : (test : Request → Bool) (first : ℕ) (rs : List Request) → IsDistinct eqb (positions_from test first rs)
 unfolding IsDistinct
-places_once test first [] = tt
-places_once test first (r ∷ rs) = by (test r) (places_once test (first + 1) rs)
+positions_once test first [] = tt
+positions_once test first (r ∷ rs) = by (test r) (positions_once test (first + 1) rs)
   where
-    by : (b : Bool) → IsDistinct eqb (places_from test (first + 1) rs) → IsDistinct eqb (cond b (first ∷ places_from test (first + 1) rs) (places_from test (first + 1) rs))
-    by true d = (each_absent first (places_from test (first + 1) rs) (λ c. let w = place_from test (first + 1) rs first c in absurd (omega (arith, w.behind))), d)
+    by : (b : Bool) → IsDistinct eqb (positions_from test (first + 1) rs) → IsDistinct eqb (cond b (first ∷ positions_from test (first + 1) rs) (positions_from test (first + 1) rs))
+    by true d = (each_absent first (positions_from test (first + 1) rs) (λ c. let w = position_from test (first + 1) rs first c in absurd (omega (arith, w.behind))), d)
     by false d = d
 
 pub lost_once : (now : ℕ) (r : RequestsState) → IsDistinct eqb (lost_by_tick now r)
-lost_once now r = places_once (is_lost_at (max r.clock now)) 0 r.entries
+lost_once now r = positions_once (is_lost_at (max r.clock now)) 0 r.entries
 
 lost_one : (now : ℕ) (r : Request) → is_lost_at now r ≡ true → ticked_one now r ≡ with_outcome r Lost
 lost_one now r e = by (is_lost_at now r) e
@@ -96,7 +96,7 @@ lost_one now r e = by (is_lost_at now r) e
 pub lost_waits : (now : ℕ) (r : RequestsState) (p : ℕ) (q : Request) → Contains (lost_by_tick now r) p → slice_get r.entries p ≡ Some q → is_outstanding q.outcome ≡ true
 lost_waits now r p q c e =
     let time : ℕ = max r.clock now in
-    let w = place_from (is_lost_at time) 0 r.entries p c in
+    let w = position_from (is_lost_at time) 0 r.entries p c in
     let at : p - 0 ≡ p = omega arith in
     let one : Some w.request ≡ Some q = sym w.there ∙ ap (slice_get r.entries) at ∙ e in
     let same : w.request ≡ q = cc in
@@ -112,7 +112,7 @@ record WasLost (now : ℕ) (r : RequestsState) (p : ℕ) : Type 0 where
 was_lost : (now : ℕ) (r : RequestsState) (p : ℕ) → Contains (lost_by_tick now r) p → WasLost now r p
 was_lost now r p c =
     let time : ℕ = max r.clock now in
-    let w = place_from (is_lost_at time) 0 r.entries p c in
+    let w = position_from (is_lost_at time) 0 r.entries p c in
     let at : p - 0 ≡ p = omega arith in
     let there : slice_get r.entries p ≡ Some w.request = ap (slice_get r.entries) (sym at) ∙ w.there in
     record {
@@ -125,8 +125,8 @@ was_lost now r p c =
 pub lost_are : (now : ℕ) (r : RequestsState) → All (IsLostAt (after_tick now r).entries) (lost_by_tick now r)
 lost_are now r = all_of (IsLostAt (after_tick now r).entries) (lost_by_tick now r) (λ p c. let w = was_lost now r p c in record { request = with_outcome w.request Lost; there = w.after; lost = refl })
 
-pub lost_within : (es : List Request) (places : List ℕ) → All (IsLostAt es) places → All (λ (p : ℕ). p < length es) places
-lost_within es places all = All-weaker (IsLostAt es) (λ (p : ℕ). p < length es) (λ p l. slice_get_within es p l.request l.there) places all
+pub lost_within : (es : List Request) (positions : List ℕ) → All (IsLostAt es) positions → All (λ (p : ℕ). p < length es) positions
+lost_within es positions all = All-weaker (IsLostAt es) (λ (p : ℕ). p < length es) (λ p l. slice_get_within es p l.request l.there) positions all
 
 -- and it is so while what follows others is asked
 pub lost_after : (g : Goal) (r : RequestsState) (lost : List ℕ) (i : ℕ) → i < length lost → All (IsLostAt r.entries) lost → IsLostAt (asked_all (all_follow_ups g r.entries (take i lost)) r).entries (get_or lost i 0)

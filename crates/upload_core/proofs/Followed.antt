@@ -4,7 +4,7 @@ use Rattle.std.specs.Prelude.{◌==◌, slice_get, is_some, option_map}
 use Rattle.std.proofs.lemmas.Bool.{cases_lt}
 use Rattle.std.proofs.lemmas.List.{append_assoc, append-nil}
 use Rattle.std.proofs.lemmas.Option.{get_or_from_slice_get, slice_get-map, slice_get_within}
-use Rattle.lemmas.proofs.Places.{get_last}
+use Rattle.lemmas.proofs.Positions.{get_last}
 use Rattle.wire.specs.declared.message.Body.{Body}
 use Rattle.wire.specs.declared.message.Body.TheVariants.{Already, Closed, Granted, Wrote, WrongOffset}
 use Rattle.wire.specs.declared.message.Message.{Message}
@@ -76,9 +76,9 @@ module _ (g : Goal) where
 
   -- a request of the pair's trail that waits
   record Waits (es : List Request) (pair : Pair) : Type 0 where
-    pub place : ℕ
+    pub position : ℕ
     pub request : Request
-    pub there : slice_get es place ≡ Some request
+    pub there : slice_get es position ≡ Some request
     pub about : IsAbout pair request
     pub transfer : is_transfer request.asked ≡ true
     pub waiting : is_outstanding request.outcome ≡ true
@@ -87,7 +87,7 @@ module _ (g : Goal) where
   followed_goes es ns k pair f = elim f [
     | by_failure i r e s h ↦ inl (by_failure i r (stays_goes es ns k i r e (failed_quiet r.asked r.outcome h)) s h)
     | by_answer i r e c ↦ inl (by_answer i r (stays_goes es ns k i r e (acked_quiet r.server r.asked r.outcome pair c)) c)
-    | by_waiting i r e a t o ↦ inr (record { place = i; request = r; there = e; about = a; transfer = t; waiting = o })
+    | by_waiting i r e a t o ↦ inr (record { position = i; request = r; there = e; about = a; transfer = t; waiting = o })
   ]
 
   -- ---- an answer
@@ -161,7 +161,7 @@ module _ (g : Goal) where
   acked_of false c k e f h = absurd (true≢false (sym f))
 
   -- a request of a transfer that was answered
-  module _ (n : Request) (body : Body) (answered : n.outcome ≡ Answered body) (transfer : is_transfer n.asked ≡ true) (front : List Request) (place now : ℕ) (there : slice_get front place ≡ Some n) (same : (x : Asked) → follow_up g n ≡ Some x → share_of x ≡ share_of n.asked) where
+  module _ (n : Request) (body : Body) (answered : n.outcome ≡ Answered body) (transfer : is_transfer n.asked ≡ true) (front : List Request) (position now : ℕ) (there : slice_get front position ≡ Some n) (same : (x : Asked) → follow_up g n ≡ Some x → share_of x ≡ share_of n.asked) where
     answered_followed : (pair : Pair) → IsAbout pair n → IsFollowed g (front ++ map (new_of now) (asks_after n (follow_up g n))) pair
     answered_followed pair about = by (has_failed g n) (carried g n.asked body) refl refl
       where
@@ -169,13 +169,13 @@ module _ (g : Goal) where
         more = map (new_of now) (asks_after n (follow_up g n))
 
         by : (failed : Bool) (next : Option Asked) → has_failed g n ≡ failed → carried g n.asked body ≡ next → IsFollowed g (front ++ more) pair
-        by true next e f = by_failure place n (get_front front more place n there) about.0 e
+        by true next e f = by_failure position n (get_front front more position n there) about.0 e
         by false None e f =
             let is-failed : fails g n.asked (Answered body) ≡ false = sym (ap (fails g n.asked) answered) ∙ e in
             let acked : is_acknowledged g n.asked body ≡ true = acked_of (is_transfer n.asked) (is_some (carried g n.asked body)) (is_acknowledged g n.asked body) is-failed transfer (ap is_some f) in
             let c : Contains {X = Pair} (acked_answer g n.server n.asked body) (n.server, pair.1) = answer_acked n.server n.asked body pair.1 about.1 acked in
             let at : Contains {X = Pair} (acked_by g n) (n.server, pair.1) = subst (λ (o : Outcome). Contains {X = Pair} (acked_outcome g n.server n.asked o) (n.server, pair.1)) (sym answered) c in
-            by_answer place n (get_front front more place n there) (subst (λ (s : ℕ). Contains {X = Pair} (acked_by g n) (s, pair.1)) about.0 at)
+            by_answer position n (get_front front more position n there) (subst (λ (s : ℕ). Contains {X = Pair} (acked_by g n) (s, pair.1)) about.0 at)
         by false (Some x) e f =
             let next : follow_up g n ≡ Some x = ap (λ (b : Bool). cond b (given_up n.asked) (carried_on g n.asked n.outcome)) e ∙ ap (carried_on g n.asked) answered ∙ f in
             let t : is_transfer x ≡ true = carried_transfer n.asked x body f in
@@ -185,35 +185,35 @@ module _ (g : Goal) where
 
   -- ---- the record after an answer
 
-  get_set : (es : List Request) (place : ℕ) (n : Request) → place < length es → slice_get (set es place n) place ≡ Some n
-  get_set [] place n lt = absurd (omega (arith, lt))
+  get_set : (es : List Request) (position : ℕ) (n : Request) → position < length es → slice_get (set es position n) position ≡ Some n
+  get_set [] position n lt = absurd (omega (arith, lt))
   get_set (q ∷ qs) zero n lt = refl
-  get_set (q ∷ qs) (suc place) n lt = get_set qs place n (omega (arith, lt))
+  get_set (q ∷ qs) (suc position) n lt = get_set qs position n (omega (arith, lt))
 
-  get_other : (es : List Request) (place i : ℕ) (n : Request) → (i ≡ place → ⊥) → slice_get (set es place n) i ≡ slice_get es i
-  get_other [] place i n other = refl
+  get_other : (es : List Request) (position i : ℕ) (n : Request) → (i ≡ position → ⊥) → slice_get (set es position n) i ≡ slice_get es i
+  get_other [] position i n other = refl
   get_other (q ∷ qs) zero zero n other = absurd (other refl)
   get_other (q ∷ qs) zero (suc i) n other = refl
-  get_other (q ∷ qs) (suc place) zero n other = refl
-  get_other (q ∷ qs) (suc place) (suc i) n other = get_other qs place i n (λ e. other (ap suc e))
+  get_other (q ∷ qs) (suc position) zero n other = refl
+  get_other (q ∷ qs) (suc position) (suc i) n other = get_other qs position i n (λ e. other (ap suc e))
 
   pub inside_at : (es : List Request) (i : ℕ) (r : Request) → All (λ (q : Request). IsInside g q.asked) es → slice_get es i ≡ Some r → IsInside g r.asked
   inside_at es i r all e = subst (λ (q : Request). IsInside g q.asked) (get_or_from_slice_get es i r r e) (all i r (slice_get_within es i r e))
 
   -- what was answered, and the record then
-  pub message_set : (from : ℕ) (m : Message) (now : ℕ) (r : RequestsState) (place : ℕ) (counts : counts_at from m r ≡ Some place) → (after_message from m now r).entries ≡ set r.entries place (with_outcome (counts_is from m r place counts).request (Answered m.body))
-  message_set from m now r place counts =
-      ap (λ (o : Option ℕ). (counted_at m (at now r) o).entries) counts ∙ ap (λ (o : Option Request). answered_in r.entries place o m.body) (counts_is from m r place counts).there
+  pub message_set : (from : ℕ) (m : Message) (now : ℕ) (r : RequestsState) (position : ℕ) (counts : counts_at from m r ≡ Some position) → (after_message from m now r).entries ≡ set r.entries position (with_outcome (counts_is from m r position counts).request (Answered m.body))
+  message_set from m now r position counts =
+      ap (λ (o : Option ℕ). (counted_at m (at now r) o).entries) counts ∙ ap (λ (o : Option Request). answered_in r.entries position o m.body) (counts_is from m r position counts).there
 
-  pub message_there : (from : ℕ) (m : Message) (now : ℕ) (r : RequestsState) (place : ℕ) (counts : counts_at from m r ≡ Some place) → slice_get (after_message from m now r).entries place ≡ Some (with_outcome (counts_is from m r place counts).request (Answered m.body))
-  message_there from m now r place counts =
-      let a = counts_is from m r place counts in
-      ap (λ (es : List Request). slice_get es place) (message_set from m now r place counts) ∙ get_set r.entries place (with_outcome a.request (Answered m.body)) (slice_get_within r.entries place a.request a.there)
+  pub message_there : (from : ℕ) (m : Message) (now : ℕ) (r : RequestsState) (position : ℕ) (counts : counts_at from m r ≡ Some position) → slice_get (after_message from m now r).entries position ≡ Some (with_outcome (counts_is from m r position counts).request (Answered m.body))
+  message_there from m now r position counts =
+      let a = counts_is from m r position counts in
+      ap (λ (es : List Request). slice_get es position) (message_set from m now r position counts) ∙ get_set r.entries position (with_outcome a.request (Answered m.body)) (slice_get_within r.entries position a.request a.there)
 
-  module _ (from : ℕ) (m : Message) (now : ℕ) (r : RequestsState) (place : ℕ) (counts : counts_at from m r ≡ Some place)
+  module _ (from : ℕ) (m : Message) (now : ℕ) (r : RequestsState) (position : ℕ) (counts : counts_at from m r ≡ Some position)
       (inside : All (λ (q : Request). IsInside g q.asked) r.entries) (followed : AreFollowed g r.entries) where
-    abbrev a : Awaits r.entries place
-    a = counts_is from m r place counts
+    abbrev a : Awaits r.entries position
+    a = counts_is from m r position counts
 
     abbrev answered : Request
     answered = with_outcome a.request (Answered m.body)
@@ -221,14 +221,14 @@ module _ (g : Goal) where
     abbrev after : RequestsState
     after = after_message from m now r
 
-    there : slice_get after.entries place ≡ Some answered
-    there = message_there from m now r place counts
+    there : slice_get after.entries position ≡ Some answered
+    there = message_there from m now r position counts
 
     onward : (x : Asked) → follow_up g answered ≡ Some x → share_of x ≡ share_of answered.asked
-    onward x e = (follow_onward g answered x (inside_at r.entries place a.request inside a.there) e).same
+    onward x e = (follow_onward g answered x (inside_at r.entries position a.request inside a.there) e).same
 
     abbrev next : List (ℕ × Asked)
-    next = follow_ups_at g (slice_get after.entries place)
+    next = follow_ups_at g (slice_get after.entries position)
 
     asks : next ≡ asks_after answered (follow_up g answered)
     asks = ap (follow_ups_at g) there
@@ -241,25 +241,25 @@ module _ (g : Goal) where
         subst (λ (es : List Request). IsFollowed g es pair) (sym (entries_all next after))
         (elim (followed_goes r.entries after.entries goes pair before) [
           | inl f ↦ followed_more after.entries (map (new_of after.clock) next) pair f
-          | inr w ↦ by w (cases_lt w.place place) (cases_lt place w.place)
+          | inr w ↦ by w (cases_lt w.position position) (cases_lt position w.position)
         ])
       where
-        at_place : (w : Waits r.entries pair) → w.place ≡ place → IsFollowed g (after.entries ++ map (new_of after.clock) next) pair
-        at_place w e =
+        at_position : (w : Waits r.entries pair) → w.position ≡ position → IsFollowed g (after.entries ++ map (new_of after.clock) next) pair
+        at_position w e =
             let one : Some w.request ≡ Some a.request = sym w.there ∙ ap (slice_get r.entries) e ∙ a.there in
             let same : w.request ≡ a.request = cc in
             subst (λ (l : List (ℕ × Asked)). IsFollowed g (after.entries ++ map (new_of after.clock) l) pair) (sym asks)
-            (answered_followed answered m.body refl (sym (ap (λ (q : Request). is_transfer q.asked) same) ∙ w.transfer) after.entries place after.clock there onward pair (subst (IsAbout pair) same w.about))
+            (answered_followed answered m.body refl (sym (ap (λ (q : Request). is_transfer q.asked) same) ∙ w.transfer) after.entries position after.clock there onward pair (subst (IsAbout pair) same w.about))
 
-        elsewhere : (w : Waits r.entries pair) → (w.place ≡ place → ⊥) → IsFollowed g (after.entries ++ map (new_of after.clock) next) pair
+        elsewhere : (w : Waits r.entries pair) → (w.position ≡ position → ⊥) → IsFollowed g (after.entries ++ map (new_of after.clock) next) pair
         elsewhere w other =
-            let still : slice_get after.entries w.place ≡ Some w.request = ap (λ (es : List Request). slice_get es w.place) (message_set from m now r place counts) ∙ get_other r.entries place w.place answered other ∙ w.there in
-            followed_more after.entries (map (new_of after.clock) next) pair (by_waiting w.place w.request still w.about w.transfer w.waiting)
+            let still : slice_get after.entries w.position ≡ Some w.request = ap (λ (es : List Request). slice_get es w.position) (message_set from m now r position counts) ∙ get_other r.entries position w.position answered other ∙ w.there in
+            followed_more after.entries (map (new_of after.clock) next) pair (by_waiting w.position w.request still w.about w.transfer w.waiting)
 
-        by : (w : Waits r.entries pair) → (w.place < place) ⊎ (place ≤ w.place) → (place < w.place) ⊎ (w.place ≤ place) → IsFollowed g (after.entries ++ map (new_of after.clock) next) pair
+        by : (w : Waits r.entries pair) → (w.position < position) ⊎ (position ≤ w.position) → (position < w.position) ⊎ (w.position ≤ position) → IsFollowed g (after.entries ++ map (new_of after.clock) next) pair
         by w (inl lt) c = elsewhere w (λ e. absurd (omega (arith, lt, e)))
         by w (inr le) (inl lt) = elsewhere w (λ e. absurd (omega (arith, lt, e)))
-        by w (inr le) (inr ge) = at_place w (omega (arith, le, ge))
+        by w (inr le) (inr ge) = at_position w (omega (arith, le, ge))
 
     pub followed_message : AreFollowed g (asked_all next after).entries
     followed_message i q pair e about =
@@ -267,12 +267,12 @@ module _ (g : Goal) where
           | inl front ↦ old_followed i q pair front about
           | inr new ↦ (
               let n = get_mapped (new_of after.clock) next new.0 q new.1 in
-              let by = asked_after g (slice_get after.entries place) n.0 (contains_at next new.0 n.0 n.1) in
+              let by = asked_after g (slice_get after.entries position) n.0 (contains_at next new.0 n.0 n.1) in
               let one : Some by.0 ≡ Some answered = sym by.1 ∙ there in
               let same : by.0 ≡ answered = cc in
               let about-new : IsAbout pair (new_of after.clock n.0) = subst (IsAbout pair) (sym n.2) about in
               let share : share_of n.0.1 ≡ share_of answered.asked = onward n.0.1 (sym (ap (follow_up g) same) ∙ by.2) in
-              old_followed place answered pair there (sym (ap (λ (x : Request). x.server) same) ∙ by.3 ∙ about-new.0, sym share ∙ about-new.1))
+              old_followed position answered pair there (sym (ap (λ (x : Request). x.server) same) ∙ by.3 ∙ about-new.0, sym share ∙ about-new.1))
         ]
 
   -- ---- the record after a tick
@@ -295,11 +295,11 @@ module _ (g : Goal) where
         elim (followed_goes r.entries (after_tick now r).entries goes pair before) [
           | inl f ↦ f
           | inr lasts ↦ (
-              let there : slice_get (after_tick now r).entries lasts.place ≡ Some (ticked_one time lasts.request) = slice_get-map (ticked_one time) r.entries lasts.place ∙ ap (option_map (ticked_one time)) lasts.there in
+              let there : slice_get (after_tick now r).entries lasts.position ≡ Some (ticked_one time lasts.request) = slice_get-map (ticked_one time) r.entries lasts.position ∙ ap (option_map (ticked_one time)) lasts.there in
               let same : IsSame lasts.request (ticked_one time lasts.request) = same_ticked time lasts.request in
               elim (lost_failed time lasts.request lasts.transfer lasts.waiting) [
-                | inl failed ↦ by_failure lasts.place (ticked_one time lasts.request) there (same.server ∙ lasts.about.0) failed
-                | inr still ↦ by_waiting lasts.place (ticked_one time lasts.request) there (same.server ∙ lasts.about.0, ap share_of same.asked ∙ lasts.about.1) (ap is_transfer same.asked ∙ lasts.transfer) still
+                | inl failed ↦ by_failure lasts.position (ticked_one time lasts.request) there (same.server ∙ lasts.about.0) failed
+                | inr still ↦ by_waiting lasts.position (ticked_one time lasts.request) there (same.server ∙ lasts.about.0, ap share_of same.asked ∙ lasts.about.1) (ap is_transfer same.asked ∙ lasts.transfer) still
               ])
         ]
 

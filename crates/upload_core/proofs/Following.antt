@@ -12,7 +12,7 @@ use Rattle.upload_core.specs.declared.pieces.PieceFault.{PieceFault}
 use Rattle.upload_core.specs.declared.pieces.PieceFault.TheVariants.{OutOfMemory}
 use Rattle.upload_core.specs.declared.status.UploadStatus.TheVariants.{Failed}
 use Rattle.upload_core.specs.State.{UploadState, with_record}
-use Rattle.upload_core.specs.Moves.{Advances, AdvancesAt, FailsAt, GoesOn, Stops, StopsAt, TicksOn, TicksWith, all_follow_ups, at_once, ends, follow_ups_at, later, places, waits}
+use Rattle.upload_core.specs.Moves.{Advances, AdvancesAt, FailsAt, GoesOn, Stops, StopsAt, TicksOn, TicksWith, all_follow_ups, at_once, ends, follow_ups_at, later, positions, waits}
 use Rattle.upload_core.specs.Rounds.{transfers_of}
 use Rattle.upload_core.specs.Sending.{Takes, Uploading, ceases, nothing, sends}
 use Rattle.upload_core.proofs.Stands.{is_running}
@@ -39,17 +39,17 @@ requests_continue New old new goal happy session entries = record { goal = goal;
 
 pub placed : (New : Said) (old new : UploadState) (r : RequestsState) → Follows New old.requests r → GoesOn old r new → Continues New old new
 placed New old new r f (waits unsettled is) = recorded New old new r is f
-placed New old new r f (places p settled place placing some is) =
+placed New old new r f (positions p settled position placing some is) =
     subst (Continues New old) (sym is) (record { goal = refl; happy = refl; follows = asks_more New old.requests r (transfers_of old.goal p) f })
 placed New old new r f (ends status settled over so is) = subst (Continues New old) (sym is) (record { goal = refl; happy = refl; follows = f })
 
 answered : (New : Said) (old new : UploadState) (o : Option ℕ) (r : RequestsState) → Follows New old.requests r → AdvancesAt o r old new → Continues New old new
 answered New old new None r f a = recorded New old new r a f
-answered New old new (Some place) r f a =
-    let asks : List (ℕ × Asked) = follow_ups_at old.goal (slice_get r.entries place) in
+answered New old new (Some position) r f a =
+    let asks : List (ℕ × Asked) = follow_ups_at old.goal (slice_get r.entries position) in
     placed New old new (asked_all asks r) (asks_more New old.requests r asks f) a
 
-lost : (New : Said) (old new : UploadState) (places : List ℕ) (r : RequestsState) → Follows New old.requests r → TicksWith places r old new → Continues New old new
+lost : (New : Said) (old new : UploadState) (positions : List ℕ) (r : RequestsState) → Follows New old.requests r → TicksWith positions r old new → Continues New old new
 lost New old new [] r f a = recorded New old new r a f
 lost New old new (q ∷ qs) r f a =
     let asks : List (ℕ × Asked) = all_follow_ups old.goal r.entries (q ∷ qs) in
@@ -122,9 +122,9 @@ module _ (now : ℕ) (old new : UploadState) where
 pub takes_continue : {P : Type 0} (gives : P → ℕ → ℕ → List ℕ → P → Type 0) (fails : P → ℕ → ℕ → ℕ → PieceFault → P → Type 0) (old new : Uploading P) (taken : Option (ℕ × Message)) → Takes gives fails old taken new
     → Continues Nothing old.course new.course
 takes_continue gives fails old new taken (nothing first none is) = same_continues Nothing old.course new.course (ap (λ (x : Uploading _). x.course) is)
-takes_continue gives fails old new taken (ceases place server asked fault running first there faults none is) =
+takes_continue gives fails old new taken (ceases position server asked fault running first there faults none is) =
     requests_continue Nothing old.course new.course (ap (λ (x : UploadState). x.goal) is) (ap (λ (x : UploadState). x.happy) is) (ap (λ (x : UploadState). x.requests.session) is)
     (ap (λ (x : UploadState). x.requests.entries) is)
-takes_continue gives fails old new taken (sends place server asked body first there tells some is) =
+takes_continue gives fails old new taken (sends position server asked body first there tells some is) =
     requests_continue Nothing old.course new.course (ap (λ (x : UploadState). x.goal) is) (ap (λ (x : UploadState). x.happy) is) (ap (λ (x : UploadState). x.requests.session) is)
     (ap (λ (x : UploadState). x.requests.entries) is)

@@ -11,7 +11,7 @@ use Rattle.std.proofs.lemmas.Bool.{cases_lt, eq-eqb, ltb-true, ltb-false}
 use Rattle.std.proofs.lemmas.List.{append-nil, append_assoc, length-append, length-map, map-append, take_more}
 use Rattle.std.proofs.lemmas.List.Elements.{All-cons, All-head, All-nil, All-tail, All-take}
 use Rattle.std.proofs.lemmas.Option.{slice_get-get_or, slice_get_within}
-use Rattle.lemmas.proofs.Places.{get_last, get_push}
+use Rattle.lemmas.proofs.Positions.{get_last, get_push}
 use Rattle.request_record.proofs.StepLaws.{asked_joined, sent_entries}
 use Rattle.lemmas.proofs.Bools.{both}
 use Rattle.wire.specs.declared.message.Body.{Body}
@@ -29,7 +29,7 @@ use Rattle.upload_core.specs.State.{Goal, UploadState, with_record}
 use Rattle.upload_core.specs.Acknowledged.{acked_pairs}
 use Rattle.upload_core.specs.Transfers.{follow_up}
 use Rattle.upload_core.specs.Rounds.{IsToPlace, has_failed_since}
-use Rattle.upload_core.specs.Moves.{AreInOrder, GoesOn, Stops, TicksWith, all_follow_ups, asks_after, ends, follow_ups_at, places, waits}
+use Rattle.upload_core.specs.Moves.{AreInOrder, GoesOn, Stops, TicksWith, all_follow_ups, asks_after, ends, follow_ups_at, positions, waits}
 use Rattle.upload_core.specs.Course.{IsCourse, IsInside, IsOfTold, IsWaitedFor, MayPlace, allocations, asked_servers, is_holdings}
 use Rattle.upload_core.specs.Trails.{AreFollowed, AreTrails, IsAbout, IsAtEnd, IsBefore, IsNew, rank_of, share_of}
 use Rattle.upload_core.proofs.Follow.{IsOnward, follow_none, follow_onward}
@@ -45,16 +45,16 @@ holdings_is (Aborting share) h = absurd (true≢false (sym h))
 
 -- ---- what follows a request
 
-module _ (u : UploadState) (place : ℕ) (r : Request) (is : r ≡ get_or u.requests.entries place r) (lt : place < length u.requests.entries) where
-  there : slice_get u.requests.entries place ≡ Some r
-  there = slice_get-get_or u.requests.entries place r lt ∙ ap Some (sym is)
+module _ (u : UploadState) (position : ℕ) (r : Request) (is : r ≡ get_or u.requests.entries position r) (lt : position < length u.requests.entries) where
+  there : slice_get u.requests.entries position ≡ Some r
+  there = slice_get-get_or u.requests.entries position r lt ∙ ap Some (sym is)
 
   onward : (asked : Asked) → IsCourse u → follow_up u.goal r ≡ Some asked → IsOnward u.goal r.asked asked
-  onward asked c e = follow_onward u.goal r asked (subst (λ (q : Request). IsInside u.goal q.asked) (sym is) (c.inside place r lt)) e
+  onward asked c e = follow_onward u.goal r asked (subst (λ (q : Request). IsInside u.goal q.asked) (sym is) (c.inside position r lt)) e
 
-  pub may_follow : (asked : Asked) → IsCourse u → IsAtEnd u.requests.entries place → follow_up u.goal r ≡ Some asked → MayAsk u (r.server, asked)
+  pub may_follow : (asked : Asked) → IsCourse u → IsAtEnd u.requests.entries position → follow_up u.goal r ≡ Some asked → MayAsk u (r.server, asked)
   may_follow asked c end e =
-      let of-told : IsOfTold u.requests.entries r = subst (IsOfTold u.requests.entries) (sym is) (c.of_told place r lt) in
+      let of-told : IsOfTold u.requests.entries r = subst (IsOfTold u.requests.entries) (sym is) (c.of_told position r lt) in
       let on = onward asked c e in
       record {
         good = on.good;
@@ -65,16 +65,16 @@ module _ (u : UploadState) (place : ℕ) (r : Request) (is : r ≡ get_or u.requ
         further = λ i a share first about has. further i a share c end on first about (sym on.same ∙ has);
       }
     where
-      further : (i : ℕ) (a : Request) (share : ℕ) → IsCourse u → IsAtEnd u.requests.entries place → IsOnward u.goal r.asked asked → slice_get u.requests.entries i ≡ Some a → IsAbout (r.server, share) a → share_of r.asked ≡ Some share → IsBefore u.goal a asked
+      further : (i : ℕ) (a : Request) (share : ℕ) → IsCourse u → IsAtEnd u.requests.entries position → IsOnward u.goal r.asked asked → slice_get u.requests.entries i ≡ Some a → IsAbout (r.server, share) a → share_of r.asked ≡ Some share → IsBefore u.goal a asked
       further i a share c end on first about has =
           let one : Some end.request ≡ Some r = sym end.there ∙ there in
           let same : end.request ≡ r = cc in
-          elim (cases_lt i place) [
-            | inl before ↦ (let b = c.trails i place a r (r.server, share) before first there about (refl, has) in record { quiet = b.quiet; further = omega (arith, b.further, on.further) })
-            | inr le ↦ (elim (cases_lt place i) [
+          elim (cases_lt i position) [
+            | inl before ↦ (let b = c.trails i position a r (r.server, share) before first there about (refl, has) in record { quiet = b.quiet; further = omega (arith, b.further, on.further) })
+            | inr le ↦ (elim (cases_lt position i) [
               | inl behind ↦ absurd (end.last i a (r.server, share) behind first (ap (λ (q : Request). q.server) same, ap (λ (q : Request). share_of q.asked) same ∙ has) about)
               | inr ge ↦ (
-                  let at : i ≡ place = omega (arith, le, ge) in
+                  let at : i ≡ position = omega (arith, le, ge) in
                   let two : Some a ≡ Some end.request = sym first ∙ ap (slice_get u.requests.entries) at ∙ end.there in
                   let is-end : a ≡ end.request = cc in
                   let is-r : a ≡ r = is-end ∙ same in
@@ -82,22 +82,22 @@ module _ (u : UploadState) (place : ℕ) (r : Request) (is : r ≡ get_or u.requ
             ])
           ]
 
-  pub follows : (o : Option Asked) → follow_up u.goal r ≡ o → follow_ups_at u.goal (slice_get u.requests.entries place) ≡ asks_after r o
+  pub follows : (o : Option Asked) → follow_up u.goal r ≡ o → follow_ups_at u.goal (slice_get u.requests.entries position) ≡ asks_after r o
   follows o e = ap (follow_ups_at u.goal) there ∙ ap (asks_after r) e
 
-  pub follow_asks : (asked : Asked) (new : RequestsState) → follow_up u.goal r ≡ Some asked → new ≡ asked_more r.server asked u.requests → with_record u new ≡ with_record u (asked_all (follow_ups_at u.goal (slice_get u.requests.entries place)) u.requests)
+  pub follow_asks : (asked : Asked) (new : RequestsState) → follow_up u.goal r ≡ Some asked → new ≡ asked_more r.server asked u.requests → with_record u new ≡ with_record u (asked_all (follow_ups_at u.goal (slice_get u.requests.entries position)) u.requests)
   follow_asks asked new e n = ap (with_record u) (n ∙ sym (ap (λ (asks : List (ℕ × Asked)). asked_all asks u.requests) (follows (Some asked) e)))
 
-  pub follow_nothing : follow_up u.goal r ≡ None → u ≡ with_record u (asked_all (follow_ups_at u.goal (slice_get u.requests.entries place)) u.requests)
+  pub follow_nothing : follow_up u.goal r ≡ None → u ≡ with_record u (asked_all (follow_ups_at u.goal (slice_get u.requests.entries position)) u.requests)
   follow_nothing e = ap (with_record u) (sym (ap (λ (asks : List (ℕ × Asked)). asked_all asks u.requests) (follows None e)))
 
   -- what follows may be asked
-  pub next_may : (next : Option Asked) → next ≡ follow_up u.goal r → IsCourse u → IsAtEnd u.requests.entries place → IfSome next (λ asked. IsCourse (with_record u (asked_more r.server asked u.requests)))
+  pub next_may : (next : Option Asked) → next ≡ follow_up u.goal r → IsCourse u → IsAtEnd u.requests.entries position → IfSome next (λ asked. IsCourse (with_record u (asked_more r.server asked u.requests)))
   next_may None e c end = tt
   next_may (Some asked) e c end = course_asked u (r.server, asked) (may_follow asked c end (sym e)) c
 
   pub next_follows : (next : Option Asked) (new : UploadState) → next ≡ follow_up u.goal r → MatchOption next (new ≡ u) (λ asked. new ≡ with_record u (asked_more r.server asked u.requests))
-      → new ≡ with_record u (asked_all (follow_ups_at u.goal (slice_get u.requests.entries place)) u.requests)
+      → new ≡ with_record u (asked_all (follow_ups_at u.goal (slice_get u.requests.entries position)) u.requests)
   next_follows None new e n = n ∙ follow_nothing (sym e)
   next_follows (Some asked) new e n = n ∙ follow_asks asked (asked_more r.server asked u.requests) (sym e) refl
 
@@ -109,15 +109,15 @@ length_asked (ask ∷ asks) r =
     let new : RequestsState = asked_more ask.0 ask.1 r in
     omega (arith, length_asked asks new, length-append r.entries (first_request ask.0 ask.1 r.clock ∷ []))
 
-answered_goes : (es : List Request) (place : ℕ) (a : Awaits es place) (body : Body) (o : Option Request) → slice_get es place ≡ o → Goes es (answered_in es place o body)
-answered_goes es place a body None e = goes_refl es
-answered_goes es place a body (Some r) e =
+answered_goes : (es : List Request) (position : ℕ) (a : Awaits es position) (body : Body) (o : Option Request) → slice_get es position ≡ o → Goes es (answered_in es position o body)
+answered_goes es position a body None e = goes_refl es
+answered_goes es position a body (Some r) e =
     let same : a.request ≡ r = let k : Some a.request ≡ Some r = sym a.there ∙ e in cc in
-    goes_settled es place r body e (subst (λ (q : Request). is_outstanding q.outcome ≡ true) same a.waits)
+    goes_settled es position r body e (subst (λ (q : Request). is_outstanding q.outcome ≡ true) same a.waits)
 
 counted_goes : (from : ℕ) (m : Message) (r : RequestsState) (o : Option ℕ) → counts_at from m r ≡ o → Goes r.entries (counted_at m r o).entries
 counted_goes from m r None e = goes_refl r.entries
-counted_goes from m r (Some place) e = answered_goes r.entries place (counts_is from m r place e) m.body (slice_get r.entries place) refl
+counted_goes from m r (Some position) e = answered_goes r.entries position (counts_is from m r position e) m.body (slice_get r.entries position) refl
 
 pub message_goes : (from : ℕ) (m : Message) (now : ℕ) (r : RequestsState) → Goes r.entries (after_message from m now r).entries
 message_goes from m now r = counted_goes from m (at now r) (counts_at from m (at now r)) refl
@@ -135,7 +135,7 @@ tick_course u now new e c = subst (λ (r : RequestsState). IsCourse (with_record
 pub goes_on_from : (u : UploadState) (r : RequestsState) (new : UploadState) → GoesOn (with_record u r) r new → GoesOn u r new
 goes_on_from u r new g = elim g [
   | waits a e ↦ waits a e
-  | places p a b c d e ↦ places p a b c d e
+  | positions p a b c d e ↦ positions p a b c d e
   | ends s a b c e ↦ ends s a b c e
 ]
 
@@ -338,16 +338,16 @@ get_or-append_at : (before xs : List ℕ) (d : ℕ) → get_or (before ++ xs) (l
 get_or-append_at [] xs d = refl
 get_or-append_at (b ∷ bs) xs d = get_or-append_at bs xs d
 
--- all elements, by their places
-by_places : (xs before : List ℕ) → map (λ (p : ℕ). get_or (before ++ xs) p 0) (range_with_len (length before) (length xs)) ≡ xs
-by_places [] before = refl
-by_places (x ∷ xs) before =
+-- all elements, by their positions
+by_positions : (xs before : List ℕ) → map (λ (p : ℕ). get_or (before ++ xs) p 0) (range_with_len (length before) (length xs)) ≡ xs
+by_positions [] before = refl
+by_positions (x ∷ xs) before =
     let here : get_or (before ++ x ∷ xs) (length before) 0 ≡ x = get_or-append_at before (x ∷ xs) 0 in
     let len : length (before ++ x ∷ []) ≡ length before + 1 = length-append before (x ∷ []) in
     let shape : (before ++ x ∷ []) ++ xs ≡ before ++ x ∷ xs = append_assoc before (x ∷ []) xs in
     let rest : map (λ (p : ℕ). get_or (before ++ x ∷ xs) p 0) (range_with_len (length before + 1) (length xs)) ≡ xs =
     subst (λ (l : List ℕ). map (λ (p : ℕ). get_or l p 0) (range_with_len (length before + 1) (length xs)) ≡ xs) shape
-    (subst (λ (k : ℕ). map (λ (p : ℕ). get_or ((before ++ x ∷ []) ++ xs) p 0) (range_with_len k (length xs)) ≡ xs) len (by_places xs (before ++ x ∷ []))) in
+    (subst (λ (k : ℕ). map (λ (p : ℕ). get_or ((before ++ x ∷ []) ++ xs) p 0) (range_with_len k (length xs)) ≡ xs) len (by_positions xs (before ++ x ∷ []))) in
     ap (λ (q : ℕ). q ∷ map (λ (p : ℕ). get_or (before ++ x ∷ xs) p 0) (range_with_len (length before + 1) (length xs))) here ∙ ap (λ (l : List ℕ). x ∷ l) rest
 
 pub order_distinct : (index : List ℕ) (servers : List ServerInfo) (nodes : List ℕ) → AreInOrder index servers nodes → IsDistinct eqb (map (λ (s : ServerInfo). s.node) servers) → IsDistinct eqb nodes
@@ -355,8 +355,8 @@ order_distinct index servers nodes o d =
     let own : List ℕ = map (λ (s : ServerInfo). s.node) servers in
     let f : ℕ → ℕ = λ (p : ℕ). get_or own p 0 in
     let n : length own ≡ length servers = length-map servers (λ (s : ServerInfo). s.node) in
-    let all : map f (range_with_len 0 (length servers)) ≡ own = subst (λ (k : ℕ). map f (range_with_len 0 k) ≡ own) n (by_places own []) in
-    let moved : IsPermutation own nodes = subst (IsPermutation own) (sym o.nodes_are) (subst (λ (l : List ℕ). IsPermutation l (map f o.places)) all (IsPermutation-map f (range_with_len 0 (length servers)) o.places o.all)) in
+    let all : map f (range_with_len 0 (length servers)) ≡ own = subst (λ (k : ℕ). map f (range_with_len 0 k) ≡ own) n (by_positions own []) in
+    let moved : IsPermutation own nodes = subst (IsPermutation own) (sym o.nodes_are) (subst (λ (l : List ℕ). IsPermutation l (map f o.positions)) all (IsPermutation-map f (range_with_len 0 (length servers)) o.positions o.all)) in
     IsDistinct-IsPermutation eqb nat_eq_equiv.symm own nodes moved d
 
 pub nil_of : {X : Type 0} (xs : List X) → length xs ≡ 0 → xs ≡ []

@@ -22,7 +22,7 @@ use Rattle.upload_core.specs.Transfers.{failed_servers, has_failed}
 use Rattle.upload_core.specs.Rounds.{HasEnough, IsHopeless, IsOver, IsPlacing, IsSettled, IsUnhappy, Placing, answered_as, has_answered_as, has_failed_since, readonly_servers, transfers_of, writable_servers}
 use Rattle.upload_core.specs.Course.{CanGoOn, IsOfRound, IsOfTold, IsRound, asked_servers}
 use Rattle.upload_core.specs.Trails.{AreFollowed, by_answer, by_failure, by_waiting}
-use Rattle.upload_core.proofs.Lists.{all_of, contains_at, from_flat, get_either, place_of, to_flat}
+use Rattle.upload_core.proofs.Lists.{all_of, contains_at, from_flat, get_either, position_of, to_flat}
 use Rattle.upload_core.proofs.Servers.{answered_ask}
 use Rattle.upload_core.proofs.Acked.{outcome_acked}
 use Rattle.upload_core.proofs.Counts.{quiet_of}
@@ -63,7 +63,7 @@ module _ (g : Goal) where
                 let told : Contains (answered_as false before) s = subst (Contains (answered_as false before)) a.2 (from_member (answered_as false before) a.0.server (member_map (λ (y : Request). y.server) (filter (has_answered_as false) before) a.0 (Contains-filter (has_answered_as false) before a.0 front f.1))) in
                 Contains-filter (λ (y : ℕ). not (is_member eqb (failed_servers g before) y)) (answered_as false before) s told (open_of (is_member eqb (failed_servers g before) s) (λ h. not_both (is_member eqb (failed_servers g es) s) (member_from (failed_servers g es) s (failed_more s (from_member (failed_servers g before) s h))) k.1)))
             | inr back ↦ (
-                let at = place_of since a.0 back in
+                let at = position_of since a.0 back in
                 absurd (true≢false (sym (answered_ask false a.0 f.1) ∙ (of_it at.0 a.0 at.1).1)))
           ]
         where
@@ -80,7 +80,7 @@ module _ (g : Goal) where
             | inl front ↦ Contains-append_left (acked_pairs g before) grid q front
             | inr back ↦ (
                 let f = from_flat (acked_by g) since q back in
-                let at = place_of since f.0 f.1 in
+                let at = position_of since f.0 f.1 in
                 let o = All-contains (λ (p : Pair). (p.0 ≡ f.0.server) × (p.1 < n)) (acked_by g f.0) q (outcome_acked g f.0.server f.0.asked f.0.outcome) f.2 in
                 let server : Contains (writable_servers g before) q.0 = subst (Contains (writable_servers g before)) (sym o.0) (of_it at.0 f.0 at.1).0 in
                 Contains-append_right (acked_pairs g before) grid q (product_has (writable_servers g before) (shares_below n) q.0 q.1 server (range_has 0 n q.1 (omega arith) (omega (arith, o.1)))))

@@ -18,7 +18,7 @@ use Rattle.upload_core.specs.Transfers.{failed_servers, has_failed}
 use Rattle.upload_core.specs.Rounds.{IsSettled, answered_as, readonly_servers, writable_servers}
 use Rattle.upload_core.specs.Course.{MayPlace}
 use Rattle.upload_core.specs.Trails.{AreFollowed, IsNew, by_answer, by_failure, by_waiting}
-use Rattle.upload_core.proofs.Lists.{all_of, contains_at, place_of, to_flat}
+use Rattle.upload_core.proofs.Lists.{all_of, contains_at, position_of, to_flat}
 use Rattle.upload_core.proofs.Counts.{quiet_of}
 use Rattle.upload_core.proofs.Servers.{writable_told}
 
@@ -39,9 +39,9 @@ false_of b h k = not_both b k h
 spread_from : (w : List ℕ) (assigned : List Pair) (shares : List ℕ) (leftovers : List Pair) (unplaced : List ℕ) → Spreads w assigned shares leftovers unplaced → (q : Pair) → Contains leftovers q → Contains w q.0 × Contains shares q.1
 spread_from [] assigned shares leftovers unplaced s q c = absurd (Contains-nil q (subst (λ (l : List Pair). Contains l q) s.0 c))
 spread_from (x ∷ xs) assigned shares leftovers unplaced s q c =
-    let at = place_of leftovers q c in
+    let at = position_of leftovers q c in
     let l : IsLeastLoaded (x ∷ xs) (assigned ++ take at.0 leftovers) q.0 = s.0.least at.0 q.0 q.1 at.1 in (
-      contains_at (x ∷ xs) l.place q.0 l.is,
+      contains_at (x ∷ xs) l.position q.0 l.is,
       subst (λ (hs : List ℕ). Contains hs q.1) s.0.each (has_share leftovers q c),
     )
 

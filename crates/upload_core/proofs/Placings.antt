@@ -23,7 +23,7 @@ use Rattle.upload_core.specs.Rounds.{IsPlacing, IsSettled, Placing, readonly_ser
 use Rattle.upload_core.specs.Moves.{all_follow_ups, follow_ups_at}
 use Rattle.upload_core.specs.Course.{HasTrail, IsInside, IsOfRound, IsOfTold, IsRound, allocations, asked_servers, has_told, is_holdings, is_told}
 use Rattle.upload_core.specs.Trails.{share_of}
-use Rattle.upload_core.proofs.Lists.{contains_at, from_flat, get_either, get_front, get_mapped, place_of}
+use Rattle.upload_core.proofs.Lists.{contains_at, from_flat, get_either, get_front, get_mapped, position_of}
 use Rattle.upload_core.proofs.Follow.{follow_onward}
 use Rattle.upload_core.proofs.Records.{Goes, becomes_goes, was_goes}
 use Rattle.upload_core.proofs.Servers.{servers_distinct}
@@ -96,20 +96,20 @@ module _ (g : Goal) (round : ℕ) where
   next_of_it before now asked next ask of_it server share is =
       subst (IsOfRound g before) is (subst (Contains (writable_servers g before)) server of_it.0, share)
 
-  pub round_message : (from : ℕ) (m : Message) (now : ℕ) (r : RequestsState) (place : ℕ) → counts_at from m r ≡ Some place → All (λ (q : Request). IsInside g q.asked) r.entries → IsRound g round r.entries
-      → IsRound g round (asked_all (follow_ups_at g (slice_get (after_message from m now r).entries place)) (after_message from m now r)).entries
-  round_message from m now r place counts inside k =
+  pub round_message : (from : ℕ) (m : Message) (now : ℕ) (r : RequestsState) (position : ℕ) → counts_at from m r ≡ Some position → All (λ (q : Request). IsInside g q.asked) r.entries → IsRound g round r.entries
+      → IsRound g round (asked_all (follow_ups_at g (slice_get (after_message from m now r).entries position)) (after_message from m now r)).entries
+  round_message from m now r position counts inside k =
       let after : RequestsState = after_message from m now r in
-      let asks : List (ℕ × Asked) = follow_ups_at g (slice_get after.entries place) in
+      let asks : List (ℕ × Asked) = follow_ups_at g (slice_get after.entries position) in
       subst (IsRound g round) (sym (entries_all asks after)) (round_step g round r.entries k after.entries (message_goes from m now r) (map (new_of after.clock) asks) (λ i q e.
-      let a = counts_is from m r place counts in
+      let a = counts_is from m r position counts in
       let n = get_mapped (new_of after.clock) asks i q e in
-      let by = asked_after g (slice_get after.entries place) n.0 (contains_at asks i n.0 n.1) in
-      let w = was_goes r.entries after.entries (message_goes from m now r) place by.0 by.1 in
+      let by = asked_after g (slice_get after.entries position) n.0 (contains_at asks i n.0 n.1) in
+      let w = was_goes r.entries after.entries (message_goes from m now r) position by.0 by.1 in
       let one : Some a.request ≡ Some w.request = sym a.there ∙ w.there in
       let same : a.request ≡ w.request = cc in
-      let within : IsInside g by.0.asked = subst (IsInside g) (sym w.same.asked) (inside_at g r.entries place w.request inside w.there) in
-      next_of_it k.before after.clock a.request q n.0 (waiting_of_it g round r.entries k place a.request a.there a.waits) (ap (λ (x : Request). x.server) same ∙ sym w.same.server ∙ by.3) (follow_onward g by.0 n.0.1 within by.2).good.share n.2))
+      let within : IsInside g by.0.asked = subst (IsInside g) (sym w.same.asked) (inside_at g r.entries position w.request inside w.there) in
+      next_of_it k.before after.clock a.request q n.0 (waiting_of_it g round r.entries k position a.request a.there a.waits) (ap (λ (x : Request). x.server) same ∙ sym w.same.server ∙ by.3) (follow_onward g by.0 n.0.1 within by.2).good.share n.2))
 
   pub round_tick : (now : ℕ) (r : RequestsState) → All (λ (q : Request). IsInside g q.asked) r.entries → IsRound g round r.entries
       → IsRound g round (asked_all (all_follow_ups g (after_tick now r).entries (lost_by_tick now r)) (after_tick now r)).entries
@@ -196,5 +196,5 @@ round_placed u r p settled is once of_told =
 
     begun : (len : ℕ) (p : Placing) (pair : Pair) → Contains p.m3 pair → HasTrail (map (new_of r.clock) (allocations len (p.m3 ++ p.leftovers))) pair
     begun len p pair c =
-        let at = place_of p.m3 pair c in
+        let at = position_of p.m3 pair c in
         (at.0, first_request pair.0 (Allocation pair.1 len) r.clock, get_map len (p.m3 ++ p.leftovers) at.0 pair (get_front p.m3 p.leftovers at.0 pair at.1), (refl, refl))

@@ -20,7 +20,7 @@ use Rattle.upload_core.specs.Trails.{AreTrails, GoesFurther, IsAbout, IsBefore, 
 use Rattle.placement.specs.Matching.{Pair}
 use Rattle.std.proofs.lemmas.Bool.{cases_lt, or_left, or_right}
 use Rattle.std.proofs.lemmas.Option.{slice_get_within}
-use Rattle.lemmas.proofs.Places.{get_last, get_push}
+use Rattle.lemmas.proofs.Positions.{get_last, get_push}
 use Rattle.lemmas.proofs.Bools.{both}
 use Rattle.upload_core.proofs.Follow.{IsGood}
 
@@ -93,14 +93,14 @@ pub goes_ticked : (now : ℕ) (es : List Request) → Goes es (map (ticked_one n
 goes_ticked now [] = tt
 goes_ticked now (r ∷ rs) = (same_ticked now r, goes_ticked now rs)
 
-pub goes_settled : (es : List Request) (place : ℕ) (r : Request) (body : Body) → slice_get es place ≡ Some r → is_outstanding r.outcome ≡ true → Goes es (slice_set es place (with_outcome r (Answered body)))
-goes_settled [] place r body e w = absurd cc
+pub goes_settled : (es : List Request) (position : ℕ) (r : Request) (body : Body) → slice_get es position ≡ Some r → is_outstanding r.outcome ≡ true → Goes es (slice_set es position (with_outcome r (Answered body)))
+goes_settled [] position r body e w = absurd cc
 goes_settled (q ∷ qs) zero r body e w =
     let same : q ≡ r = cc in
     (subst (λ (x : Request). IsSame x (with_outcome r (Answered body))) (sym same) (same_settled r (Answered body) refl w), goes_refl qs)
-goes_settled (q ∷ qs) (suc place) r body e w = (same_refl q, goes_settled qs place r body e w)
+goes_settled (q ∷ qs) (suc position) r body e w = (same_refl q, goes_settled qs position r body e w)
 
--- the request that was at a place
+-- the request that was at a position
 pub record Was (es : List Request) (i : ℕ) (n : Request) : Type 0 where
   pub request : Request
   pub there : slice_get es i ≡ Some request
@@ -113,7 +113,7 @@ was_goes (r ∷ rs) [] g i n e = absurd g
 was_goes (r ∷ rs) (m ∷ ms) g zero n e = let is : m ≡ n = cc in record { request = r; there = refl; same = subst (IsSame r) is g.0 }
 was_goes (r ∷ rs) (m ∷ ms) g (suc i) n e = let w = was_goes rs ms g.1 i n e in record { request = w.request; there = w.there; same = w.same }
 
--- the request that is at a place now
+-- the request that is at a position now
 pub record Becomes (ns : List Request) (i : ℕ) (r : Request) : Type 0 where
   pub request : Request
   pub there : slice_get ns i ≡ Some request

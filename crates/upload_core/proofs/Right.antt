@@ -19,7 +19,7 @@ use Rattle.upload_core.specs.declared.pieces.PieceFault.{PieceFault}
 use Rattle.upload_core.specs.declared.pieces.PieceFault.TheVariants.{OutOfMemory}
 use Rattle.upload_core.specs.State.{Goal, UploadState, with_record}
 use Rattle.upload_core.specs.Right.{IsRight}
-use Rattle.upload_core.specs.Moves.{Advances, AdvancesAt, Begins, FailsAt, GoesOn, Stops, StopsAt, TicksOn, TicksWith, all_follow_ups, at_once, ends, follow_ups_at, initial, later, places, waits}
+use Rattle.upload_core.specs.Moves.{Advances, AdvancesAt, Begins, FailsAt, GoesOn, Stops, StopsAt, TicksOn, TicksWith, all_follow_ups, at_once, ends, follow_ups_at, initial, later, positions, waits}
 use Rattle.upload_core.specs.Course.{CanGoOn, IsCourse, IsInside, IsKept, IsRound, Stands, asked_servers, is_holdings}
 use Rattle.upload_core.specs.Trails.{AreFollowed, rank_of, share_of}
 use Rattle.upload_core.proofs.Followed.{inside_at, followed_message, followed_placed, followed_tick}
@@ -104,7 +104,7 @@ once_of u c i j a b lt first second servers = apart_of u.goal a.asked b.asked in
 can_go : (u : UploadState) (r : RequestsState) (new : UploadState) → GoesOn u r new → IsCourse new → CanGoOn (with_record u r) → CanGoOn new
 can_go u r new g course can = elim g [
   | waits unsettled e ↦ subst CanGoOn (sym e) can
-  | places p settled to placing some e ↦ (
+  | positions p settled to placing some e ↦ (
       let c = subst IsCourse e course in
       subst CanGoOn (sym e) (record {
         followed = followed_placed u.goal u.goal.share_length (p.m3 ++ p.leftovers) r can.followed;
@@ -129,12 +129,12 @@ begins_moves : (goal : Goal) (happy : ℕ) (servers : List ServerInfo) (session 
 begins_moves goal happy servers session now u b course = goes_moves (initial goal happy u.servers session now) (begun u.servers session now) u refl course (record { followed = followed_begun goal session now u.servers; rounds = inl refl }) b.goes
 
 module _ (from : ℕ) (m : Message) (now : ℕ) (old new : UploadState) (stands : Stands old) (kept : IsKept old) (course : IsCourse new) where
-  message_can : (place : ℕ) → counts_at from m old.requests ≡ Some place → CanGoOn old → CanGoOn (with_record old (asked_all (follow_ups_at old.goal (slice_get (after_message from m now old.requests).entries place)) (after_message from m now old.requests)))
-  message_can place e can = record {
-    followed = followed_message old.goal from m now old.requests place e kept.course.inside can.followed;
+  message_can : (position : ℕ) → counts_at from m old.requests ≡ Some position → CanGoOn old → CanGoOn (with_record old (asked_all (follow_ups_at old.goal (slice_get (after_message from m now old.requests).entries position)) (after_message from m now old.requests)))
+  message_can position e can = record {
+    followed = followed_message old.goal from m now old.requests position e kept.course.inside can.followed;
     rounds = elim can.rounds [
       | inl first ↦ inl first
-      | inr k ↦ inr (round_message old.goal old.round from m now old.requests place e kept.course.inside k)
+      | inr k ↦ inr (round_message old.goal old.round from m now old.requests position e kept.course.inside k)
     ];
   }
 
@@ -155,7 +155,7 @@ module _ (from : ℕ) (m : Message) (now : ℕ) (old new : UploadState) (stands 
               rounds = subst (λ (es : List Request). (old.round ≡ 0) ⊎ IsRound old.goal old.round es) (sym same) can.rounds;
             };
           })
-      by running (Some place) e goes = goes_moves old _ new running course (message_can place e (kept.going running)) goes
+      by running (Some position) e goes = goes_moves old _ new running course (message_can position e (kept.going running)) goes
 
 module _ (now : ℕ) (old new : UploadState) (stands : Stands old) (kept : IsKept old) (course : IsCourse new) where
   abbrev after : RequestsState

@@ -31,18 +31,18 @@ over_or_awaited Outstanding c w = absurd cc
 over_or_awaited (Answered body) c w = absurd cc
 over_or_awaited Lost c w = absurd cc
 
-runs_where_asked : (u : UploadState) (place : ℕ) (r : Request) → IsKept u → IsRecord u.requests → first_to_send u ≡ Some place → slice_get u.requests.entries place ≡ Some r → is_transfer r.asked ≡ true
+runs_where_asked : (u : UploadState) (position : ℕ) (r : Request) → IsKept u → IsRecord u.requests → first_to_send u ≡ Some position → slice_get u.requests.entries position ≡ Some r → is_transfer r.asked ≡ true
     → u.status ≡ Running
-runs_where_asked u place r kept recorded first there transfer = by u.status refl first
+runs_where_asked u position r kept recorded first there transfer = by u.status refl first
   where
-    over : has_ended u.status ≡ true → slice_get u.requests.outgoing 0 ≡ Some place → ⊥
+    over : has_ended u.status ≡ true → slice_get u.requests.outgoing 0 ≡ Some position → ⊥
     over ended next =
-        let quiet = quiet_of u.requests.entries (kept.stands.settled ended) place r there in
-        let current : is_current_in (slice_get u.requests.entries place) ≡ true = all_at (λ p. is_current_in (slice_get u.requests.entries p) ≡ true) u.requests.outgoing 0 place recorded.current next in
+        let quiet = quiet_of u.requests.entries (kept.stands.settled ended) position r there in
+        let current : is_current_in (slice_get u.requests.entries position) ≡ true = all_at (λ p. is_current_in (slice_get u.requests.entries p) ≡ true) u.requests.outgoing 0 position recorded.current next in
         let unawaited = over_or_awaited r.outcome (subst (λ (o : Option Request). is_current_in o ≡ true) there current) quiet in
-        true≢false (sym unawaited ∙ all_at IsWaitedFor u.requests.entries place r kept.course.waited there transfer)
+        true≢false (sym unawaited ∙ all_at IsWaitedFor u.requests.entries position r kept.course.waited there transfer)
 
-    by : (s : UploadStatus) → u.status ≡ s → first_of s u.requests.outgoing ≡ Some place → u.status ≡ Running
+    by : (s : UploadStatus) → u.status ≡ s → first_of s u.requests.outgoing ≡ Some position → u.status ≡ Running
     by Running e f = e
     by (Happy pairs) e f = absurd (over (ap has_ended e) f)
     by (Unhappy reached blocking) e f = absurd (over (ap has_ended e) f)
@@ -56,13 +56,13 @@ faults_transfer fails old new (Closing share) fault f = absurd f
 faults_transfer fails old new (Reading share offset len) fault f = absurd f
 faults_transfer fails old new (Aborting share) fault f = absurd f
 
-module _ {P : Type 0} (gives : P → ℕ → ℕ → List ℕ → P → Type 0) (fails : P → ℕ → ℕ → ℕ → PieceFault → P → Type 0) (old mid : Uploading P) (place server : ℕ) (asked : Asked) (told : Result Body PieceFault)
-    (first : first_to_send old.course ≡ Some place) (asks : AsksAt old.course place server asked) (body : IsBody gives fails old.course.goal.cap.storage_index old.pieces asked told mid.pieces) (same : mid.course ≡ old.course) where
-  pub sends_first : (b : Body) (m : Message) (new : UploadState) → told ≡ Ok b → m ≡ message_at place b mid.course.requests → new ≡ with_record mid.course (one_sent mid.course.requests) → Takes gives fails old (Some (server, m)) (record { pieces = mid.pieces; course = new })
+module _ {P : Type 0} (gives : P → ℕ → ℕ → List ℕ → P → Type 0) (fails : P → ℕ → ℕ → ℕ → PieceFault → P → Type 0) (old mid : Uploading P) (position server : ℕ) (asked : Asked) (told : Result Body PieceFault)
+    (first : first_to_send old.course ≡ Some position) (asks : AsksAt old.course position server asked) (body : IsBody gives fails old.course.goal.cap.storage_index old.pieces asked told mid.pieces) (same : mid.course ≡ old.course) where
+  pub sends_first : (b : Body) (m : Message) (new : UploadState) → told ≡ Ok b → m ≡ message_at position b mid.course.requests → new ≡ with_record mid.course (one_sent mid.course.requests) → Takes gives fails old (Some (server, m)) (record { pieces = mid.pieces; course = new })
   sends_first b m new is is-message sent =
-      sends place server asked b first asks
+      sends position server asked b first asks
       (subst (λ (t : Result Body PieceFault). IsBody gives fails old.course.goal.cap.storage_index old.pieces asked t mid.pieces) is body)
-      (ap (λ (x : Message). Some (server, x)) (is-message ∙ ap (λ (u : UploadState). message_at place b u.requests) same))
+      (ap (λ (x : Message). Some (server, x)) (is-message ∙ ap (λ (u : UploadState). message_at position b u.requests) same))
       (sent ∙ ap (λ (u : UploadState). with_record u (one_sent u.requests)) same)
 
   pub ceases_now : (fault : PieceFault) (new : UploadState) → IsKept old.course → IsRecord old.course.requests → told ≡ Err fault → new ≡ record mid.course { status = Failed fault } → Takes gives fails old None (record { pieces = mid.pieces; course = new })
@@ -70,6 +70,6 @@ module _ {P : Type 0} (gives : P → ℕ → ℕ → List ℕ → P → Type 0) 
       let faults : Faults fails old.pieces asked fault mid.pieces = subst (λ (t : Result Body PieceFault). IsBody gives fails old.course.goal.cap.storage_index old.pieces asked t mid.pieces) is body in
       let request : Request = asks.0 in
       let transfer : is_transfer request.asked ≡ true = ap is_transfer asks.3 ∙ faults_transfer fails old.pieces mid.pieces asked fault faults in
-      ceases place server asked fault (runs_where_asked old.course place request kept recorded first asks.1 transfer) first asks faults
+      ceases position server asked fault (runs_where_asked old.course position request kept recorded first asks.1 transfer) first asks faults
       refl
       (ended ∙ ap (λ (u : UploadState). record u { status = Failed fault }) same)

@@ -15,7 +15,7 @@ use Rattle.upload_core.specs.Course.{CanGoOn, IsCourse, Stands}
 use Rattle.upload_core.proofs.Counts.{count_allocations}
 use Rattle.upload_core.proofs.Hopeless.{hopeless_end}
 use Rattle.upload_core.specs.declared.status.ServerInfo.{ServerInfo}
-use Rattle.upload_core.specs.Moves.{AreInOrder, Begins, GoesOn, ends, initial, places, waits}
+use Rattle.upload_core.specs.Moves.{AreInOrder, Begins, GoesOn, ends, initial, positions, waits}
 
 ends_running : (g : Goal) (happy : ℕ) (es : List Request) (s : UploadStatus) → EndsAs g happy es s → s ≡ Running → ⊥
 ends_running g happy es s e is = subst (EndsAs g happy es) is e
@@ -61,7 +61,7 @@ waits_stands u r running more = record {
 pub goes_stand : (u : UploadState) (r : RequestsState) (new : UploadState) → u.status ≡ Running → IsCourse new → CanGoOn (with_record u r) → GoesOn u r new → Stands new
 goes_stand u r new running course can g = elim g [
   | waits unsettled e ↦ subst Stands (sym e) (waits_stands u r running (by (outstanding_count r.entries) refl unsettled))
-  | places p settled to placing some e ↦ (
+  | positions p settled to placing some e ↦ (
       let more : 0 < length (p.m3 ++ p.leftovers) = some_of (λ (pair : Pair). (pair.0, Allocation pair.1 u.goal.share_length)) (p.m3 ++ p.leftovers) some in
       let count = count_allocations u.goal.share_length (p.m3 ++ p.leftovers) r in
       subst Stands (sym e) (record {
@@ -110,7 +110,7 @@ record IsFor (u new : UploadState) : Type 0 where
 goes_for : (u : UploadState) (r : RequestsState) (new : UploadState) → GoesOn u r new → IsFor u new
 goes_for u r new g = elim g [
   | waits unsettled e ↦ subst (IsFor u) (sym e) (record { goal = refl; happy = refl; servers = refl })
-  | places p settled to placing some e ↦ subst (IsFor u) (sym e) (record { goal = refl; happy = refl; servers = refl })
+  | positions p settled to placing some e ↦ subst (IsFor u) (sym e) (record { goal = refl; happy = refl; servers = refl })
   | ends status settled over so e ↦ subst (IsFor u) (sym e) (record { goal = refl; happy = refl; servers = refl })
 ]
 

@@ -12,7 +12,7 @@ use Rattle.upload_core.specs.Transfers.{failed_servers}
 abbrev servers_where : (Request → Bool) → List Request → List ℕ
 servers_where test es = map (λ (r : Request). r.server) (filter test es)
 
--- what is noted, with what the entries from a place on tell, is what all tell
+-- what is noted, with what the entries from a position on tell, is what all tell
 pub record AreTold {E : Type 0} (request : E → Request) (g : Goal) (es : List E) (i : ℕ) (t : Told) : Type 0 where
   pub failed : t.failed.items ++ failed_servers g (map request (drop i es)) ≡ failed_servers g (map request es)
   pub taking : t.taking.items ++ answered_as false (map request (drop i es)) ≡ answered_as false (map request es)

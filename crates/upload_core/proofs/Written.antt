@@ -95,7 +95,7 @@ readonly_kept g es =
     ∙ ap (λ (l : List ℕ). answered_as true es ++ filter (λ (s : ℕ). is_member eqb l s) (answered_as false (kept_of es))) (failed_kept g es)
     ∙ ap (λ (l : List ℕ). answered_as true es ++ filter (λ (s : ℕ). is_member eqb (failed_servers g es) s) l) (answered_kept false es)
 
--- ---- what is in memory at a place
+-- ---- what is in memory at a position
 
 waiting_unwritten : (a : Asked) (o : Outcome) → is_outstanding o ≡ true → wrote_all a o ≡ false
 waiting_unwritten Holdings o w = refl
@@ -107,15 +107,15 @@ waiting_unwritten (Reading share offset len) o w = refl
 waiting_unwritten (Aborting share) o w = refl
 
 -- what was not written is in memory
-unwritten_kept : (es : List Request) (place : ℕ) (r : Request) → slice_get es place ≡ Some r → is_written r ≡ false → IsKeptAt es place
-unwritten_kept es place r there w = subst (λ (o : Option Request). IsSome (kept o)) (sym there) (by (is_written r) w)
+unwritten_kept : (es : List Request) (position : ℕ) (r : Request) → slice_get es position ≡ Some r → is_written r ≡ false → IsKeptAt es position
+unwritten_kept es position r there w = subst (λ (o : Option Request). IsSome (kept o)) (sym there) (by (is_written r) w)
   where
     by : (b : Bool) → b ≡ false → IsSome (cond b None (Some r))
     by true e = absurd (true≢false e)
     by false e = search rules
 
-pub waiting_kept : (es : List Request) (place : ℕ) (r : Request) → slice_get es place ≡ Some r → is_outstanding r.outcome ≡ true → IsKeptAt es place
-waiting_kept es place r there w = unwritten_kept es place r there (waiting_unwritten r.asked r.outcome w)
+pub waiting_kept : (es : List Request) (position : ℕ) (r : Request) → slice_get es position ≡ Some r → is_outstanding r.outcome ≡ true → IsKeptAt es position
+waiting_kept es position r there w = unwritten_kept es position r there (waiting_unwritten r.asked r.outcome w)
 
 lost_unwritten : (a : Asked) → wrote_all a Lost ≡ false
 lost_unwritten Holdings = refl
@@ -125,5 +125,5 @@ lost_unwritten (Closing share) = refl
 lost_unwritten (Reading share offset len) = refl
 lost_unwritten (Aborting share) = refl
 
-pub lost_kept : (es : List Request) (place : ℕ) → IsLostAt es place → IsKeptAt es place
-lost_kept es place l = unwritten_kept es place l.request l.there (ap (wrote_all l.request.asked) l.lost ∙ lost_unwritten l.request.asked)
+pub lost_kept : (es : List Request) (position : ℕ) → IsLostAt es position → IsKeptAt es position
+lost_kept es position l = unwritten_kept es position l.request l.there (ap (wrote_all l.request.asked) l.lost ∙ lost_unwritten l.request.asked)

@@ -30,12 +30,12 @@ placed u r p =
 -- An upload goes on from a record: it waits, places shares, or ends.
 pub data GoesOn (u : UploadState) (r : RequestsState) (new : UploadState) : Type 0 where
   waits : (IsSettled r.entries → ⊥) → new ≡ with_record u r → GoesOn u r new
-  places : (p : Placing) → IsSettled r.entries → IsToPlace u r → IsPlacing u.goal r.entries p
+  positions : (p : Placing) → IsSettled r.entries → IsToPlace u r → IsPlacing u.goal r.entries p
       → transfers_of u.goal p ≢ [] → new ≡ placed u r p → GoesOn u r new
   ends : (status : UploadStatus) → IsSettled r.entries → IsOver u r
       → EndsAs u.goal u.happy r.entries status → new ≡ ended u r status → GoesOn u r new
 
--- what is asked of a server at once after its request at a place was answered or lost
+-- what is asked of a server at once after its request at a position was answered or lost
 abbrev pub asks_after : Request → Option Asked → List (ℕ × Asked)
 asks_after r None = []
 asks_after r (Some asked) = (r.server, asked) ∷ []
@@ -52,8 +52,8 @@ all_follow_ups g entries lost =
 -- upload ended.
 abbrev pub AdvancesAt : Option ℕ → RequestsState → UploadState → UploadState → Type 0
 AdvancesAt None r old new = new ≡ with_record old r
-AdvancesAt (Some place) r old new =
-    GoesOn old (asked_all (follow_ups_at old.goal (slice_get r.entries place)) r) new
+AdvancesAt (Some position) r old new =
+    GoesOn old (asked_all (follow_ups_at old.goal (slice_get r.entries position)) r) new
 
 pub record Advances (from : ℕ) (m : Message) (now : ℕ) (old new : UploadState) : Type 0 where
   pub running : old.status ≡ Running
@@ -91,17 +91,17 @@ pub record StopsAt (now : ℕ) (old new : UploadState) : Type 0 where
   pub running : old.status ≡ Running → FailsAt now old new
   pub ended : old.status ≢ Running → new ≡ old
 
--- the node of the server at a place
+-- the node of the server at a position
 abbrev pub node_at : List ServerInfo → ℕ → ℕ
-node_at servers place = slice_index_or (map (λ (s : ServerInfo). s.node) servers) place 0
+node_at servers position = slice_index_or (map (λ (s : ServerInfo). s.node) servers) position 0
 
 -- the nodes of the servers, in the order of the file
 pub record AreInOrder (index : List ℕ) (servers : List ServerInfo) (nodes : List ℕ) : Type 0 where
-  pub places : List ℕ
-  pub all : IsPermutation (range_with_len 0 (length servers)) places
+  pub positions : List ℕ
+  pub all : IsPermutation (range_with_len 0 (length servers)) positions
   pub ranked : AllPairs
-      (λ i j. rank_cmp index (map (λ (s : ServerInfo). s.id) servers) i j ≡ Less) places
-  pub nodes_are : nodes ≡ map (node_at servers) places
+      (λ i j. rank_cmp index (map (λ (s : ServerInfo). s.id) servers) i j ≡ Less) positions
+  pub nodes_are : nodes ≡ map (node_at servers) positions
 
 -- a running upload that has asked these servers which shares they hold
 abbrev pub initial : Goal → ℕ → List ℕ → ℕ → ℕ → UploadState

@@ -24,14 +24,14 @@ first_of (Happy pairs) outgoing = slice_get outgoing 0
 first_of (Unhappy reached blocking) outgoing = slice_get outgoing 0
 first_of (Failed fault) outgoing = None
 
--- the place of the request that is sent next
+-- the position of the request that is sent next
 abbrev pub first_to_send : UploadState → Option ℕ
 first_to_send u = first_of u.status u.requests.outgoing
 
--- the request at a place asks this of a server
+-- the request at a position asks this of a server
 abbrev pub AsksAt : UploadState → ℕ → ℕ → Asked → Type 0
-AsksAt u place server asked =
-    (r : Request) × (slice_get u.requests.entries place ≡ Some r)
+AsksAt u position server asked =
+    (r : Request) × (slice_get u.requests.entries position ≡ Some r)
     × (r.server ≡ server) × (r.asked ≡ asked)
 
 -- A request is told by a body: a Write's bytes are those that the pieces gave.
@@ -61,14 +61,14 @@ pub data Takes {P : Type 0} (gives : P → ℕ → ℕ → List ℕ → P → Ty
     (taken : Option (ℕ × Message)) (new : Uploading P) : Type 0 where
   nothing : first_to_send old.course ≡ None → taken ≡ None → new ≡ old
       → Takes gives fails old taken new
-  ceases : (place server : ℕ) (asked : Asked) (fault : PieceFault)
+  ceases : (position server : ℕ) (asked : Asked) (fault : PieceFault)
       → old.course.status ≡ Running
-      → first_to_send old.course ≡ Some place → AsksAt old.course place server asked
+      → first_to_send old.course ≡ Some position → AsksAt old.course position server asked
       → Faults fails old.pieces asked fault new.pieces → taken ≡ None
       → new.course ≡ record old.course { status = Failed fault } → Takes gives fails old taken new
-  sends : (place server : ℕ) (asked : Asked) (body : Body)
-      → first_to_send old.course ≡ Some place → AsksAt old.course place server asked
+  sends : (position server : ℕ) (asked : Asked) (body : Body)
+      → first_to_send old.course ≡ Some position → AsksAt old.course position server asked
       → Tells gives old.course.goal.cap.storage_index old.pieces asked body new.pieces
-      → taken ≡ Some (server, message_at place body old.course.requests)
+      → taken ≡ Some (server, message_at position body old.course.requests)
       → new.course ≡ with_record old.course (one_sent old.course.requests)
       → Takes gives fails old taken new

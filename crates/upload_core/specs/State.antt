@@ -12,7 +12,7 @@ pub record Goal : Type 0 where
   pub share_length : ℕ
 
 -- `happy`: the happiness that is wanted. `servers`: all of them, in the order of the file. `round`:
--- the place of the first transfer of the last placing, 0 before the first.
+-- the position of the first transfer of the last placing, 0 before the first.
 pub record UploadState : Type 0 where
   pub goal : Goal
   pub happy : ℕ

@@ -56,18 +56,18 @@ GoesFurther g entries ask =
     (i : ℕ) (r : Request) (share : ℕ) → slice_get entries i ≡ Some r → IsAbout (ask.0, share) r
     → share_of ask.1 ≡ Some share → IsBefore g r ask.1
 
--- the request at this place waits no more, and is the last of its trail
-pub record IsAtEnd (entries : List Request) (place : ℕ) : Type 0 where
+-- the request at this position waits no more, and is the last of its trail
+pub record IsAtEnd (entries : List Request) (position : ℕ) : Type 0 where
   pub request : Request
-  pub there : slice_get entries place ≡ Some request
+  pub there : slice_get entries position ≡ Some request
   pub quiet : is_outstanding request.outcome ≡ false
-  pub last : (i : ℕ) (r : Request) (pair : Pair) → place < i → slice_get entries i ≡ Some r
+  pub last : (i : ℕ) (r : Request) (pair : Pair) → position < i → slice_get entries i ≡ Some r
       → IsAbout pair request → IsAbout pair r → ⊥
 
--- the request at this place was lost
-pub record IsLostAt (entries : List Request) (place : ℕ) : Type 0 where
+-- the request at this position was lost
+pub record IsLostAt (entries : List Request) (position : ℕ) : Type 0 where
   pub request : Request
-  pub there : slice_get entries place ≡ Some request
+  pub there : slice_get entries position ≡ Some request
   pub lost : request.outcome ≡ Lost
 
 -- what became of the transfer of a pair: its server failed, its share is acknowledged, or a request

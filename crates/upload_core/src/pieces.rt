@@ -30,13 +30,13 @@ pub trait Pieces {
 
     ghost share_length: { Self → ℕ };
 
-    /// It gave these bytes of a share from a place on.
+    /// It gave these bytes of a share from an offset on.
     ghost gives: { Self → ℕ → ℕ → List ℕ → Self → Type 0 };
 
     /// It gave none of so many bytes, for this fault.
     ghost fails: { Self → ℕ → ℕ → ℕ → PieceFault → Self → Type 0 };
 
-    /// Fills `out` with the bytes of a share from a place on. They lie in the share.
+    /// Fills `out` with the bytes of a share from an offset on. They lie in the share.
     fn piece(&mut self, share: u8, offset: u64, out: &mut [u8]) -> Result<(), PieceFault>
         requires number { share < length (digests self.old) }
         requires inside { offset + length out.old ≤ share_length self.old }
@@ -98,7 +98,7 @@ impl Pieces for WholeShares {
     }
 }
 
-// So many bytes of a share from a place on.
+// So many bytes of a share from an offset on.
 fn part_of(share: &[u8], offset: usize, len: usize) -> &[u8]
     requires { offset + len ≤ length share.now }
     ensures { result.now ≡ take len (drop offset share.now) }

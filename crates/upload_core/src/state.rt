@@ -26,7 +26,7 @@ pub(crate) struct Course {
     /// All of them, in the order of the file.
     pub(crate) servers: Vec<NodeId>,
     pub(crate) requests: Ledger,
-    /// The place of the first transfer of the last placing, 0 before the first.
+    /// The position of the first transfer of the last placing, 0 before the first.
     pub(crate) round: usize,
     pub(crate) status: UploadStatus,
 }
@@ -89,10 +89,10 @@ impl Course {
         matches!(self.status, UploadStatus::Running)
     }
 
-    /// The place of the first request to send. `None` too where the upload failed.
+    /// The position of the first request to send. `None` too where the upload failed.
     pub(crate) fn first(&self) -> Option<usize>
         ensures value { result ≡ first_to_send self.now }
-        ensures there { IfSome result (λ place. place < length self.now.requests.entries) }
+        ensures there { IfSome result (λ position. position < length self.now.requests.entries) }
         ensures kept { IfSome result (IsKeptAt self.now.requests.entries) }
         ensures recorded { IsRecord self.now.requests }
     {
@@ -103,13 +103,13 @@ impl Course {
         }
     }
 
-    /// The server of the request at a place, and what it asks.
-    pub(crate) fn request_at(&self, place: usize) -> (NodeId, Asked)
-        requires { IsKeptAt self.now.requests.entries place }
-        ensures value { AsksAt self.now place result.0 result.1 }
+    /// The server of the request at a position, and what it asks.
+    pub(crate) fn request_at(&self, position: usize) -> (NodeId, Asked)
+        requires { IsKeptAt self.now.requests.entries position }
+        ensures value { AsksAt self.now position result.0 result.1 }
         ensures inside { IsInside self.now.goal result.1 }
     {
-        let request = self.requests.request(place);
+        let request = self.requests.request(position);
         (request.server, request.asked)
     }
 
@@ -131,8 +131,8 @@ fn nodes_in_order(
         (λ nodes. AreInOrder goal.now.cap.storage_index servers.now nodes.items) }
 {
     let ids = ids_of(alloc, servers)?;
-    let places = order(alloc, goal.cap().storage_index(), &ids)?;
-    nodes_at(alloc, servers, &places)
+    let positions = order(alloc, goal.cap().storage_index(), &ids)?;
+    nodes_at(alloc, servers, &positions)
 }
 
 fn ids_of(alloc: Global, servers: &[ServerInfo]) -> Result<Vec<ServerId>, AllocError>
@@ -141,18 +141,18 @@ fn ids_of(alloc: Global, servers: &[ServerInfo]) -> Result<Vec<ServerId>, AllocE
     servers.iter().map(|server| server.id).collect(alloc)
 }
 
-// The nodes of the servers at these places.
+// The nodes of the servers at these positions.
 fn nodes_at(
     alloc: Global,
     servers: &[ServerInfo],
-    places: &[usize],
+    positions: &[usize],
 ) -> Result<Vec<NodeId>, AllocError>
-    requires { All (λ place. place < length servers.now) places.now }
-    ensures { IfOk result (λ nodes. nodes.items ≡ map (node_at servers.now) places.now) }
+    requires { All (λ position. position < length servers.now) positions.now }
+    ensures { IfOk result (λ nodes. nodes.items ≡ map (node_at servers.now) positions.now) }
 {
-    let mut nodes = Vec::with_capacity(alloc, places.len())?;
-    for place in places {
-        nodes.push(servers[*place].node)?;
+    let mut nodes = Vec::with_capacity(alloc, positions.len())?;
+    for position in positions {
+        nodes.push(servers[*position].node)?;
     }
     Ok(nodes)
 }

@@ -43,12 +43,12 @@ impl Course {
         ensures ended { self.old.status ≢ UploadStatus.Running → IsOk result }
         ensures goal { self.new.goal ≡ self.old.goal }
     {
-        let Some(place) = self.requests.counts_at(from, &message) else {
+        let Some(position) = self.requests.counts_at(from, &message) else {
             self.requests.pass(now);
             return Ok(());
         };
         // The record may let the request go once its answer is taken.
-        let next = follow_up(&self.goal, self.requests.request(place), &message.body);
+        let next = follow_up(&self.goal, self.requests.request(position), &message.body);
         self.requests.take_answer(from, message, now);
         if !self.is_running() {
             return Ok(());
@@ -86,13 +86,13 @@ impl Course {
     }
 
     /// The message of the first request to send, which is not to be sent any more.
-    pub(crate) fn send(&mut self, place: usize, body: Body) -> Message
-        requires first { first_to_send self.old ≡ Some place }
-        requires there { place < length self.old.requests.entries }
-        ensures message { result ≡ message_at place body self.old.requests }
+    pub(crate) fn send(&mut self, position: usize, body: Body) -> Message
+        requires first { first_to_send self.old ≡ Some position }
+        requires there { position < length self.old.requests.entries }
+        ensures message { result ≡ message_at position body self.old.requests }
         ensures sent { self.new ≡ with_record self.old (one_sent self.old.requests) }
     {
-        let message = self.requests.message_at(place, body);
+        let message = self.requests.message_at(position, body);
         self.requests.take_next();
         message
     }
@@ -112,36 +112,36 @@ impl Course {
         }
     }
 
-    // Asks what follows the loss of the request at a place.
-    fn follow(&mut self, place: usize) -> Result<(), AllocError>
-        requires lost { IsLostAt self.old.requests.entries place }
-        requires at_end { IsAtEnd self.old.requests.entries place }
+    // Asks what follows the loss of the request at a position.
+    fn follow(&mut self, position: usize) -> Result<(), AllocError>
+        requires lost { IsLostAt self.old.requests.entries position }
+        requires at_end { IsAtEnd self.old.requests.entries position }
         ensures ok { OnOk result (self.new ≡ with_record self.old (asked_all
-            (follow_ups_at self.old.goal (slice_get self.old.requests.entries place))
+            (follow_ups_at self.old.goal (slice_get self.old.requests.entries position))
             self.old.requests)) }
         ensures err { OnErr result (self.new ≡ self.old) }
         ensures goal { self.new.goal ≡ self.old.goal }
     {
-        let request = self.requests.request(place);
+        let request = self.requests.request(position);
         let server = request.server;
         let next = given_up(request.asked);
         self.ask_next(server, next)
     }
 
-    // Asks what follows the loss of the requests at these places.
-    fn follow_all(&mut self, places: &[usize]) -> Result<(), AllocError>
-        requires lost { All (IsLostAt self.old.requests.entries) places.now }
-        requires at_end { All (IsAtEnd self.old.requests.entries) places.now }
-        requires once { IsDistinct nat_eq places.now }
+    // Asks what follows the loss of the requests at these positions.
+    fn follow_all(&mut self, positions: &[usize]) -> Result<(), AllocError>
+        requires lost { All (IsLostAt self.old.requests.entries) positions.now }
+        requires at_end { All (IsAtEnd self.old.requests.entries) positions.now }
+        requires once { IsDistinct nat_eq positions.now }
         requires right { IsCourse self.old }
         ensures ok { OnOk result (self.new ≡ with_record self.old (asked_all
-            (all_follow_ups self.old.goal self.old.requests.entries places.now)
+            (all_follow_ups self.old.goal self.old.requests.entries positions.now)
             self.old.requests)) }
         ensures err { OnErr result (Stops self.old.requests self.old self.new) }
         ensures goal { self.new.goal ≡ self.old.goal }
     {
-        for place in places {
-            self.follow(*place)?;
+        for position in positions {
+            self.follow(*position)?;
         }
         Ok(())
     }

@@ -145,12 +145,12 @@ impl<P: Pieces + Drop> Operation for Upload<P> {
         ensures follows { Follows Nothing self.old.course.requests self.new.course.requests }
         ensures same { OnErr result (self.new ≡ self.old) }
     {
-        let Some(place) = self.course.first() else {
+        let Some(position) = self.course.first() else {
             return Ok(None);
         };
-        let (server, asked) = self.course.request_at(place);
+        let (server, asked) = self.course.request_at(position);
         match self.body_of(alloc, asked)? {
-            Ok(body) => Ok(Some((server, self.course.send(place, body)))),
+            Ok(body) => Ok(Some((server, self.course.send(position, body)))),
             Err(fault) => {
                 self.course.fail(fault);
                 Ok(None)

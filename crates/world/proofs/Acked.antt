@@ -15,7 +15,7 @@ use Rattle.share_store.specs.declared.shelf.ClosedShare.{ClosedShare}
 use Rattle.server_core.specs.Sound.{Tells, is_request}
 use Rattle.placement.specs.Matching.{Pair}
 use Rattle.request_record.specs.Asking.{Spells}
-use Rattle.world_operations.proofs.Places.{member_cases, member_here, member_none, member_there}
+use Rattle.world_operations.proofs.Positions.{member_cases, member_here, member_none, member_there}
 use Rattle.upload_core.specs.Acknowledged.{acked_answer, acked_held, acked_share}
 use Rattle.upload_core.specs.State.{Goal}
 

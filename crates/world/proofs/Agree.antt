@@ -51,8 +51,8 @@ by_download (Uploading u) p g = absurd g
 by_download (Checking c) p g = absurd g
 by_download (Gone number) p g = absurd g
 
-proved : (w : WorldState) → IsConsistent w → (cap : ReadCapValue) (place byte : ℕ) → (g : IsGiven w cap place byte) → IsProved w cap g.piece
-proved w c cap place byte g =
+proved : (w : WorldState) → IsConsistent w → (cap : ReadCapValue) (position byte : ℕ) → (g : IsGiven w cap position byte) → IsProved w cap g.piece
+proved w c cap position byte g =
     let fine = c.fine g.number g.operation g.at in
     let by = by_download g.operation.task g.piece (fine.given g.piece g.handed_out) in
     let d : DownloadState = by.download_is in
@@ -68,18 +68,18 @@ proved w c cap place byte g =
           (λ input hashed. download_among w g.number g.operation d input g.at by.task hashed) shown.given);
     }
 
-byte_of : (w : WorldState) (cap : ReadCapValue) (place byte : ℕ) → (g : IsGiven w cap place byte) → HasByte g.piece place byte
-byte_of w cap place byte g = record { offset = g.offset; place_is = g.place_is; byte_is = g.byte_is }
+byte_of : (w : WorldState) (cap : ReadCapValue) (position byte : ℕ) → (g : IsGiven w cap position byte) → HasByte g.piece position byte
+byte_of w cap position byte g = record { offset = g.offset; position_is = g.position_is; byte_is = g.byte_is }
 
 pub downloads_agree : (w : WorldState) → IsConsistent w → HasNoClash w → DownloadsAgree w
-downloads_agree w c no_clash cap place a b f g =
-    let first = proved w c cap place a f in
-    let second = proved w c cap place b g in
-    agree_in (IsHashed w) no_clash cap first.block second.block first.contents second.contents f.piece g.piece first.given second.given place a b
-    (byte_of w cap place a f) (byte_of w cap place b g)
+downloads_agree w c no_clash cap position a b f g =
+    let first = proved w c cap position a f in
+    let second = proved w c cap position b g in
+    agree_in (IsHashed w) no_clash cap first.block second.block first.contents second.contents f.piece g.piece first.given second.given position a b
+    (byte_of w cap position a f) (byte_of w cap position b g)
 
 pub files_are_given : (w : WorldState) → IsConsistent w → HasNoClash w → FilesAreGiven w
-files_are_given w c no_clash file secret p pairs place byte up given =
+files_are_given w c no_clash file secret p pairs position byte up given =
     let is_for = for_upload w up.number file secret p up.operation up.upload c up.upload_of in
     let may = is_for.may in
     let g = geometry_of (length file) p.needed p.total p.max_segment in
@@ -87,9 +87,9 @@ files_are_given w c no_clash file secret p pairs place byte up given =
     let u : Contents = extension_block_contents g ciphertext (segments_of g ciphertext) in
     let cap : ReadCapValue = (prepared_of file secret p).cap in
     let own = own_trees_are_within file secret (parameters_of p) in
-    let piece = proved w c cap place byte given in
+    let piece = proved w c cap position byte given in
     file_agrees_in (IsHashed w) no_clash cap (ueb_text u) piece.block u piece.contents ciphertext file given.piece
     (files_of_caps file secret (parameters_of p) (has_shape (length file) p may.chosen may.not_small may.encodable))
     (encoding_among w up.number up.operation file secret p _ up.upload_of.at up.upload_of.uploads is_for.one_key own.0)
     (λ input k. encoding_among w up.number up.operation file secret p input up.upload_of.at up.upload_of.uploads is_for.one_key (own.1 input k))
-    piece.given place byte (byte_of w cap place byte given)
+    piece.given position byte (byte_of w cap position byte given)

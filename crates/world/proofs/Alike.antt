@@ -18,18 +18,18 @@ use Rattle.world_operations.specs.declared.operation.Operation.{Operation}
 use Rattle.world_operations.specs.declared.task.Task.{Task}
 use Rattle.world_operations.specs.Follow.{IsRequestBy}
 use Rattle.world_operations.specs.Tasks.{index_of, requests_of}
-use Rattle.world_operations.proofs.Places.{same_some}
+use Rattle.world_operations.proofs.Positions.{same_some}
 use Rattle.world.specs.Consistent.{IsRequestOf, asked, gone, without_bytes}
 use Rattle.world.specs.Enough.{TellsClosed}
 
 -- ---- one request
 
 -- an operation whose record has the request is not gone
-pub request_by : (op : Operation) (x : Sent) (m : Message) (place : ℕ) (r : Request) → slice_get (requests_of op.task).entries place ≡ Some r → IsRequestOf op x m → IsRequestBy op.task x m
-request_by op x m place r entry (gone number is) = absurd (nothing (subst (λ (t : Task). slice_get (requests_of t).entries place ≡ Some r) is entry)) where
+pub request_by : (op : Operation) (x : Sent) (m : Message) (position : ℕ) (r : Request) → slice_get (requests_of op.task).entries position ≡ Some r → IsRequestOf op x m → IsRequestBy op.task x m
+request_by op x m position r entry (gone number is) = absurd (nothing (subst (λ (t : Task). slice_get (requests_of t).entries position ≡ Some r) is entry)) where
   nothing : None ≡ Some r → ⊥
   nothing e = cc
-request_by op x m place r entry (asked node by) = by
+request_by op x m position r entry (asked node by) = by
 
 -- what asks this, without bytes
 abbrev body_for : List ℕ → Asked → Body
@@ -53,8 +53,8 @@ spells_one index _ _ s = absurd s
 -- two requests of one operation by one number
 pub requests_are_one : (op : Operation) (x y : Sent) (m n : Message) → IsRequestOf op x m → IsRequestBy op.task y n → m.number ≡ n.number → without_bytes m.body ≡ without_bytes n.body
 requests_are_one op x y m n old new number =
-    let by = request_by op x m new.place new.request new.entry old in
-    let here : by.place ≡ new.place = omega (arith, by.number, new.number, number) in
+    let by = request_by op x m new.position new.request new.entry old in
+    let here : by.position ≡ new.position = omega (arith, by.number, new.number, number) in
     let same : by.request ≡ new.request = same_some by.request new.request (sym by.entry ∙ ap (slice_get (requests_of op.task).entries) here ∙ new.entry) in
     spells_one (index_of op.task) by.request.asked m.body by.spelled
     ∙ ap (λ (r : Request). body_for (index_of op.task) r.asked) same

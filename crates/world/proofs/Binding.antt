@@ -54,7 +54,7 @@ use Rattle.world_operations.specs.declared.task.Task.{Task}
 use Rattle.world_operations.specs.Given.{IsTestedBy}
 use Rattle.world_operations.specs.Jobs.{IsUpload}
 use Rattle.world_operations.specs.Tasks.{IsRightTask, requests_of}
-use Rattle.world_operations.proofs.Places.{member_at}
+use Rattle.world_operations.proofs.Positions.{member_at}
 use Rattle.world_operations.proofs.Uploads.{could_start}
 use Rattle.world.specs.Binding.{block_in as block_in_upload}
 use Rattle.world.specs.Binding.{BlocksAreOwn, GoodSharesAreOwn, NeverInconsistent, NoFalseBlame, ToldOther}
@@ -66,8 +66,8 @@ use Rattle.world.proofs.Hashed.{download_among, encoding_among}
 -- ---- what a download tested, in the words of an encoding
 
 module _ (IsOne : List ℕ → Type 0) (IsMore : List ℕ → Type 0) (weaker : (input : List ℕ) → IsOne input → IsMore input) where
-  leads_in : (count : ℕ) (root : List ℕ) (place : ℕ) (hash : List ℕ) (siblings : List (List ℕ)) → LeadsIn IsOne count root place hash siblings → own.LeadsIn IsMore count root place hash siblings
-  leads_in count root place hash siblings l =
+  leads_in : (count : ℕ) (root : List ℕ) (position : ℕ) (hash : List ℕ) (siblings : List (List ℕ)) → LeadsIn IsOne count root position hash siblings → own.LeadsIn IsMore count root position hash siblings
+  leads_in count root position hash siblings l =
       record {
         leads = l.leads;
         path = record {
@@ -175,7 +175,7 @@ module _ (w : WorldState) (c : IsConsistent w) (no_clash : HasNoClashInTests w) 
     right = subst IsRightTask of.task (c.fine of.number of.operation of.at).right
 
     -- the extension block that was accepted is the encoding's
-    one_block : (f : Found) → d.found ≡ Some f → IsHead (verify_cap_of d.cap) d.requests.entries f.place f.file.handout.ueb → f.file.handout.ueb ≡ said
+    one_block : (f : Found) → d.found ≡ Some f → IsHead (verify_cap_of d.cap) d.requests.entries f.position f.file.handout.ueb → f.file.handout.ueb ≡ said
     one_block f there head =
         let whole = files_of_caps file secret (parameters_of p) shape in
         let own_text : List ℕ = ueb_text said in
@@ -224,12 +224,12 @@ module _ (w : WorldState) (c : IsConsistent w) (no_clash : HasNoClashInTests w) 
     told_other : (i : ℕ) (b : Blame) → slice_get d.blamed i ≡ Some b → ToldOther w of.number of.operation.node d b.server b.share (slice_index_or (prepared_of file secret p).shares b.share [])
     told_other i b is =
         let other = downloads_are_fair (IsHashedOrTested w) no_clash d said (prepared_of file secret p).shares i b by_download own_shares is in
-        let here : slice_get (requests_of of.operation.task).entries other.place ≡ Some other.request =
-        subst (λ (t : Task). slice_get (requests_of t).entries other.place ≡ Some other.request) (sym of.task) other.there in
+        let here : slice_get (requests_of of.operation.task).entries other.position ≡ Some other.request =
+        subst (λ (t : Task). slice_get (requests_of t).entries other.position ≡ Some other.request) (sym of.task) other.there in
         record {
           answered = other;
-          sent = subst (λ server. CameFrom w.sent of.number of.operation.node other.place server other.request.asked (Data other.bytes)) other.of_server
-              ((c.fine of.number of.operation of.at).answers other.place other.request (Data other.bytes) here other.answer);
+          sent = subst (λ server. CameFrom w.sent of.number of.operation.node other.position server other.request.asked (Data other.bytes)) other.of_server
+              ((c.fine of.number of.operation of.at).answers other.position other.request (Data other.bytes) here other.answer);
         }
 
 pub never_inconsistent : (w : WorldState) → IsConsistent w → HasNoClashInTests w → NeverInconsistent w
@@ -237,9 +237,9 @@ never_inconsistent w c no_clash file secret p d s of e =
     refuted w c no_clash file secret p s d of (inconsistent_shows d (right w c no_clash file secret p s d of) e)
 
 pub blocks_are_own : (w : WorldState) → IsConsistent w → HasNoClashInTests w → BlocksAreOwn w
-blocks_are_own w c no_clash file secret p d f place segment r s of there at own =
+blocks_are_own w c no_clash file secret p d f position segment r s of there at own =
     own_block w c no_clash file secret p s d of f there r.share segment (block_of d.requests.entries r.supply segment)
-    (right_blocks d f place segment r (right w c no_clash file secret p s d of) there at own)
+    (right_blocks d f position segment r (right w c no_clash file secret p s d of) there at own)
 
 pub good_shares_are_own : (w : WorldState) → IsConsistent w → HasNoClashInTests w → GoodSharesAreOwn w
 good_shares_are_own w c no_clash file secret p check server share s of good = good_own w c no_clash file secret p s check of server share good

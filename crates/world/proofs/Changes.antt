@@ -34,7 +34,7 @@ use Rattle.world_operations.specs.Given.{AreGivenBy}
 use Rattle.world_operations.specs.Jobs.{IsFor}
 use Rattle.world_operations.specs.Moves.{sent_to}
 use Rattle.world_operations.specs.Tasks.{IsRightTask, requests_of}
-use Rattle.world_operations.proofs.Places.{append_none, get_push, get_push_old, get_set, get_set_back, get_below, get_set_same, length_set, member_at, member_here, member_none, member_there, same_some}
+use Rattle.world_operations.proofs.Positions.{append_none, get_push, get_push_old, get_set, get_set_back, get_below, get_set_same, length_set, member_at, member_here, member_none, member_there, same_some}
 use Rattle.world_operations.proofs.Frames.{request_on}
 use Rattle.world.specs.State.{shelved}
 use Rattle.world.specs.Step.{new_operation}
@@ -126,8 +126,8 @@ justified_more m sent more x answer j = record {
   answers = j.answers;
 }
 
-came_more : (sent more : List Sent) (session node place server : ℕ) (asks : Asked) (said : Body) → CameFrom sent session node place server asks said → CameFrom (sent ++ more) session node place server asks said
-came_more sent more session node place server asks said a =
+came_more : (sent more : List Sent) (session node position server : ℕ) (asks : Asked) (said : Body) → CameFrom sent session node position server asks said → CameFrom (sent ++ more) session node position server asks said
+came_more sent more session node position server asks said a =
     record { frame = a.frame; answer = a.answer; was_sent = Contains-append_left sent more a.frame a.was_sent; spelled = a.spelled; to = a.to; says = a.says }
 
 pub fine_more : (honest : ℕ) (sent more : List Sent) (i : ℕ) (op : Operation) → IsFine honest sent i op → IsFine honest (sent ++ more) i op
@@ -136,7 +136,7 @@ fine_more honest sent more i op f = record {
   started = f.started;
   session = f.session;
   before = omega (arith, f.before, length-append sent more);
-  answers = λ place r said e o. came_more sent more i op.node place r.server r.asked said (f.answers place r said e o);
+  answers = λ position r said e o. came_more sent more i op.node position r.server r.asked said (f.answers position r said e o);
   right = f.right;
   asked = f.asked;
   given = f.given;
@@ -303,14 +303,14 @@ request_moves : (New : Said) (old new : Operation) (x : Sent) (m : Message) → 
 request_moves New old new x m node g (gone number is) = gone number (g.gone number is)
 request_moves New old new x m node g (asked from r) = asked (node ∙ from) (request_on New old.task new.task x m g r)
 
-came_of : (sent : List Sent) (i node place : ℕ) (r s : Request) (said : Body) → r.server ≡ s.server → r.asked ≡ s.asked → CameFrom sent i node place r.server r.asked said
-    → CameFrom sent i node place s.server s.asked said
-came_of sent i node place r s said server asks a =
-    subst (λ (q : Asked). CameFrom sent i node place s.server q said) asks (subst (λ (n : ℕ). CameFrom sent i node place n r.asked said) server a)
+came_of : (sent : List Sent) (i node position : ℕ) (r s : Request) (said : Body) → r.server ≡ s.server → r.asked ≡ s.asked → CameFrom sent i node position r.server r.asked said
+    → CameFrom sent i node position s.server s.asked said
+came_of sent i node position r s said server asks a =
+    subst (λ (q : Asked). CameFrom sent i node position s.server q said) asks (subst (λ (n : ℕ). CameFrom sent i node position n r.asked said) server a)
 
 -- where its machine goes on it stays fine
 fine_on : (New : Said) (honest : ℕ) (sent : List Sent) (i : ℕ) (old new : Operation) → IsSameOperation old new → GoesOn New old.task new.task
-    → ((place server : ℕ) (asks : Asked) (said : Body) → New place server asks said → CameFrom sent i old.node place server asks said) → IsRightTask new.task
+    → ((position server : ℕ) (asks : Asked) (said : Body) → New position server asks said → CameFrom sent i old.node position server asks said) → IsRightTask new.task
     → (AreGivenBy old.task old.given → AreGivenBy new.task new.given) → IsFine honest sent i old → IsFine honest sent i new
 fine_on New honest sent i old new same g came right given f = record {
   given = given f.given;
@@ -318,9 +318,9 @@ fine_on New honest sent i old new same g came right given f = record {
   started = subst (λ (j : Job). IsFor j new.task) (sym same.job) (g.is_for old.job f.started);
   session = g.follows.session_is ∙ f.session;
   before = subst (λ (n : ℕ). n ≤ length sent) (sym same.sent_before) f.before;
-  answers = λ place s said e o. subst (λ (n : ℕ). CameFrom sent i n place s.server s.asked said) (sym same.node) (elim (g.follows.answers place s said e o) [
-    | inl w ↦ came_of sent i old.node place w.request s said w.server w.asked (f.answers place w.request said w.at w.answered)
-    | inr n ↦ came place s.server s.asked said n
+  answers = λ position s said e o. subst (λ (n : ℕ). CameFrom sent i n position s.server s.asked said) (sym same.node) (elim (g.follows.answers position s said e o) [
+    | inl w ↦ came_of sent i old.node position w.request s said w.server w.asked (f.answers position w.request said w.at w.answered)
+    | inr n ↦ came position s.server s.asked said n
   ]);
   right = right;
   asked = g.asked (range_with_len 0 honest) f.asked;
@@ -355,7 +355,7 @@ founded servers operations sent i op node x at own session f = record {
 
 -- what every call of an operation does keeps the world consistent
 pub operation_moves : (New : Said) (servers : List (ServerState MemoryState)) (operations : List Operation) (sent after : List Sent) (i : ℕ) (old new : Operation) → slice_get operations i ≡ Some old
-    → Moves New old new sent after → ((place server : ℕ) (asks : Asked) (said : Body) → New place server asks said → CameFrom sent i old.node place server asks said) → IsRightTask new.task
+    → Moves New old new sent after → ((position server : ℕ) (asks : Asked) (said : Body) → New position server asks said → CameFrom sent i old.node position server asks said) → IsRightTask new.task
     → AreConsistent servers operations sent → AreConsistent servers (slice_set operations i new) after
 operation_moves New servers operations sent after i old new at moves came right c =
     let s = moves.task in
@@ -397,7 +397,7 @@ operation_begins servers operations sent nodes node job task honest all begins r
       started = begins.is_for;
       session = begins.follows.session_is;
       before = omega arith;
-      answers = λ place r said e o. elim (begins.follows.answers place r said e o) [
+      answers = λ position r said e o. elim (begins.follows.answers position r said e o) [
         | inl w ↦ (let none : None ≡ Some w.request = w.at in absurd cc)
         | inr n ↦ absurd n
       ];

@@ -45,7 +45,7 @@ use Rattle.world_operations.specs.declared.operation.Operation.{Operation}
 use Rattle.world_operations.specs.declared.task.Task.{Task}
 use Rattle.world_operations.specs.Asked.{HasAsked}
 use Rattle.world_operations.specs.Tasks.{IsRightTask, index_of, requests_of}
-use Rattle.world_operations.proofs.Places.{get_below, place_of_member, same_some}
+use Rattle.world_operations.proofs.Positions.{get_below, position_of_member, same_some}
 use Rattle.world.specs.Consistent.{IsConsistent, IsRequestOf, without_bytes}
 use Rattle.world.specs.Enough.{AreConfirmed, ConfirmedAreGood, EnoughAreFound, IsConfirmed, WasTold}
 use Rattle.world.specs.Headline.{goal}
@@ -73,18 +73,18 @@ module _ (w : WorldState) (c : IsConsistent w) (node : ℕ) (m : Server) (at : s
   abbrev history : HasHistory w.sent node m
   history = c.history node m at
 
-  told_at : (moment : ℕ) (x : Sent) (answer : Message) (op : Operation) (place : ℕ) (r : Request) → slice_get w.sent moment ≡ Some x → x.from ≡ node → IsBodyOf answer x.body → is_request answer.body ≡ false
-      → slice_get w.operations answer.session ≡ Some op → x.to ≡ op.node → slice_get (requests_of op.task).entries place ≡ Some r → answer.number ≡ place + 1
+  told_at : (moment : ℕ) (x : Sent) (answer : Message) (op : Operation) (position : ℕ) (r : Request) → slice_get w.sent moment ≡ Some x → x.from ≡ node → IsBodyOf answer x.body → is_request answer.body ≡ false
+      → slice_get w.operations answer.session ≡ Some op → x.to ≡ op.node → slice_get (requests_of op.task).entries position ≡ Some r → answer.number ≡ position + 1
       → IsToldAt (history.shelf_at moment) (index_of op.task) r.asked answer.body
-  told_at moment x answer op place r there from spelled kind at_op to entry number =
+  told_at moment x answer op position r there from spelled kind at_op to entry number =
       let a = history.answers moment x answer there from spelled kind in
       let fine = c.fine answer.session op at_op in
       let honest : a.frame.from < length w.servers = subst (λ (n : ℕ). n < length w.servers) (sym (a.from ∙ to)) fine.node in
       let recorded = c.recorded a.frame a.request a.was_sent honest a.spelled a.answers.asked in
       let same : recorded.operation ≡ op = same_some recorded.operation op (sym recorded.at ∙ ap (slice_get w.operations) (sym a.answers.session) ∙ at_op) in
       let own : IsRequestOf op a.frame a.request = subst (λ (o : Operation). IsRequestOf o a.frame a.request) same recorded.request in
-      let by = request_by op a.frame a.request place r entry own in
-      let here : by.place ≡ place = omega (arith, by.number, number, a.answers.number) in
+      let by = request_by op a.frame a.request position r entry own in
+      let here : by.position ≡ position = omega (arith, by.number, number, a.answers.number) in
       let request : by.request ≡ r = same_some by.request r (sym by.entry ∙ ap (λ (n : ℕ). slice_get (requests_of op.task).entries n) here ∙ entry) in
       record {
         request = a.request;
@@ -173,20 +173,20 @@ module _ (w : WorldState) (c : IsConsistent w) (no_clash : HasNoClashInTests w) 
       pub held : IsHeldAt shelf (id_of pair) (share_of pair)
       pub told : IsToldAt shelf index asks said
 
-    told_later : (place : ℕ) (request : Request) (said : Body) → slice_get (requests_of op.task).entries place ≡ Some request → request.server ≡ pair.0 → request.outcome ≡ Answered said
+    told_later : (position : ℕ) (request : Request) (said : Body) → slice_get (requests_of op.task).entries position ≡ Some request → request.server ≡ pair.0 → request.outcome ≡ Answered said
         → (fits request.asked said ≡ true → is_request said ≡ false) → IsToldLater request.asked said
-    told_later place request said there of_server answer answers =
+    told_later position request said there of_server answer answers =
         let server = get_below w.servers pair.0 k.honest in
         let m : Server = server.0 in
         let at : slice_get w.servers pair.0 ≡ Some m = server.1 in
         let h : HasHistory w.sent pair.0 m = c.history pair.0 m at in
         let fine = c.fine number op at_op in
-        let came = fine.answers place request said there answer in
+        let came = fine.answers position request said there answer in
         let from : came.frame.from ≡ pair.0 = sym came.says.server_is ∙ of_server in
-        let sent = place_of_member w.sent came.frame came.was_sent in
+        let sent = position_of_member w.sent came.frame came.was_sent in
         let kind : is_request came.answer.body ≡ false = ap is_request came.says.body_is ∙ answers came.says.fitting in
         let at_session : slice_get w.operations came.answer.session ≡ Some op = ap (slice_get w.operations) came.says.session_is ∙ at_op in
-        let told = told_at w c pair.0 m at sent.0 came.frame came.answer op place request sent.1 from came.spelled kind at_session came.to there came.says.number_is in
+        let told = told_at w c pair.0 m at sent.0 came.frame came.answer op position request sent.1 from came.spelled kind at_session came.to there came.says.number_is in
         let begun : op.sent_before ≤ sent.0 = c.after sent.0 came.frame came.answer op sent.1 (subst (λ (n : ℕ). n < length w.servers) (sym from) k.honest)
         (subst (λ (n : ℕ). n < length w.servers) (sym came.to) fine.node) came.spelled kind at_session in
         let early : k.told.moment < op.sent_before = k.told.early in
@@ -212,12 +212,12 @@ module _ (w : WorldState) (c : IsConsistent w) (no_clash : HasNoClashInTests w) 
 
     tells_share : TellsShare (requests_of op.task).entries pair.0 pair.1 (share_of pair)
     tells_share = record {
-      lists = λ place request said there of_server asks answer.
+      lists = λ position request said there of_server asks answer.
           told_list said (subst (λ (a : Asked). IsToldLater a said) asks
-          (told_later place request said there of_server answer (λ e. list_answers said (ap (λ (a : Asked). fits a said) (sym asks) ∙ e))));
-      reads = λ place offset len request said there of_server asks answer.
+          (told_later position request said there of_server answer (λ e. list_answers said (ap (λ (a : Asked). fits a said) (sym asks) ∙ e))));
+      reads = λ position offset len request said there of_server asks answer.
           told_read offset len said (subst (λ (a : Asked). IsToldLater a said) asks
-          (told_later place request said there of_server answer (λ e. read_answers pair.1 offset len said (ap (λ (a : Asked). fits a said) (sym asks) ∙ e))));
+          (told_later position request said there of_server answer (λ e. read_answers pair.1 offset len said (ap (λ (a : Asked). fits a said) (sym asks) ∙ e))));
     }
 
   -- ---- downloads

@@ -17,7 +17,7 @@ use Rattle.world_operations.specs.declared.task.Task.{Task}
 use Rattle.world_operations.specs.declared.task.Task.TheVariants.{Downloading}
 use Rattle.world_operations.specs.Given.{IsHashedBy}
 use Rattle.world_operations.specs.Jobs.{HasOneKey, Uploads}
-use Rattle.world_operations.proofs.Places.{member_at}
+use Rattle.world_operations.proofs.Positions.{member_at}
 use Rattle.world.specs.State.{WorldState}
 use Rattle.world.specs.Headline.{IsHashed, closed, downloaded, started}
 

@@ -11,7 +11,7 @@ use Rattle.share_store.specs.Shelf.{Shelf}
 use Rattle.server_core.specs.ServerState.{ServerState}
 use Rattle.server_core.specs.Sound.{ClosedStay, is_request}
 use Rattle.world_operations.specs.declared.message.Sent.{Sent}
-use Rattle.world_operations.proofs.Places.{get_push}
+use Rattle.world_operations.proofs.Positions.{get_push}
 use Rattle.world.specs.History.{HasHistory, IsAnswerBy}
 
 -- ---- a server goes on

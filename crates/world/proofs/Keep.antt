@@ -25,7 +25,7 @@ use Rattle.upload_core.specs.State.{Goal}
 use Rattle.world_operations.specs.declared.operation.Operation.{Operation}
 use Rattle.world_operations.specs.declared.task.Task.{Task}
 use Rattle.world_operations.specs.Tasks.{requests_of}
-use Rattle.world_operations.proofs.Places.{get_below, member_flat_cases, member_map, member_none, place_of_member}
+use Rattle.world_operations.proofs.Positions.{get_below, member_flat_cases, member_map, member_none, position_of_member}
 use Rattle.world.specs.State.{WorldState, shelved}
 use Rattle.world.specs.Consistent.{IsConsistent}
 use Rattle.world.specs.Headline.{AcknowledgedKeep, HappyIsAcknowledged, HasNoClash, HonestKeep, IsAcknowledgement, IsHashed, IsUploadOf, Keeps, goal}
@@ -85,22 +85,22 @@ acknowledged w c file secret p pair number op u of counted =
     let entries : List Request = u.course.requests.entries in
     let found = member_flat_cases (acked_by aim) entries pair counted in
     let r : Request = found.0 in
-    let place = place_of_member entries r found.1 in
+    let position = position_of_member entries r found.1 in
     let said = answered_by aim r r.outcome pair found.2 in
-    let entry : slice_get (requests_of op.task).entries place.0 ≡ Some r = subst (λ (t : Task). slice_get (requests_of t).entries place.0 ≡ Some r) (sym of.task) place.1 in
-    let came = (c.fine number op of.at).answers place.0 r said.0 entry said.1 in
+    let entry : slice_get (requests_of op.task).entries position.0 ≡ Some r = subst (λ (t : Task). slice_get (requests_of t).entries position.0 ≡ Some r) (sym of.task) position.1 in
+    let came = (c.fine number op of.at).answers position.0 r said.0 entry said.1 in
     let of_session : IsUploadOf w came.answer.session file secret p op u = subst (λ (n : ℕ). IsUploadOf w n file secret p op u) (sym came.says.session_is) of in
     record {
       frame = came.frame;
       answer = came.answer;
       operation = op;
       upload = u;
-      place = place.0;
+      position = position.0;
       request = r;
       was_sent = came.was_sent;
       spelled = came.spelled;
       upload_of = of_session;
-      entry = place.1;
+      entry = position.1;
       number = came.says.number_is;
       from = sym came.says.server_is;
       to = came.to;

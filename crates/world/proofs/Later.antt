@@ -21,7 +21,7 @@ use Rattle.world_operations.specs.Given.{IsHashedBy}
 use Rattle.world_operations.specs.declared.job.Job.{Job}
 use Rattle.world_operations.specs.Jobs.{HasOneKey, Uploads}
 use Rattle.world_operations.specs.Tasks.{HasShares, IsHappyTask, requests_of}
-use Rattle.world_operations.proofs.Places.{append_none, get_push_old, get_set_back, member_at, place_of_member, same_some}
+use Rattle.world_operations.proofs.Positions.{append_none, get_push_old, get_set_back, member_at, position_of_member, same_some}
 use Rattle.world.specs.State.{WorldState}
 use Rattle.world.specs.Step.{with_life}
 use Rattle.world.specs.Headline.{IsGone, IsHashed, IsLater, StaysAt, closed, downloaded, started}
@@ -36,7 +36,7 @@ pub record GrowsAs (old new : Operation) : Type 0 where
   pub job : new.job ≡ old.job
   pub sent_before : new.sent_before ≡ old.sent_before
   pub gone : IsGone old.task → IsGone new.task
-  pub asked : (place : ℕ) (r : Request) → slice_get (requests_of old.task).entries place ≡ Some r → IsGone new.task ⊎ StillAsks (requests_of new.task).entries place r
+  pub asked : (position : ℕ) (r : Request) → slice_get (requests_of old.task).entries position ≡ Some r → IsGone new.task ⊎ StillAsks (requests_of new.task).entries position r
   pub hashed : (input : List ℕ) → IsHashedBy old.task input → IsHashedBy new.task input
   pub happy : (pairs : List Pair) → IsHappyTask old.task pairs → IsHappyTask new.task pairs
   pub shares : (pairs : List Pair) (these : List (List ℕ)) → IsHappyTask old.task pairs → HasShares old.task these → HasShares new.task these
@@ -46,8 +46,8 @@ pub record GrowsAs (old new : Operation) : Type 0 where
 abbrev pub AllGrow : List Operation → List Operation → Type 0
 AllGrow old new = (i : ℕ) (op : Operation) → slice_get old i ≡ Some op → (next : Operation) × (slice_get new i ≡ Some next) × GrowsAs op next
 
-still_asks : (task : Task) (place : ℕ) (r : Request) → slice_get (requests_of task).entries place ≡ Some r → StillAsks (requests_of task).entries place r
-still_asks task place r at = record { request = r; at = at; server = refl; asked = refl }
+still_asks : (task : Task) (position : ℕ) (r : Request) → slice_get (requests_of task).entries position ≡ Some r → StillAsks (requests_of task).entries position r
+still_asks task position r at = record { request = r; at = at; server = refl; asked = refl }
 
 same_operation : (op : Operation) → GrowsAs op op
 same_operation op = record {
@@ -55,7 +55,7 @@ same_operation op = record {
   job = refl;
   sent_before = refl;
   gone = λ h. h;
-  asked = λ place r at. inr (still_asks op.task place r at);
+  asked = λ position r at. inr (still_asks op.task position r at);
   hashed = λ input h. h;
   happy = λ pairs h. h;
   shares = λ pairs these h k. k;
@@ -82,7 +82,7 @@ lives_grow old new h i op e = (let f = h.on i op e in (
     job = refl;
     sent_before = refl;
     gone = λ k. k;
-    asked = λ place r at. inr (still_asks op.task place r at);
+    asked = λ position r at. inr (still_asks op.task position r at);
     hashed = λ input k. k;
     happy = λ pairs k. k;
     shares = λ pairs these h k. k;
@@ -102,7 +102,7 @@ moves_grow New old new before after m =
       job = m.same.job;
       sent_before = m.same.sent_before;
       gone = λ h. (h.0, goes.gone h.0 h.1);
-      asked = λ place r at. inr (goes.follows.keeps place r at);
+      asked = λ position r at. inr (goes.follows.keeps position r at);
       hashed = goes.hashed;
       happy = goes.happy;
       shares = λ pairs these h k. goes.shares these k;
@@ -144,15 +144,15 @@ happy_upload (Gone number) pairs h = absurd h
 
 hashed_later : (old new : WorldState) → AllStay old.servers new.servers → AllGrow old.operations new.operations → (input : List ℕ) → IsHashed old input → IsHashed new input
 hashed_later old new servers operations input (started op file secret p among uploads one_key of) =
-    let at = place_of_member old.operations op among in
+    let at = position_of_member old.operations op among in
     let f = operations at.0 op at.1 in
     started f.0 file secret p (member_at new.operations at.0 f.0 f.1) (subst (λ (j : Job). Uploads j file secret p) (sym f.2.job) uploads) (subst HasOneKey (sym f.2.job) one_key) of
 hashed_later old new servers operations input (downloaded op among by) =
-    let at = place_of_member old.operations op among in
+    let at = position_of_member old.operations op among in
     let f = operations at.0 op at.1 in
     downloaded f.0 (member_at new.operations at.0 f.0 f.1) (f.2.hashed input by)
 hashed_later old new servers operations input (closed m among of) =
-    let at = place_of_member old.servers m among in
+    let at = position_of_member old.servers m among in
     let f = servers at.0 m at.1 in
     closed f.0 (member_at new.servers at.0 f.0 f.1) record { id = of.id; share = of.share; found = f.2 of.id of.share of.found; is = of.is }
 
@@ -165,9 +165,9 @@ stays_on b c grow number old s =
       job = f.2.job ∙ s.job;
       sent_before = f.2.sent_before ∙ s.sent_before;
       gone = λ h. f.2.gone (s.gone h);
-      asked = λ place r at. elim (s.asked place r at) [
+      asked = λ position r at. elim (s.asked position r at) [
         | inl gone ↦ inl (f.2.gone gone)
-        | inr still ↦ elim (f.2.asked place still.request still.at) [
+        | inr still ↦ elim (f.2.asked position still.request still.at) [
           | inl gone ↦ inl gone
           | inr later ↦ inr record { request = later.request; at = later.at; server = later.server ∙ still.server; asked = later.asked ∙ still.asked }
         ]
@@ -179,7 +179,7 @@ pub later_from : (old new : WorldState) → AllStay old.servers new.servers → 
 later_from old new servers operations sent nodes = record {
   hashed = hashed_later old new servers operations;
   operations = λ number operation s. stays_on old new operations number operation s;
-  given = λ cap place byte g.
+  given = λ cap position byte g.
       let f = operations g.number g.operation g.at in record {
         number = g.number;
         operation = f.0;
@@ -190,7 +190,7 @@ later_from old new servers operations sent nodes = record {
         at = f.1;
         job = f.2.job ∙ g.job;
         handed_out = subst (λ (l : List Piece). Contains l g.piece) (sym f.2.given) (Contains-append_left g.operation.given f.2.pieces g.piece g.handed_out);
-        place_is = g.place_is;
+        position_is = g.position_is;
         byte_is = g.byte_is;
       };
   uploaded = λ file secret p pairs up.
@@ -238,7 +238,7 @@ pub later_still : (a b c : WorldState) → IsLater a b → IsLater b c → IsLat
 later_still a b c f g = record {
   hashed = λ input h. g.hashed input (f.hashed input h);
   operations = λ number operation s. g.operations number operation (f.operations number operation s);
-  given = λ cap place byte x. g.given cap place byte (f.given cap place byte x);
+  given = λ cap position byte x. g.given cap position byte (f.given cap position byte x);
   uploaded = λ file secret p pairs x. g.uploaded file secret p pairs (f.uploaded file secret p pairs x);
   repaired = λ cap happy shares pairs x. g.repaired cap happy shares pairs (f.repaired cap happy shares pairs x);
   kept = λ server index share bytes x. g.kept server index share bytes (f.kept server index share bytes x);

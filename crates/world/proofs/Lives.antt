@@ -9,7 +9,7 @@ use Rattle.world_operations.specs.declared.message.Sent.{Sent}
 use Rattle.world_operations.specs.declared.operation.Life.{Life}
 use Rattle.world_operations.specs.declared.operation.Life.TheVariants.{Forgotten}
 use Rattle.world_operations.specs.declared.operation.Operation.{Operation}
-use Rattle.world_operations.proofs.Places.{get_set, get_set_back, same_some}
+use Rattle.world_operations.proofs.Positions.{get_set, get_set_back, same_some}
 use Rattle.world.specs.Step.{forgotten_by, is_running, with_life}
 use Rattle.world.specs.Consistent.{AreConsistent, IsFine, IsRequestOf}
 use Rattle.world.specs.Consistent.{asked, gone}

@@ -23,7 +23,7 @@ use Rattle.request_record.specs.Follow.{IsSaid}
 use Rattle.world_operations.specs.Follow.{IsNewTask, Moves}
 use Rattle.world_operations.specs.Moves.{IsFlushed, OperationGets, sent_to}
 use Rattle.world_operations.specs.Tasks.{IsRightTask, requests_of}
-use Rattle.world_operations.proofs.Places.{append_none, get_below, push_last, same_some}
+use Rattle.world_operations.proofs.Positions.{append_none, get_below, push_last, same_some}
 use Rattle.world.specs.State.{WorldState, nodes_of, server_of, shelved}
 use Rattle.world.specs.Step.{Delivers, HaveTicked, OperationsTick, Opens, RestartsAt, ServerGets, TaskGets, TicksAt, TicksOrStays, failing, forgotten_by, is_live, is_live_at, new_operation, with_heard, with_life}
 use Rattle.world.specs.Step.{gets, to_liar}
@@ -37,15 +37,15 @@ Server = ServerState MemoryState
 
 -- ---- a server answers
 
-pub served_only : (w : WorldState) (place from : ℕ) (m : Message) (outcome : Outcome) (new : List Server) → ServerBecomes (ServesBy from m w.clock outcome) w.servers place new
+pub served_only : (w : WorldState) (position from : ℕ) (m : Message) (outcome : Outcome) (new : List Server) → ServerBecomes (ServesBy from m w.clock outcome) w.servers position new
     → Preserves w (record w { servers = new })
-served_only w place from m outcome new b =
-    subst (λ (s : List Server). Preserves w (record w { servers = s })) (sym b.is) (preserves_served w place from w.clock m outcome b.before b.after b.at b.becomes)
+served_only w position from m outcome new b =
+    subst (λ (s : List Server). Preserves w (record w { servers = s })) (sym b.is) (preserves_served w position from w.clock m outcome b.before b.after b.at b.becomes)
 
-pub served_gets : (w : WorldState) (x : Sent) (m said : Message) (from to place : ℕ) (new : List Server) (after : List Sent) → x.from ≡ from → x.to ≡ to → place ≡ to
-    → ServerBecomes (ServesBy from m w.clock (Ok (Some said))) w.servers place new → IsMessage said → after ≡ w.sent ++ sent_to to from said ∷ []
+pub served_gets : (w : WorldState) (x : Sent) (m said : Message) (from to position : ℕ) (new : List Server) (after : List Sent) → x.from ≡ from → x.to ≡ to → position ≡ to
+    → ServerBecomes (ServesBy from m w.clock (Ok (Some said))) w.servers position new → IsMessage said → after ≡ w.sent ++ sent_to to from said ∷ []
     → ServerGets w x m (record w { servers = new; sent = after })
-served_gets w x m said from to place new after sender receiver here b spoken appended =
+served_gets w x m said from to position new after sender receiver here b spoken appended =
     let own : ServerBecomes (ServesBy x.from m w.clock (Ok (Some said))) w.servers x.to new =
     subst (λ (n : ℕ). ServerBecomes (ServesBy n m w.clock (Ok (Some said))) w.servers x.to new) (sym sender)
     (subst (λ (n : ℕ). ServerBecomes (ServesBy from m w.clock (Ok (Some said))) w.servers n new) (here ∙ sym receiver) b) in
@@ -67,12 +67,12 @@ gets_preserves w new x m there spelled g =
     subst (Preserves w) (sym g.is) (preserves_answered w x m g.outcome g.before g.after g.at there spelled g.serves g.spoken)
 
 -- the answer was sent, or there was no memory to send it
-pub served_keeps : {E : Type 0} (w : WorldState) (x : Sent) (m said : Message) (from to place : ℕ) (new : List Server) (after : List Sent) (r : Result Unit E) → x.from ≡ from → x.to ≡ to → place ≡ to
-    → ServerBecomes (ServesBy from m w.clock (Ok (Some said))) w.servers place new → IsMessage said → OnOk r (after ≡ w.sent ++ sent_to to from said ∷ []) → OnErr r (after ≡ w.sent)
+pub served_keeps : {E : Type 0} (w : WorldState) (x : Sent) (m said : Message) (from to position : ℕ) (new : List Server) (after : List Sent) (r : Result Unit E) → x.from ≡ from → x.to ≡ to → position ≡ to
+    → ServerBecomes (ServesBy from m w.clock (Ok (Some said))) w.servers position new → IsMessage said → OnOk r (after ≡ w.sent ++ sent_to to from said ∷ []) → OnErr r (after ≡ w.sent)
     → Contains w.sent x → IsBodyOf m x.body → Preserves w (record w { servers = new; sent = after })
-served_keeps w x m said from to place new after r sender receiver here b spoken ok err there spelled = elim (settled_by r _ _ ok err) [
-  | inl more ↦ gets_preserves w (record w { servers = new; sent = after }) x m there spelled (served_gets w x m said from to place new after sender receiver here b spoken more)
-  | inr same ↦ subst (λ (l : List Sent). Preserves w (record w { servers = new; sent = l })) (sym same) (served_only w place from m (Ok (Some said)) new b)
+served_keeps w x m said from to position new after r sender receiver here b spoken ok err there spelled = elim (settled_by r _ _ ok err) [
+  | inl more ↦ gets_preserves w (record w { servers = new; sent = after }) x m there spelled (served_gets w x m said from to position new after sender receiver here b spoken more)
+  | inr same ↦ subst (λ (l : List Sent). Preserves w (record w { servers = new; sent = l })) (sym same) (served_only w position from m (Ok (Some said)) new b)
 ]
 
 -- ---- an operation gets an answer
@@ -110,25 +110,25 @@ task_keeps w x m from to op new after sender receiver at live b there spelled =
     (preserves_got w x m b.op b.next after b.at (ap (λ (o : Operation). o.node) same ∙ l.0 ∙ sym receiver) there spelled moves b.right)
 
 -- an operation goes on, and nothing new is answered
-pub moved_keeps : (w : WorldState) (place : ℕ) (new : List Operation) (after : List Sent) → OperationMoves NothingNew w.operations place w.sent new after
+pub moved_keeps : (w : WorldState) (position : ℕ) (new : List Operation) (after : List Sent) → OperationMoves NothingNew w.operations position w.sent new after
     → Preserves w (record w { operations = new; sent = after })
-moved_keeps w place new after b =
-    subst (λ (o : List Operation). Preserves w (record w { operations = o; sent = after })) (sym b.is) (preserves_moved w place b.op b.next after b.at b.moves b.right)
+moved_keeps w position new after b =
+    subst (λ (o : List Operation). Preserves w (record w { operations = o; sent = after })) (sym b.is) (preserves_moved w position b.op b.next after b.at b.moves b.right)
 
-pub at_place : {A : Type 0} (xs : List A) (i : ℕ) (x : A) → i < length xs → x ≡ get_or xs i x → slice_get xs i ≡ Some x
-at_place xs i x low is = slice_get_read xs (length xs) i x refl low is
+pub at_position : {A : Type 0} (xs : List A) (i : ℕ) (x : A) → i < length xs → x ≡ get_or xs i x → slice_get xs i ≡ Some x
+at_position xs i x low is = slice_get_read xs (length xs) i x refl low is
 
--- ---- a message at a place
+-- ---- a message at a position
 
-pub item_is : {A : Type 0} (xs : List A) (place : ℕ) (x item : A) → slice_get xs place ≡ Some x → place < length xs → item ≡ get_or xs place item → x ≡ item
-item_is xs place x item at low is = same_some x item (sym at ∙ at_place xs place item low is)
+pub item_is : {A : Type 0} (xs : List A) (position : ℕ) (x item : A) → slice_get xs position ≡ Some x → position < length xs → item ≡ get_or xs position item → x ≡ item
+item_is xs position x item at low is = same_some x item (sym at ∙ at_position xs position item low is)
 
-pub heard_delivers : (w new : WorldState) (x item : Sent) (place liar : ℕ) → slice_get w.sent place ≡ Some x → place < length w.sent → item ≡ get_or w.sent place item → length w.servers ≤ item.to
+pub heard_delivers : (w new : WorldState) (x item : Sent) (position liar : ℕ) → slice_get w.sent position ≡ Some x → position < length w.sent → item ≡ get_or w.sent position item → length w.servers ≤ item.to
     → liar ≡ item.to - length w.servers → new ≡ with_heard w liar x (slice_get w.heard liar) → Delivers w x new
-heard_delivers w new x item place liar at low is far liar_is e =
-    let same : item ≡ x = sym (item_is w.sent place x item at low is) in
-    let place_is : liar ≡ x.to - length w.servers = liar_is ∙ ap (λ (s : Sent). s.to - length w.servers) same in
-    to_liar (subst (λ (s : Sent). length w.servers ≤ s.to) same far) (e ∙ ap (λ (n : ℕ). with_heard w n x (slice_get w.heard n)) place_is)
+heard_delivers w new x item position liar at low is far liar_is e =
+    let same : item ≡ x = sym (item_is w.sent position x item at low is) in
+    let position_is : liar ≡ x.to - length w.servers = liar_is ∙ ap (λ (s : Sent). s.to - length w.servers) same in
+    to_liar (subst (λ (s : Sent). length w.servers ≤ s.to) same far) (e ∙ ap (λ (n : ℕ). with_heard w n x (slice_get w.heard n)) position_is)
 
 -- ---- nodes in a row
 
@@ -142,13 +142,13 @@ pub own_nodes : (nodes : List ℕ) → map (λ (s : ServerInfo). s.node) (map se
 own_nodes [] = refl
 own_nodes (n ∷ ns) = ap (λ (xs : List ℕ). n ∷ xs) (own_nodes ns)
 
-pub body_of : (sent : List Sent) (place : ℕ) (x item : Sent) (bytes : List ℕ) (m : Message) → slice_get sent place ≡ Some x → place < length sent → item ≡ get_or sent place item
+pub body_of : (sent : List Sent) (position : ℕ) (x item : Sent) (bytes : List ℕ) (m : Message) → slice_get sent position ≡ Some x → position < length sent → item ≡ get_or sent position item
     → bytes ≡ item.body → IsBodyOf m bytes → IsBodyOf m x.body
-body_of sent place x item bytes m at low is same b = subst (IsBodyOf m) (same ∙ ap (λ (s : Sent). s.body) (sym (item_is sent place x item at low is))) b
+body_of sent position x item bytes m at low is same b = subst (IsBodyOf m) (same ∙ ap (λ (s : Sent). s.body) (sym (item_is sent position x item at low is))) b
 
-pub no_body_of : (sent : List Sent) (place : ℕ) (x item : Sent) (bytes : List ℕ) (m : Message) → slice_get sent place ≡ Some x → place < length sent → item ≡ get_or sent place item
+pub no_body_of : (sent : List Sent) (position : ℕ) (x item : Sent) (bytes : List ℕ) (m : Message) → slice_get sent position ≡ Some x → position < length sent → item ≡ get_or sent position item
     → bytes ≡ item.body → IsBodyOf m x.body → IsBodyOf m bytes
-no_body_of sent place x item bytes m at low is same b = subst (IsBodyOf m) (ap (λ (s : Sent). s.body) (item_is sent place x item at low is) ∙ sym same) b
+no_body_of sent position x item bytes m at low is same b = subst (IsBodyOf m) (ap (λ (s : Sent). s.body) (item_is sent position x item at low is) ∙ sym same) b
 
 -- ---- an operation begins
 
@@ -265,19 +265,19 @@ ticking_ends old now node number t all =
 
 -- ---- servers tick and restart
 
-pub server_ticked : (w : WorldState) (place now : ℕ) (new : List Server) → ServerBecomes (λ before after. Ticks before now after) w.servers place new → Preserves w (record w { servers = new })
-server_ticked w place now new b = subst (λ (s : List Server). Preserves w (record w { servers = s })) (sym b.is) (preserves_ticked w place now b.before b.after b.at b.becomes)
+pub server_ticked : (w : WorldState) (position now : ℕ) (new : List Server) → ServerBecomes (λ before after. Ticks before now after) w.servers position new → Preserves w (record w { servers = new })
+server_ticked w position now new b = subst (λ (s : List Server). Preserves w (record w { servers = s })) (sym b.is) (preserves_ticked w position now b.before b.after b.at b.becomes)
 
-pub all_ticked : (w new : WorldState) (node place : ℕ) (servers : List Server) → place ≡ node → ServerBecomes (λ before after. Ticks before w.clock after) w.servers place servers
+pub all_ticked : (w new : WorldState) (node position : ℕ) (servers : List Server) → position ≡ node → ServerBecomes (λ before after. Ticks before w.clock after) w.servers position servers
     → HaveTicked (record w { servers = servers }) node new → TicksAt w node new
-all_ticked w new node place servers here b t =
+all_ticked w new node position servers here b t =
     let own : ServerBecomes (λ before after. Ticks before w.clock after) w.servers node servers =
     subst (λ (n : ℕ). ServerBecomes (λ before after. Ticks before w.clock after) w.servers n servers) here b in
     record { before = own.before; after = own.after; at = own.at; server = own.becomes; tasks = subst (λ (s : List Server). HaveTicked (record w { servers = s }) node new) own.is t }
 
-pub restarts : (w : WorldState) (node place : ℕ) (servers : List Server) (operations : List Operation) → place ≡ node → ServerBecomes (RestartsTo memory_calls.restart_gives) w.servers place servers
+pub restarts : (w : WorldState) (node position : ℕ) (servers : List Server) (operations : List Operation) → position ≡ node → ServerBecomes (RestartsTo memory_calls.restart_gives) w.servers position servers
     → operations ≡ map (forgotten_by node) w.operations → RestartsAt w node (record w { servers = servers; operations = operations })
-restarts w node place servers operations here b forgot =
+restarts w node position servers operations here b forgot =
     let own : ServerBecomes (RestartsTo memory_calls.restart_gives) w.servers node servers =
     subst (λ (n : ℕ). ServerBecomes (RestartsTo memory_calls.restart_gives) w.servers n servers) here b in
     record {
@@ -289,25 +289,25 @@ restarts w node place servers operations here b forgot =
           ∙ ap (λ (o : List Operation). record w { servers = slice_set w.servers node own.after; operations = o }) forgot;
     }
 
-pub restart_keeps : (w : WorldState) (node place : ℕ) (servers : List Server) (operations : List Operation) → ServerBecomes (RestartsTo memory_calls.restart_gives) w.servers place servers
+pub restart_keeps : (w : WorldState) (node position : ℕ) (servers : List Server) (operations : List Operation) → ServerBecomes (RestartsTo memory_calls.restart_gives) w.servers position servers
     → operations ≡ map (forgotten_by node) w.operations → Preserves w (record w { servers = servers; operations = operations })
-restart_keeps w node place servers operations b forgot =
-    let mid : WorldState = record w { servers = slice_set w.servers place b.after } in
+restart_keeps w node position servers operations b forgot =
+    let mid : WorldState = record w { servers = slice_set w.servers position b.after } in
     let last : WorldState = record mid { operations = map (forgotten_by node) w.operations } in
     let same : last ≡ record w { servers = servers; operations = operations } =
     ap (λ (s : List Server). record w { servers = s; operations = map (forgotten_by node) w.operations }) (sym b.is) ∙ ap (λ (o : List Operation). record w { servers = servers; operations = o }) (sym forgot) in
     subst (Preserves w) same
-    (preserves_on w mid last (preserves_restarted w place b.before b.after b.at b.becomes) (preserves_lives mid (map (forgotten_by node) w.operations) (all_forgotten node w.operations)))
+    (preserves_on w mid last (preserves_restarted w position b.before b.after b.at b.becomes) (preserves_lives mid (map (forgotten_by node) w.operations) (all_forgotten node w.operations)))
 
-pub fails : (w : WorldState) (node place : ℕ) (servers : List Server) → place ≡ node → ServerBecomes (λ before after. after ≡ failing before) w.servers place servers
+pub fails : (w : WorldState) (node position : ℕ) (servers : List Server) → position ≡ node → ServerBecomes (λ before after. after ≡ failing before) w.servers position servers
     → (m : Server) × (slice_get w.servers node ≡ Some m) × (record w { servers = servers } ≡ record w { servers = slice_set w.servers node (failing m) })
-fails w node place servers here b =
+fails w node position servers here b =
     let own : ServerBecomes (λ before after. after ≡ failing before) w.servers node servers = subst (λ (n : ℕ). ServerBecomes (λ before after. after ≡ failing before) w.servers n servers) here b in
     (own.before, own.at, ap (λ (s : List Server). record w { servers = s }) own.is ∙ ap (λ (m : Server). record w { servers = slice_set w.servers node m }) own.becomes)
 
-pub fail_keeps : (w : WorldState) (place : ℕ) (servers : List Server) → ServerBecomes (λ before after. after ≡ failing before) w.servers place servers → Preserves w (record w { servers = servers })
-fail_keeps w place servers b =
-    subst (λ (s : List Server). Preserves w (record w { servers = s })) (sym b.is) (preserves_held w place b.before b.after b.at (ap shelved b.becomes))
+pub fail_keeps : (w : WorldState) (position : ℕ) (servers : List Server) → ServerBecomes (λ before after. after ≡ failing before) w.servers position servers → Preserves w (record w { servers = servers })
+fail_keeps w position servers b =
+    subst (λ (s : List Server). Preserves w (record w { servers = s })) (sym b.is) (preserves_held w position b.before b.after b.at (ap shelved b.becomes))
 
 pub refused : (w : WorldState) (number : ℕ) (new : List Operation) → number < length w.operations
     → ((op : Operation) → slice_get w.operations number ≡ Some op → new ≡ slice_set w.operations number (with_life Refused op))

@@ -26,7 +26,7 @@ use Rattle.request_record.specs.Follow.{IsSaid, Nothing, Said}
 use Rattle.world_operations.specs.Follow.{IsNewTask, Moves}
 use Rattle.world_operations.specs.Moves.{sent_to}
 use Rattle.world_operations.specs.Tasks.{IsRightTask, requests_of}
-use Rattle.world_operations.proofs.Places.{get_set_same, length_set, member_none, same_some}
+use Rattle.world_operations.proofs.Positions.{get_set_same, length_set, member_none, same_some}
 use Rattle.world.specs.State.{WorldState, new_server, new_world, node_count, nodes_of, shelved}
 use Rattle.world.specs.Step.{IsSpoken, answer_to, new_operation}
 use Rattle.world.specs.Consistent.{CameFrom, IsConsistent, Preserves}
@@ -153,7 +153,7 @@ preserves_said w from to body liar c = (
 -- ---- operations
 
 operation_goes : (New : Said) (w : WorldState) (i : ℕ) (old new : Operation) (after : List Sent) → slice_get w.operations i ≡ Some old → Moves New old new w.sent after
-    → ((place server : ℕ) (asks : Asked) (said : Body) → New place server asks said → CameFrom w.sent i old.node place server asks said) → IsRightTask new.task
+    → ((position server : ℕ) (asks : Asked) (said : Body) → New position server asks said → CameFrom w.sent i old.node position server asks said) → IsRightTask new.task
     → Preserves w (record w { operations = slice_set w.operations i new; sent = after })
 operation_goes New w i old new after at moves came right c = (
   operation_moves New w.servers w.operations w.sent after i old new at moves came right c,
@@ -168,19 +168,19 @@ pub preserves_got : (w : WorldState) (x : Sent) (m : Message) (old new : Operati
 preserves_got w x m old new after at node there spelled moves right c =
     let session : (requests_of old.task).session ≡ m.session = (c.fine m.session old at).session in
     operation_goes (IsSaid x.from m (requests_of old.task).session) w m.session old new after at moves
-    (λ place server asks said n. record {
+    (λ position server asks said n. record {
       frame = x;
       answer = m;
       was_sent = there;
       spelled = spelled;
       to = sym node;
-      says = subst (λ (s : ℕ). IsSaid x.from m s place server asks said) session n;
+      says = subst (λ (s : ℕ). IsSaid x.from m s position server asks said) session n;
     }) right c
 
 -- an operation ticks, or hands out and sends
 pub preserves_moved : (w : WorldState) (i : ℕ) (old new : Operation) (after : List Sent) → slice_get w.operations i ≡ Some old → Moves Nothing old new w.sent after → IsRightTask new.task
     → Preserves w (record w { operations = slice_set w.operations i new; sent = after })
-preserves_moved w i old new after at moves right c = operation_goes Nothing w i old new after at moves (λ place server asks said n. absurd n) right c
+preserves_moved w i old new after at moves right c = operation_goes Nothing w i old new after at moves (λ position server asks said n. absurd n) right c
 
 pub preserves_begun : (w : WorldState) (node : ℕ) (job : Job) (task : Task) → node < length w.servers → IsNewTask (nodes_of w) (length w.operations) job task → IsRightTask task
     → Preserves w (record w { operations = w.operations ++ new_operation node job (length w.sent) task ∷ [] })

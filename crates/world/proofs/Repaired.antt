@@ -46,7 +46,7 @@ use Rattle.world_operations.specs.declared.upload_pieces.UploadPieces.TheVariant
 use Rattle.world_operations.specs.Jobs.{IsFor, IsRepair, IsUpload}
 use Rattle.world_operations.proofs.Uploads.{could_start}
 use Rattle.world_operations.specs.Tasks.{IsRightTask, requests_of}
-use Rattle.world_operations.proofs.Places.{get_below, member_at, member_flat_cases, member_none, place_of_member, same_some}
+use Rattle.world_operations.proofs.Positions.{get_below, member_at, member_flat_cases, member_none, position_of_member, same_some}
 use Rattle.world.specs.State.{WorldState, shelved}
 use Rattle.world.specs.Consistent.{IsConsistent}
 use Rattle.world.specs.Headline.{Keeps}
@@ -64,14 +64,14 @@ use Rattle.world.proofs.Told.{IsToldOf, request_of}
 pub record IsAckOf (w : WorldState) (g : Goal) (pair : Pair) (op : Operation) (u : Up) : Type 0 where
   pub frame : Sent
   pub answer : Message
-  pub place : ℕ
+  pub position : ℕ
   pub request : Request
   pub was_sent : Contains w.sent frame
   pub spelled : IsBodyOf answer frame.body
   pub at : slice_get w.operations answer.session ≡ Some op
   pub task : op.task ≡ Uploading u
-  pub entry : slice_get u.course.requests.entries place ≡ Some request
-  pub number : answer.number ≡ place + 1
+  pub entry : slice_get u.course.requests.entries position ≡ Some request
+  pub number : answer.number ≡ position + 1
   pub from : frame.from ≡ request.server
   pub to : frame.to ≡ op.node
   pub acknowledges : Contains (acked_answer g request.server request.asked answer.body) pair
@@ -86,8 +86,8 @@ told w c g pair op u a m at says =
     let same : r.operation ≡ op = same_some r.operation op (sym r.at ∙ ap (λ (n : ℕ). slice_get w.operations n) (sym j.answers.session) ∙ a.at) in
     let task : r.operation.task ≡ Uploading u = ap (λ (o : Operation). o.task) same ∙ a.task in
     let by = request_of r.operation u j.frame j.request task r.request in
-    let place : by.place ≡ a.place = omega (arith, by.number, a.number, j.answers.number) in
-    let request : by.request ≡ a.request = same_some by.request a.request (sym by.entry ∙ ap (λ (n : ℕ). slice_get u.course.requests.entries n) place ∙ a.entry) in
+    let position : by.position ≡ a.position = omega (arith, by.number, a.number, j.answers.number) in
+    let request : by.request ≡ a.request = same_some by.request a.request (sym by.entry ∙ ap (λ (n : ℕ). slice_get u.course.requests.entries n) position ∙ a.entry) in
     record {
       request = j.request;
       spelled = subst (λ (q : Request). Spells u.course.goal.cap.storage_index q.asked j.request.body) request by.spelled;
@@ -132,20 +132,20 @@ acknowledged w c g pair number op u at task counted =
     let entries : List Request = u.course.requests.entries in
     let found = member_flat_cases (acked_by g) entries pair counted in
     let r : Request = found.0 in
-    let place = place_of_member entries r found.1 in
+    let position = position_of_member entries r found.1 in
     let said = answered_by g r r.outcome pair found.2 in
-    let entry : slice_get (requests_of op.task).entries place.0 ≡ Some r = subst (λ (t : Task). slice_get (requests_of t).entries place.0 ≡ Some r) (sym task) place.1 in
-    let came = (c.fine number op at).answers place.0 r said.0 entry said.1 in (
+    let entry : slice_get (requests_of op.task).entries position.0 ≡ Some r = subst (λ (t : Task). slice_get (requests_of t).entries position.0 ≡ Some r) (sym task) position.1 in
+    let came = (c.fine number op at).answers position.0 r said.0 entry said.1 in (
       record {
         frame = came.frame;
         answer = came.answer;
-        place = place.0;
+        position = position.0;
         request = r;
         was_sent = came.was_sent;
         spelled = came.spelled;
         at = ap (slice_get w.operations) came.says.session_is ∙ at;
         task = task;
-        entry = place.1;
+        entry = position.1;
         number = came.says.number_is;
         from = sym came.says.server_is;
         to = came.to;
@@ -193,7 +193,7 @@ repairs_are_acknowledged w c cap happy shares pairs pair r chosen =
       answer = a.0.answer;
       operation = r.operation;
       upload = r.upload;
-      place = a.0.place;
+      position = a.0.position;
       request = a.0.request;
       was_sent = a.0.was_sent;
       spelled = a.0.spelled;
@@ -242,7 +242,7 @@ repairs_keep w c no_clash cap happy shares pair a =
     record {
       frame = a.frame;
       answer = a.answer;
-      place = a.place;
+      position = a.position;
       request = a.request;
       was_sent = a.was_sent;
       spelled = a.spelled;
@@ -256,10 +256,10 @@ repairs_keep w c no_clash cap happy shares pair a =
     }
 
 repairs_make_own : (w : WorldState) → IsConsistent w → HasNoClashInAll w → RepairsMakeOwn w
-repairs_make_own w c no_clash file secret p happy number place started repair upload at uploads one_key of =
+repairs_make_own w c no_clash file secret p happy number position started repair upload at uploads one_key of =
     let cap : VerifyCapValue = verify_cap_of (prepared_of file secret p).cap in
     let own : List (List ℕ) = (encoding_of file secret (parameters_of p)).shares in
-    let is = for_repair w place cap happy repair upload c of in
+    let is = for_repair w position cap happy repair upload c of in
     let may : IsUpload file secret p = could_start started.job file secret p started.task uploads (c.fine number started at).started in
     let shape = has_shape (length file) p may.chosen may.not_small may.encodable in
     let count : length own ≡ p.total = length-shares file secret (parameters_of p) in
@@ -271,7 +271,7 @@ repairs_make_own w c no_clash file secret p happy number place started repair up
     let all : (input : List ℕ) → Contains inputs input → IsHashedInAll w input =
     λ input k. elim (Contains-append_cases (encoding_inputs file secret (parameters_of p)) (share_inputs sound.0 i sound.1) input k) [
       | inl of_file ↦ hashed_too (encoding_among w number started file secret p input at uploads one_key of_file)
-      | inr of_share ↦ hashed_of w place cap happy repair upload of is i low sound.0 sound.1 sound.2 input
+      | inr of_share ↦ hashed_of w position cap happy repair upload of is i low sound.0 sound.1 sound.2 input
           (member_there (tagged_input WholeShare (slice_index_or is.shares i [])) input (share_inputs sound.0 i sound.1) of_share)
     ] in
     file_shares_are_bound inputs (no_clash_of (IsHashedInAll w) inputs no_clash all) file secret (parameters_of p) shape

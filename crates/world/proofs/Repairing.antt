@@ -53,11 +53,11 @@ numbers_of good = map (λ (s : Share). s.0) good
 abbrev pub strings_of : List Share → List (List ℕ)
 strings_of good = map (λ (s : Share). s.1.items) good
 
--- what begins a repair, at its place
-at_place : (w : WorldState) (happy : ℕ) (check : CheckState) (cap : VerifyCapValue) (good : List Share) (servers : List ServerInfo) (session : ℕ) (job : Job) (task : Task)
+-- what begins a repair, at its position
+at_position : (w : WorldState) (happy : ℕ) (check : CheckState) (cap : VerifyCapValue) (good : List Share) (servers : List ServerInfo) (session : ℕ) (job : Job) (task : Task)
     → cap ≡ check.cap → servers ≡ servers_of w → session ≡ length w.operations → BeginsRepair cap happy (numbers_of good) (strings_of good) servers session w.clock job task
     → BeginsRepair check.cap happy (numbers_of good) (strings_of good) (servers_of w) (length w.operations) w.clock job task
-at_place w happy check cap good servers session job task cap_is servers_are session_is begins =
+at_position w happy check cap good servers session job task cap_is servers_are session_is begins =
     subst (λ (n : ℕ). BeginsRepair check.cap happy (numbers_of good) (strings_of good) (servers_of w) n w.clock job task) session_is
     (subst (λ (l : List ServerInfo). BeginsRepair check.cap happy (numbers_of good) (strings_of good) l session w.clock job task) servers_are
     (subst (λ (c : VerifyCapValue). BeginsRepair c happy (numbers_of good) (strings_of good) servers session w.clock job task) cap_is begins))
@@ -72,7 +72,7 @@ mending w node number happy check cap good taken servers session job task done c
   numbers = numbers_of taken;
   strings = strings_of taken;
   good = subst (λ (l : List Share). AreGoodShares check.cap check.requests.entries (numbers_of l) (strings_of l)) (sym same) are;
-  begins = at_place w happy check cap taken servers session job task cap_is servers_are session_is begins;
+  begins = at_position w happy check cap taken servers session job task cap_is servers_are session_is begins;
 }
 
 pub mending_new : (w : WorldState) (happy : ℕ) (check : CheckState) (cap : VerifyCapValue) (taken : List Share) (servers : List ServerInfo) (session : ℕ) (job : Job) (task : Task)
@@ -80,4 +80,4 @@ pub mending_new : (w : WorldState) (happy : ℕ) (check : CheckState) (cap : Ver
     → BeginsRepair cap happy (numbers_of taken) (strings_of taken) servers session w.clock job task → IsNewTask (nodes_of w) (length w.operations) job task
 mending_new w happy check cap taken servers session job task may cap_is servers_are session_is begins =
     new_repair (nodes_of w) check.cap happy (numbers_of taken) (strings_of taken) (servers_of w) (length w.operations) w.clock job task may
-    (at_place w happy check cap taken servers session job task cap_is servers_are session_is begins)
+    (at_position w happy check cap taken servers session job task cap_is servers_are session_is begins)

@@ -1,5 +1,5 @@
 -- An acknowledgement that an honest server sent answers the very request that it names, and what it tells is so: sessions and numbers are
--- places, so nothing else is needed to find the request.
+-- positions, so nothing else is needed to find the request.
 use Rattle.std.proofs.Common.{◌≡◌, ℕ, ◌<◌, List, length, false, Some, sym, subst, ap, ◌∙◌, arith}
 use Rattle.std.specs.Prelude.{slice_get}
 use Rattle.wire.specs.declared.message.Body.{Body}
@@ -17,7 +17,7 @@ use Rattle.world_operations.specs.declared.operation.Operation.{Operation}
 use Rattle.world_operations.specs.declared.task.Task.{Task}
 use Rattle.world_operations.specs.declared.task.Task.TheVariants.{Gone, Uploading}
 use Rattle.world_operations.specs.Follow.{IsRequestBy}
-use Rattle.world_operations.proofs.Places.{same_some}
+use Rattle.world_operations.proofs.Positions.{same_some}
 use Rattle.world.specs.State.{WorldState, shelved}
 use Rattle.world.specs.Consistent.{IsConsistent, IsRequestOf}
 use Rattle.world.specs.Consistent.{asked, gone}
@@ -48,9 +48,9 @@ acknowledgement_told w c file secret p pair a m at says =
     same_some r.operation a.operation (sym r.at ∙ ap (λ (n : ℕ). slice_get w.operations n) (sym j.answers.session) ∙ a.upload_of.at) in
     let task : r.operation.task ≡ Uploading a.upload = ap (λ (o : Operation). o.task) op ∙ a.upload_of.task in
     let by = request_of r.operation a.upload j.frame j.request task r.request in
-    let place : by.place ≡ a.place = omega (arith, by.number, a.number, j.answers.number) in
+    let position : by.position ≡ a.position = omega (arith, by.number, a.number, j.answers.number) in
     let request : by.request ≡ a.request =
-    same_some by.request a.request (sym by.entry ∙ ap (λ (n : ℕ). slice_get a.upload.course.requests.entries n) place ∙ a.entry) in
+    same_some by.request a.request (sym by.entry ∙ ap (λ (n : ℕ). slice_get a.upload.course.requests.entries n) position ∙ a.entry) in
     record {
       request = j.request;
       spelled = subst (λ (q : Request). Spells a.upload.course.goal.cap.storage_index q.asked j.request.body) request by.spelled;

@@ -43,13 +43,13 @@ block_in file secret p share segment =
 -- Each block that a download of its cap read and found right is the upload's.
 abbrev pub BlocksAreOwn : WorldState → Type 0
 BlocksAreOwn w = (file secret : List ℕ) (p : UploadParameters) (d : DownloadState) (f : Found)
-    (place segment : ℕ) (r : ReaderState)
+    (position segment : ℕ) (r : ReaderState)
     → IsStarted w file secret p → IsDownloadOf w (prepared_of file secret p).cap d
-    → d.found ≡ Some f → IsReader f.file place r → HasRightBlock d.requests.entries r segment
+    → d.found ≡ Some f → IsReader f.file position r → HasRightBlock d.requests.entries r segment
     → block_of d.requests.entries r.supply segment ≡ block_in file secret p r.share segment
 
 -- Each share that a check of its verify cap read to its end and that is good is the upload's, byte
--- for byte: what its server answered, joined by place.
+-- for byte: what its server answered, joined by offset.
 abbrev pub GoodSharesAreOwn : WorldState → Type 0
 GoodSharesAreOwn w = (file secret : List ℕ) (p : UploadParameters) (c : CheckState)
     (server share : ℕ) → IsStarted w file secret p
@@ -58,11 +58,11 @@ GoodSharesAreOwn w = (file secret : List ℕ) (p : UploadParameters) (c : CheckS
     → good.bytes ≡ slice_index_or (prepared_of file secret p).shares share []
 
 -- In an answer that counted, and that it sent to the node that downloads, the server told other
--- bytes than the share has at the place that it was asked for.
+-- bytes than the share has at the offset that it was asked for.
 pub record ToldOther (w : WorldState) (number node : ℕ) (d : DownloadState) (server num : ℕ)
     (share : List ℕ) : Type 0 where
   pub answered : AnsweredOther d.requests.entries server num share
-  pub sent : CameFrom w.sent number node answered.place server answered.request.asked
+  pub sent : CameFrom w.sent number node answered.position server answered.request.asked
       (Data answered.bytes)
 
 -- Each server that a download of its cap blames for a share told other bytes than the upload's

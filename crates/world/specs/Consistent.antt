@@ -64,26 +64,26 @@ AreOneRequest honest sent = (x y : Sent) (m n : Message) → Contains sent x →
     → m.number ≡ n.number → without_bytes m.body ≡ without_bytes n.body
 
 -- an answer that counted was sent by the server asked
-pub record CameFrom (sent : List Sent) (session node place server : ℕ) (asked : Asked)
+pub record CameFrom (sent : List Sent) (session node position server : ℕ) (asked : Asked)
     (said : Body) : Type 0 where
   pub frame : Sent
   pub answer : Message
   pub was_sent : Contains sent frame
   pub spelled : IsBodyOf answer frame.body
   pub to : frame.to ≡ node
-  pub says : IsSaid frame.from answer session place server asked said
+  pub says : IsSaid frame.from answer session position server asked said
 
--- An operation is what it was started for, at an honest node, and has its place as session. Its
+-- An operation is what it was started for, at an honest node, and has its position as session. Its
 -- machine is right, asked each honest node which shares it holds, and gave what it handed out.
 pub record IsFine (honest : ℕ) (sent : List Sent) (number : ℕ) (op : Operation) : Type 0 where
   pub node : op.node < honest
   pub started : IsFor op.job op.task
   pub session : (requests_of op.task).session ≡ number
   pub before : op.sent_before ≤ length sent
-  pub answers : (place : ℕ) (request : Request) (said : Body)
-      → slice_get (requests_of op.task).entries place ≡ Some request
+  pub answers : (position : ℕ) (request : Request) (said : Body)
+      → slice_get (requests_of op.task).entries position ≡ Some request
       → request.outcome ≡ Answered said
-      → CameFrom sent number op.node place request.server request.asked said
+      → CameFrom sent number op.node position request.server request.asked said
   pub right : IsRightTask op.task
   pub asked : HasAsked (range_with_len 0 honest) op.task
   pub given : AreGivenBy op.task op.given

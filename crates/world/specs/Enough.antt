@@ -39,7 +39,7 @@ TellsClosed id digest request answer = ⊥
 
 -- Before a moment a server told an operation of an honest node that a share is closed, and by which
 -- digest: in answer to its request, by session and number, and whatever became of the operation.
--- Moments are places in the list of what was sent.
+-- Moments are positions in the list of what was sent.
 pub record WasTold (w : WorldState) (before server : ℕ) (id : ShareId) (digest : List ℕ)
     : Type 0 where
   pub moment : ℕ

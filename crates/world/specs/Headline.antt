@@ -67,8 +67,8 @@ HasNoClash w = HasNoClashIn (IsHashed w)
 
 -- ---- what was answered
 
--- a download of a cap handed this byte out for this place
-pub record IsGiven (w : WorldState) (cap : ReadCapValue) (place byte : ℕ) : Type 0 where
+-- a download of a cap handed this byte out for this position
+pub record IsGiven (w : WorldState) (cap : ReadCapValue) (position byte : ℕ) : Type 0 where
   pub number : ℕ
   pub operation : Operation
   pub from : ℕ
@@ -78,7 +78,7 @@ pub record IsGiven (w : WorldState) (cap : ReadCapValue) (place byte : ℕ) : Ty
   pub at : slice_get w.operations number ≡ Some operation
   pub job : operation.job ≡ Download cap from to
   pub handed_out : Contains operation.given piece
-  pub place_is : place ≡ piece.place + offset
+  pub position_is : position ≡ piece.offset + offset
   pub byte_is : slice_get piece.bytes offset ≡ Some byte
 
 -- this operation is an upload of a file
@@ -109,13 +109,13 @@ pub record IsAcknowledgement (w : WorldState) (file secret : List ℕ) (p : Uplo
   pub answer : Message
   pub operation : Operation
   pub upload : upload_sends.Uploading UploadPieces
-  pub place : ℕ
+  pub position : ℕ
   pub request : Request
   pub was_sent : Contains w.sent frame
   pub spelled : IsBodyOf answer frame.body
   pub upload_of : IsUploadOf w answer.session file secret p operation upload
-  pub entry : slice_get upload.course.requests.entries place ≡ Some request
-  pub number : answer.number ≡ place + 1
+  pub entry : slice_get upload.course.requests.entries position ≡ Some request
+  pub number : answer.number ≡ position + 1
   pub from : frame.from ≡ request.server
   pub to : frame.to ≡ operation.node
   pub acknowledges : Contains
@@ -172,18 +172,18 @@ AcknowledgedKeep w =
     (file secret : List ℕ) (p : UploadParameters) (pair : Pair)
     → IsAcknowledgement w file secret p pair → KeepsShare w file secret p pair
 
--- No place of a cap's file has two bytes in what downloads were handed: running, ended or
+-- No position of a cap's file has two bytes in what downloads were handed: running, ended or
 -- forgotten, and whoever made the cap.
 abbrev pub DownloadsAgree : WorldState → Type 0
-DownloadsAgree w = (cap : ReadCapValue) (place a b : ℕ) → IsGiven w cap place a
-    → IsGiven w cap place b → a ≡ b
+DownloadsAgree w = (cap : ReadCapValue) (position a b : ℕ) → IsGiven w cap position a
+    → IsGiven w cap position b → a ≡ b
 
 -- And where an upload answered Happy with that cap, each byte is its file's.
 abbrev pub FilesAreGiven : WorldState → Type 0
 FilesAreGiven w =
-    (file secret : List ℕ) (p : UploadParameters) (pairs : List Pair) (place byte : ℕ)
-    → IsUploaded w file secret p pairs → IsGiven w (prepared_of file secret p).cap place byte
-    → slice_get file place ≡ Some byte
+    (file secret : List ℕ) (p : UploadParameters) (pairs : List Pair) (position byte : ℕ)
+    → IsUploaded w file secret p pairs → IsGiven w (prepared_of file secret p).cap position byte
+    → slice_get file position ≡ Some byte
 
 -- The headline, of one world. It holds of every world: each is made by `new`, and changed by events
 -- alone.
@@ -199,9 +199,9 @@ pub record IsTrusted (w : WorldState) : Type 0 where
 abbrev pub IsGone : Task → Type 0
 IsGone task = (number : ℕ) × (task ≡ Gone number)
 
--- An operation stands at its place, as it was or further on: of the same node, for the same job and
--- begun at the same moment. What it asked stays asked, unless its machine is gone, which then it
--- stays.
+-- An operation stands at its position, as it was or further on: of the same node, for the same job
+-- and begun at the same moment. What it asked stays asked, unless its machine is gone, which then
+-- it stays.
 pub record StaysAt (w : WorldState) (number : ℕ) (old : Operation) : Type 0 where
   pub operation : Operation
   pub at : slice_get w.operations number ≡ Some operation
@@ -209,9 +209,9 @@ pub record StaysAt (w : WorldState) (number : ℕ) (old : Operation) : Type 0 wh
   pub job : operation.job ≡ old.job
   pub sent_before : operation.sent_before ≡ old.sent_before
   pub gone : IsGone old.task → IsGone operation.task
-  pub asked : (place : ℕ) (r : Request)
-      → slice_get (requests_of old.task).entries place ≡ Some r
-      → IsGone operation.task ⊎ StillAsks (requests_of operation.task).entries place r
+  pub asked : (position : ℕ) (r : Request)
+      → slice_get (requests_of old.task).entries position ≡ Some r
+      → IsGone operation.task ⊎ StillAsks (requests_of operation.task).entries position r
 
 -- What was answered stays: a later world has all that was hashed, every operation, every byte that
 -- was handed out, every upload and every repair that answered Happy, every share that was closed,
@@ -220,8 +220,8 @@ pub record IsLater (old new : WorldState) : Type 0 where
   pub hashed : (input : List ℕ) → IsHashed old input → IsHashed new input
   pub operations : (number : ℕ) (operation : Operation)
       → StaysAt old number operation → StaysAt new number operation
-  pub given : (cap : ReadCapValue) (place byte : ℕ) → IsGiven old cap place byte
-      → IsGiven new cap place byte
+  pub given : (cap : ReadCapValue) (position byte : ℕ) → IsGiven old cap position byte
+      → IsGiven new cap position byte
   pub uploaded : (file secret : List ℕ) (p : UploadParameters) (pairs : List Pair)
       → IsUploaded old file secret p pairs → IsUploaded new file secret p pairs
   pub repaired : (cap : VerifyCapValue) (happy : ℕ) (shares : List (List ℕ)) (pairs : List Pair)

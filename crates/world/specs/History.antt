@@ -24,7 +24,7 @@ pub record IsAnswerBy (sent : List Sent) (x : Sent) (answer : Message) (s : Shel
   pub all : TellsAll s request.body answer.body
 
 -- The shelf of a server at each moment, from which nothing goes away that is closed. Each of its
--- answers tells how it stood then. Moments are places in the list of what was sent.
+-- answers tells how it stood then. Moments are positions in the list of what was sent.
 pub record HasHistory (sent : List Sent) (node : ℕ) (m : ServerState MemoryState) : Type 0 where
   pub shelf_at : ℕ → Shelf
   pub stays : (i j : ℕ) → i ≤ j → ClosedStay (shelf_at i) (shelf_at j)

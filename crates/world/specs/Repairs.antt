@@ -41,14 +41,14 @@ pub record IsRepairAcknowledgement (w : WorldState) (cap : VerifyCapValue) (happ
   pub answer : Message
   pub operation : Operation
   pub upload : upload_sends.Uploading UploadPieces
-  pub place : ℕ
+  pub position : ℕ
   pub request : Request
   pub was_sent : Contains w.sent frame
   pub spelled : IsBodyOf answer frame.body
   pub repair_of : IsRepairOf w answer.session cap happy operation upload
   pub shares_are : upload.pieces ≡ Whole shares
-  pub entry : slice_get upload.course.requests.entries place ≡ Some request
-  pub number : answer.number ≡ place + 1
+  pub entry : slice_get upload.course.requests.entries position ≡ Some request
+  pub number : answer.number ≡ position + 1
   pub from : frame.from ≡ request.server
   pub to : frame.to ≡ operation.node
   pub acknowledges : Contains
@@ -101,11 +101,11 @@ RepairsKeep w =
 -- And where the upload of a file was started with that cap, what was made is the file's own shares.
 abbrev pub RepairsMakeOwn : WorldState → Type 0
 RepairsMakeOwn w =
-    (file secret : List ℕ) (p : UploadParameters) (happy number place : ℕ)
+    (file secret : List ℕ) (p : UploadParameters) (happy number position : ℕ)
     (started repair : Operation) (upload : upload_sends.Uploading UploadPieces)
     → slice_get w.operations number ≡ Some started → Uploads started.job file secret p
     → HasOneKey started.job
-    → IsRepairOf w place (verify_cap_of (prepared_of file secret p).cap) happy repair upload
+    → IsRepairOf w position (verify_cap_of (prepared_of file secret p).cap) happy repair upload
     → upload.pieces ≡ Whole (prepared_of file secret p).shares
 
 -- What holds of the repairs of one world. It holds of every world.

@@ -13,7 +13,7 @@ use Rattle.world_operations.specs.declared.operation.Operation.{Operation}
 use Rattle.world.specs.declared.scene.Scene.{Scene}
 
 -- Nodes 0, 1, .. are honest, and have servers; liars come after them, each with what it heard.
--- Operations and messages are named by their places.
+-- Operations and messages are named by their positions.
 pub record WorldState : Type 0 where
   pub servers : List (ServerState MemoryState)
   pub heard : List (List Sent)

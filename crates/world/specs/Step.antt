@@ -43,9 +43,9 @@ with_sent w from to body =
 
 -- a liar hears a message
 abbrev pub with_heard : WorldState → ℕ → Sent → Option (List Sent) → WorldState
-with_heard w place x None = w
-with_heard w place x (Some heard) =
-    record w { heard = slice_set w.heard place (heard ++ x ∷ []) }
+with_heard w position x None = w
+with_heard w position x (Some heard) =
+    record w { heard = slice_set w.heard position (heard ++ x ∷ []) }
 
 abbrev pub with_life : Life → Operation → Operation
 with_life life op = record op { life = life }

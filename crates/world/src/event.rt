@@ -6,7 +6,7 @@ use wire::message::NodeId;
 use world_operations::job::Job;
 
 /// One atomic step of one actor. Nodes are named by their numbers, messages and operations by their
-/// places.
+/// positions.
 #[derive(Drop)]
 pub enum Event {
     /// An honest node starts an operation.

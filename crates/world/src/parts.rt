@@ -1,4 +1,4 @@
-//! The parts of a world: a server, or an operation, at its place.
+//! The parts of a world: a server, or an operation, at its position.
 
 ghost use Rattle.std.specs.Prelude.{◌≡◌, ◌≢◌, ◌<◌, ◌++◌, ◌∷◌, [], List, Some, OnErr, OnOk, map};
 ghost use Rattle.std.specs.Prelude.{IfNone, IfOk, IfSome};
@@ -65,46 +65,46 @@ pub fn read_body(alloc: Global, body: &[u8]) -> Result<Option<Message>, AllocErr
     }
 }
 
-/// The server at a place answers a message.
+/// The server at a position answers a message.
 pub(crate) fn serve_at(
     servers: &mut Vec<Server<MemoryStore>>,
-    place: usize,
+    position: usize,
     from: NodeId,
     message: &Message,
     now: u64,
 ) -> Result<Option<Message>, ServerFault>
-    requires { place < vec_len servers.old }
-    ensures { ServerBecomes (ServesBy from message.now now result) servers.old.items place
+    requires { position < vec_len servers.old }
+    ensures { ServerBecomes (ServesBy from message.now now result) servers.old.items position
         servers.new.items }
 {
-    servers[place].on_message(from, message, now)
+    servers[position].on_message(from, message, now)
 }
 
-/// The server at a place takes note of a second.
-pub(crate) fn tick_server(servers: &mut Vec<Server<MemoryStore>>, place: usize, now: u64)
-    requires { place < vec_len servers.old }
-    ensures { ServerBecomes (λ before after. Ticks before now after) servers.old.items place
+/// The server at a position takes note of a second.
+pub(crate) fn tick_server(servers: &mut Vec<Server<MemoryStore>>, position: usize, now: u64)
+    requires { position < vec_len servers.old }
+    ensures { ServerBecomes (λ before after. Ticks before now after) servers.old.items position
         servers.new.items }
 {
-    servers[place].tick(now);
+    servers[position].tick(now);
 }
 
-/// The server at a place forgets its open buckets.
-pub(crate) fn restart_server(servers: &mut Vec<Server<MemoryStore>>, place: usize)
-    requires { place < vec_len servers.old }
-    ensures { ServerBecomes (RestartsTo memory_calls.restart_gives) servers.old.items place
+/// The server at a position forgets its open buckets.
+pub(crate) fn restart_server(servers: &mut Vec<Server<MemoryStore>>, position: usize)
+    requires { position < vec_len servers.old }
+    ensures { ServerBecomes (RestartsTo memory_calls.restart_gives) servers.old.items position
         servers.new.items }
 {
-    servers[place].restart();
+    servers[position].restart();
 }
 
-/// The store of the server at a place fails at its next call that can fail.
-pub(crate) fn fail_server(servers: &mut Vec<Server<MemoryStore>>, place: usize)
-    requires { place < vec_len servers.old }
-    ensures { ServerBecomes (λ before after. after ≡ failing before) servers.old.items place
+/// The store of the server at a position fails at its next call that can fail.
+pub(crate) fn fail_server(servers: &mut Vec<Server<MemoryStore>>, position: usize)
+    requires { position < vec_len servers.old }
+    ensures { ServerBecomes (λ before after. after ≡ failing before) servers.old.items position
         servers.new.items }
 {
-    servers[place].fail_store();
+    servers[position].fail_store();
 }
 
 /// Is it a live operation of this node?
@@ -139,43 +139,44 @@ pub(crate) fn done_check(operation: &Operation) -> Option<&KeepingCheck>
     }
 }
 
-/// The operation at a place takes a message over.
+/// The operation at a position takes a message over.
 pub(crate) fn answer_at(
     alloc: Global,
     operations: &mut Vec<Operation>,
-    place: usize,
+    position: usize,
     from: NodeId,
     message: Message,
     now: u64,
     sent: &mut Vec<Sent>,
 ) -> Result<(), AllocError>
-    requires { place < vec_len operations.old }
+    requires { position < vec_len operations.old }
     ensures ok { OnOk result (OperationBecomes (λ op more next. OperationGets from message now op
-        more next) operations.old.items place sent.old.items operations.new.items
+        more next) operations.old.items position sent.old.items operations.new.items
         sent.new.items) }
-    ensures some { OperationMoves (SaidBy from message) operations.old.items place sent.old.items
+    ensures some { OperationMoves (SaidBy from message) operations.old.items position sent.old.items
         operations.new.items sent.new.items }
 {
-    let operation = &mut operations[place];
+    let operation = &mut operations[position];
     let outcome = operation.on_message(alloc, from, message, now, sent);
     operation.know_right();
     outcome
 }
 
-/// The operation at a place hands out what its machine made, and sends what it has to send.
+/// The operation at a position hands out what its machine made, and sends what it has to send.
 pub(crate) fn flush_at(
     alloc: Global,
     operations: &mut Vec<Operation>,
-    place: usize,
+    position: usize,
     sent: &mut Vec<Sent>,
 ) -> Result<(), AllocError>
-    requires { place < vec_len operations.old }
-    ensures ok { OnOk result (OperationBecomes IsFlushed operations.old.items place sent.old.items
+    requires { position < vec_len operations.old }
+    ensures ok { OnOk result (OperationBecomes IsFlushed operations.old.items position
+        sent.old.items
         operations.new.items sent.new.items) }
-    ensures some { OperationMoves NothingNew operations.old.items place sent.old.items
+    ensures some { OperationMoves NothingNew operations.old.items position sent.old.items
         operations.new.items sent.new.items }
 {
-    let operation = &mut operations[place];
+    let operation = &mut operations[position];
     let outcome = operation.flush(alloc, sent);
     operation.know_right();
     outcome
@@ -199,22 +200,22 @@ fn tick_one(
     operation.tick(alloc, now, sent)
 }
 
-/// The operation at a place takes note of a second, if it is a live one of this node.
+/// The operation at a position takes note of a second, if it is a live one of this node.
 pub(crate) fn tick_at(
     alloc: Global,
     operations: &mut Vec<Operation>,
-    place: usize,
+    position: usize,
     node: NodeId,
     now: u64,
     sent: &mut Vec<Sent>,
 ) -> Result<(), AllocError>
-    requires { place < vec_len operations.old }
-    ensures ok { OnOk result (OperationBecomes (TicksOrStays node now) operations.old.items place
+    requires { position < vec_len operations.old }
+    ensures ok { OnOk result (OperationBecomes (TicksOrStays node now) operations.old.items position
         sent.old.items operations.new.items sent.new.items) }
-    ensures some { OperationMoves NothingNew operations.old.items place sent.old.items
+    ensures some { OperationMoves NothingNew operations.old.items position sent.old.items
         operations.new.items sent.new.items }
 {
-    let operation = &mut operations[place];
+    let operation = &mut operations[position];
     let outcome = tick_one(alloc, operation, node, now, sent);
     operation.know_right();
     outcome
@@ -232,13 +233,13 @@ pub(crate) fn push_operation(
     Ok(())
 }
 
-/// This is what became of the operation at a place.
-pub(crate) fn set_life(operations: &mut Vec<Operation>, place: usize, life: Life)
-    requires { place < vec_len operations.old }
-    ensures { (op : Operation) → slice_get operations.old.items place ≡ Some op
-        → operations.new.items ≡ slice_set operations.old.items place (with_life life op) }
+/// This is what became of the operation at a position.
+pub(crate) fn set_life(operations: &mut Vec<Operation>, position: usize, life: Life)
+    requires { position < vec_len operations.old }
+    ensures { (op : Operation) → slice_get operations.old.items position ≡ Some op
+        → operations.new.items ≡ slice_set operations.old.items position (with_life life op) }
 {
-    operations[place].life = life;
+    operations[position].life = life;
 }
 
 // An operation is forgotten, if it is one of this node and runs.

@@ -75,14 +75,14 @@ impl Scene {
         ensures keeps { (x : Sent) → x.from ≡ from → x.to ≡ to → Contains self.old.sent.items x
             → IsBodyOf message x.body → Preserves (state_of self.old) (state_of self.new) }
     {
-        let place = message.session as usize;
-        if place >= self.operations.len() || !is_live_at(&self.operations[place], to) {
+        let position = message.session as usize;
+        if position >= self.operations.len() || !is_live_at(&self.operations[position], to) {
             return Ok(());
         }
         answer_at(
             self.alloc,
             &mut self.operations,
-            place,
+            position,
             from,
             message,
             self.clock,
@@ -104,10 +104,10 @@ impl Scene {
         self.answer(from, to, message)
     }
 
-    // A liar hears the message at a place, if there is such a liar.
-    fn hear(&mut self, place: usize, liar: usize) -> Result<(), AllocError>
-        requires { place < length self.old.sent.items }
-        ensures ok { OnOk result ((x : Sent) → slice_get self.old.sent.items place ≡ Some x
+    // A liar hears the message at a position, if there is such a liar.
+    fn hear(&mut self, position: usize, liar: usize) -> Result<(), AllocError>
+        requires { position < length self.old.sent.items }
+        ensures ok { OnOk result ((x : Sent) → slice_get self.old.sent.items position ≡ Some x
             → state_of self.new ≡ with_heard (state_of self.old) liar x
             (slice_get self.old.heard.items liar)) }
         ensures keeps { Preserves (state_of self.old) (state_of self.new) }
@@ -115,24 +115,24 @@ impl Scene {
         if liar >= self.heard.len() {
             return Ok(());
         }
-        let sent = self.sent[place].copied(self.alloc)?;
+        let sent = self.sent[position].copied(self.alloc)?;
         hear_at(&mut self.heard, liar, sent)
     }
 
-    /// The message at a place comes to its receiver, again too.
-    pub(crate) fn deliver(&mut self, place: usize) -> Result<(), AllocError>
-        requires { place < length self.old.sent.items }
-        ensures ok { OnOk result ((x : Sent) → slice_get self.old.sent.items place ≡ Some x
+    /// The message at a position comes to its receiver, again too.
+    pub(crate) fn deliver(&mut self, position: usize) -> Result<(), AllocError>
+        requires { position < length self.old.sent.items }
+        ensures ok { OnOk result ((x : Sent) → slice_get self.old.sent.items position ≡ Some x
             → Delivers (state_of self.old) x (state_of self.new)) }
         ensures keeps { Preserves (state_of self.old) (state_of self.new) }
     {
-        let sent = &self.sent[place];
+        let sent = &self.sent[position];
         let (from, to) = (sent.from, sent.to);
         if usize::from(to) >= self.servers.len() {
             let liar = usize::from(to) - self.servers.len();
-            return self.hear(place, liar);
+            return self.hear(position, liar);
         }
-        match read_body(self.alloc, self.sent[place].body.as_slice())? {
+        match read_body(self.alloc, self.sent[position].body.as_slice())? {
             Some(message) => self.take(from, to, message),
             None => Ok(()),
         }
@@ -235,7 +235,7 @@ impl Scene {
         fail_server(&mut self.servers, usize::from(node));
     }
 
-    /// Does the operation at a place run?
+    /// Does the operation at a position run?
     pub(crate) fn is_running(&self, number: usize) -> bool
         ensures { IsTrue result ↔ ((op : Operation)
             × (slice_get self.now.operations.items number ≡ Some op) × IsRunning op) }
@@ -246,7 +246,7 @@ impl Scene {
         }
     }
 
-    /// The operation at a place ends as one that found no memory.
+    /// The operation at a position ends as one that found no memory.
     pub(crate) fn refuse(&mut self, number: usize)
         requires { number < length self.old.operations.items }
         ensures step { Step (state_of self.old) (Refuse number) (state_of self.new) }
@@ -274,12 +274,12 @@ impl Scene {
     }
 }
 
-// The liar at a place hears a message.
-fn hear_at(heard: &mut Vec<Heard>, place: usize, sent: Sent) -> Result<(), AllocError>
-    requires { place < vec_len heard.old }
-    ensures ok { OnOk result ((h : List Sent) → slice_get heard.old.items place ≡ Some h
-        → heard.new.items ≡ slice_set heard.old.items place (h ++ sent ∷ [])) }
+// The liar at a position hears a message.
+fn hear_at(heard: &mut Vec<Heard>, position: usize, sent: Sent) -> Result<(), AllocError>
+    requires { position < vec_len heard.old }
+    ensures ok { OnOk result ((h : List Sent) → slice_get heard.old.items position ≡ Some h
+        → heard.new.items ≡ slice_set heard.old.items position (h ++ sent ∷ [])) }
     ensures len { length heard.new.items ≡ length heard.old.items }
 {
-    heard[place].push(sent)
+    heard[position].push(sent)
 }

@@ -22,8 +22,8 @@ impl Scene {
     fn is_liar(&self, node: NodeId) -> bool
         ensures { IsTrue result ↔ IsLiar (state_of self.now) node }
     {
-        let place = usize::from(node);
-        self.servers.len() <= place && place < self.servers.len() + self.heard.len()
+        let position = usize::from(node);
+        self.servers.len() <= position && position < self.servers.len() + self.heard.len()
     }
 
     // Is it a node?
@@ -60,14 +60,14 @@ impl Scene {
     }
 
     // A message comes to its receiver.
-    fn take_delivery(&mut self, place: usize) -> Result<(), StartError>
-        ensures taken { IsTaken (state_of self.old) (Deliver place) result (state_of self.new) }
+    fn take_delivery(&mut self, position: usize) -> Result<(), StartError>
+        ensures taken { IsTaken (state_of self.old) (Deliver position) result (state_of self.new) }
         ensures keeps { Preserves (state_of self.old) (state_of self.new) }
     {
-        if place >= self.sent.len() {
+        if position >= self.sent.len() {
             return Err(StartError::Refused);
         }
-        match self.deliver(place) {
+        match self.deliver(position) {
             Ok(()) => Ok(()),
             Err(_) => Err(StartError::OutOfMemory),
         }
@@ -149,8 +149,8 @@ impl Scene {
         if !self.is_liar(node) {
             return Err(StartError::Refused);
         }
-        let place = usize::from(node) - self.servers.len();
-        let Some((to, body)) = turn_of(liars, place, self.heard[place].as_slice()) else {
+        let position = usize::from(node) - self.servers.len();
+        let Some((to, body)) = turn_of(liars, position, self.heard[position].as_slice()) else {
             return Ok(());
         };
         if !self.is_node(to) {
@@ -175,7 +175,7 @@ impl Scene {
         match event {
             Event::Start(node, job) => self.take_start(*node, job),
             Event::Repair(node, number, happy) => self.take_repair(*node, *number, *happy),
-            Event::Deliver(place) => self.take_delivery(*place),
+            Event::Deliver(position) => self.take_delivery(*position),
             Event::Forge(liar, to, body) => self.take_forgery(*liar, *to, body),
             Event::Turn(liar) => self.take_turn(liars, *liar),
             Event::Pass(seconds) => {
@@ -190,13 +190,13 @@ impl Scene {
     }
 }
 
-// What the liar at a place says at its turn.
+// What the liar at a position says at its turn.
 fn turn_of(
     liars: &mut Vec<Box<dyn Liar>>,
-    place: usize,
+    position: usize,
     heard: &[Sent],
 ) -> Option<(NodeId, Bytes)> {
-    let liar = liars.get_mut(place)?;
+    let liar = liars.get_mut(position)?;
     match liar.turn(heard) {
         Ok(said) => said,
         Err(_) => None,

@@ -22,7 +22,7 @@ use Rattle.world_operations.specs.UploadPieces.{fails, gives}
 use Rattle.world_operations.specs.declared.upload_pieces.UploadPieces.{UploadPieces}
 use Rattle.request_record.specs.Follow.{Nothing, Said}
 use Rattle.world_operations.specs.Follow.{GoesOn, IsFrameOf, IsRequestBy, SendsSome}
-use Rattle.world_operations.proofs.Places.{append_none, member_cases, member_none}
+use Rattle.world_operations.proofs.Positions.{append_none, member_cases, member_none}
 use Rattle.world_operations.proofs.TaskMoves.{State, by_taking, goes_on, taken}
 
 -- a body that asks is a request
@@ -37,8 +37,8 @@ asks index _ _ s = absurd s
 
 pub request_on : (New : Said) (old new : Task) (x : Sent) (m : Message) → GoesOn New old new → IsRequestBy old x m → IsRequestBy new x m
 request_on New old new x m g r =
-    let s = g.follows.keeps r.place r.request r.entry in record {
-      place = r.place;
+    let s = g.follows.keeps r.position r.request r.entry in record {
+      position = r.position;
       request = s.request;
       entry = s.at;
       number = r.number;
@@ -69,27 +69,27 @@ tells_spells index old new (Aborting share) body t = t.0
 same_pair : (a b : ℕ × Message) → Some a ≡ Some b → a ≡ b
 same_pair a b e = cc
 
--- the message of a request at a place
-framed : (t : Task) (node to place : ℕ) (m : Message) (request : Request) (body : Body) → slice_get (requests_of t).entries place ≡ Some request → to ≡ request.server
-    → Spells (index_of t) request.asked body → m ≡ message_at place body (requests_of t) → IsMessage m → IsFrameOf t node (sent_to node to m)
-framed t node to place m request body entry server spelled is spoken =
+-- the message of a request at a position
+framed : (t : Task) (node to position : ℕ) (m : Message) (request : Request) (body : Body) → slice_get (requests_of t).entries position ≡ Some request → to ≡ request.server
+    → Spells (index_of t) request.asked body → m ≡ message_at position body (requests_of t) → IsMessage m → IsFrameOf t node (sent_to node to m)
+framed t node to position m request body entry server spelled is spoken =
     let spells : Spells (index_of t) request.asked m.body = subst (λ (x : Message). Spells (index_of t) request.asked x.body) (sym is) spelled in record {
       message = m;
       body = (spoken, refl);
       from = refl;
       session = ap (λ (x : Message). x.session) is;
-      request = record { place = place; request = request; entry = entry; number = ap (λ (x : Message). x.number) is; server = server; spelled = spells };
+      request = record { position = position; request = request; entry = entry; number = ap (λ (x : Message). x.number) is; server = server; spelled = spells };
       asks = asks (index_of t) request.asked m.body spells;
     }
 
 upload_framed : (u v : State) (node to : ℕ) (m : Message) → upload_sends.Takes gives fails u (Some (to, m)) v → IsMessage m → IsFrameOf (Uploading u) node (sent_to node to m)
 upload_framed u v node to m (upload_sends.nothing first none is) spoken = absurd cc
-upload_framed u v node to m (upload_sends.ceases place server asked fault running first there faults none is) spoken = absurd cc
-upload_framed u v node to m (upload_sends.sends place server asked body first there tells some is) spoken =
-    let pair : (to, m) ≡ (server, message_at place body u.course.requests) = same_pair (to, m) (server, message_at place body u.course.requests) some in
+upload_framed u v node to m (upload_sends.ceases position server asked fault running first there faults none is) spoken = absurd cc
+upload_framed u v node to m (upload_sends.sends position server asked body first there tells some is) spoken =
+    let pair : (to, m) ≡ (server, message_at position body u.course.requests) = same_pair (to, m) (server, message_at position body u.course.requests) some in
     let index : List ℕ = u.course.goal.cap.storage_index in
     let spelled : Spells index there.0.asked body = subst (λ (a : Asked). Spells index a body) (sym there.3) (tells_spells index u.pieces v.pieces asked body tells) in
-    framed (Uploading u) node to place m there.0 body there.1 (ap (λ (p : ℕ × Message). p.0) pair ∙ sym there.2) spelled (ap (λ (p : ℕ × Message). p.1) pair) spoken
+    framed (Uploading u) node to position m there.0 body there.1 (ap (λ (p : ℕ × Message). p.0) pair ∙ sym there.2) spelled (ap (λ (p : ℕ × Message). p.1) pair) spoken
 
 pub frame_taken : (old new : Task) (node to : ℕ) (m : Message) → Takes old (Some (to, m)) new → IsMessage m → IsFrameOf old node (sent_to node to m)
 frame_taken old new node to m t spoken =

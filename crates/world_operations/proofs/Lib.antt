@@ -1,4 +1,4 @@
-pub mod Places
+pub mod Positions
 pub mod TaskMoves
 pub mod Frames
 pub mod Beginnings

@@ -26,7 +26,7 @@ use Rattle.world_operations.specs.UploadPieces.{fails, gives}
 use Rattle.world_operations.specs.declared.upload_pieces.UploadPieces.{UploadPieces}
 use Rattle.request_record.specs.Follow.{Nothing, Said}
 use Rattle.world_operations.specs.Follow.{GoesOn, IsSameOperation, Moves, SendsSome}
-use Rattle.world_operations.proofs.Places.{append_none}
+use Rattle.world_operations.proofs.Positions.{append_none}
 use Rattle.world_operations.proofs.Frames.{sends_none, sends_on}
 use Rattle.world_operations.proofs.TaskMoves.{by_taking, goes_nowhere, goes_on, handed}
 
@@ -59,29 +59,29 @@ pub sending_ends : (node : ℕ) (first now next : Task) (before mid after : List
     → (more : List Sent) × (after ≡ before ++ more) × SendsAll node first more next
 sending_ends node first now next before mid after i one = (i.more, one.1 ∙ i.appended, (now, i.sends, one.0))
 
-dropped : (xs ys : List ℕ) (place : ℕ) → slice_get xs 0 ≡ Some place → ys ≡ drop 1 xs → length ys < length xs
-dropped [] ys place e f = absurd cc
-dropped (x ∷ xs) ys place e f = (let same : length ys ≡ length xs = ap length f in omega (arith, same))
+dropped : (xs ys : List ℕ) (position : ℕ) → slice_get xs 0 ≡ Some position → ys ≡ drop 1 xs → length ys < length xs
+dropped [] ys position e f = absurd cc
+dropped (x ∷ xs) ys position e f = (let same : length ys ≡ length xs = ap length f in omega (arith, same))
 
-upload_dropped : (s : UploadStatus) (xs ys : List ℕ) (place : ℕ) → upload_sends.first_of s xs ≡ Some place → ys ≡ drop 1 xs → length ys < length xs
-upload_dropped uploads.Running xs ys place e f = dropped xs ys place e f
-upload_dropped (uploads.Happy pairs) xs ys place e f = dropped xs ys place e f
-upload_dropped (uploads.Unhappy reached blocking) xs ys place e f = dropped xs ys place e f
-upload_dropped (uploads.Failed fault) xs ys place e f = absurd cc
+upload_dropped : (s : UploadStatus) (xs ys : List ℕ) (position : ℕ) → upload_sends.first_of s xs ≡ Some position → ys ≡ drop 1 xs → length ys < length xs
+upload_dropped uploads.Running xs ys position e f = dropped xs ys position e f
+upload_dropped (uploads.Happy pairs) xs ys position e f = dropped xs ys position e f
+upload_dropped (uploads.Unhappy reached blocking) xs ys position e f = dropped xs ys position e f
+upload_dropped (uploads.Failed fault) xs ys position e f = absurd cc
 
-download_dropped : (s : DownloadStatus) (xs ys : List ℕ) (place : ℕ) → download_sends.first_of s xs ≡ Some place → ys ≡ drop 1 xs → length ys < length xs
-download_dropped downloads.Running xs ys place e f = dropped xs ys place e f
-download_dropped downloads.Done xs ys place e f = dropped xs ys place e f
-download_dropped downloads.NotEnoughShares xs ys place e f = dropped xs ys place e f
-download_dropped downloads.Inconsistent xs ys place e f = dropped xs ys place e f
-download_dropped downloads.Failed xs ys place e f = absurd cc
+download_dropped : (s : DownloadStatus) (xs ys : List ℕ) (position : ℕ) → download_sends.first_of s xs ≡ Some position → ys ≡ drop 1 xs → length ys < length xs
+download_dropped downloads.Running xs ys position e f = dropped xs ys position e f
+download_dropped downloads.Done xs ys position e f = dropped xs ys position e f
+download_dropped downloads.NotEnoughShares xs ys position e f = dropped xs ys position e f
+download_dropped downloads.Inconsistent xs ys position e f = dropped xs ys position e f
+download_dropped downloads.Failed xs ys position e f = absurd cc
 
 upload_less : (u v : upload_sends.Uploading UploadPieces) (f : ℕ × Message) → upload_sends.Takes gives fails u (Some f) v
     → length v.course.requests.outgoing < length u.course.requests.outgoing
 upload_less u v f (upload_sends.nothing first none is) = absurd cc
-upload_less u v f (upload_sends.ceases place server asked fault running first there faults none is) = absurd cc
-upload_less u v f (upload_sends.sends place server asked body first there tells some is) =
-    upload_dropped u.course.status u.course.requests.outgoing v.course.requests.outgoing place first (ap (λ (x : UploadState). x.requests.outgoing) is)
+upload_less u v f (upload_sends.ceases position server asked fault running first there faults none is) = absurd cc
+upload_less u v f (upload_sends.sends position server asked body first there tells some is) =
+    upload_dropped u.course.status u.course.requests.outgoing v.course.requests.outgoing position first (ap (λ (x : UploadState). x.requests.outgoing) is)
 
 -- one less is to be sent
 taken_less : (old new : Task) (f : ℕ × Message) → Takes old (Some f) new → length (requests_of new).outgoing < length (requests_of old).outgoing

@@ -181,12 +181,12 @@ tells_keep index old new (Aborting share) body t = λ shares e. t.1 ∙ e
 
 upload_takes : (u v : State) (f : Option (ℕ × Message)) → upload_sends.Takes gives fails u f v → GoesOn Nothing (Uploading u) (Uploading v)
 upload_takes u v f (upload_sends.nothing first none is) = same_goes Nothing (Uploading u) (Uploading v) (ap Uploading is)
-upload_takes u v f (upload_sends.ceases place server asked fault running first there faults none is) =
+upload_takes u v f (upload_sends.ceases position server asked fault running first there faults none is) =
     upload_continues Nothing u v (none_fail u.pieces v.pieces asked fault faults) (λ over. absurd (over running))
-    (takes_continue gives fails u v f (upload_sends.ceases place server asked fault running first there faults none is))
-upload_takes u v f (upload_sends.sends place server asked body first there tells some is) =
+    (takes_continue gives fails u v f (upload_sends.ceases position server asked fault running first there faults none is))
+upload_takes u v f (upload_sends.sends position server asked body first there tells some is) =
     upload_continues Nothing u v (tells_keep u.course.goal.cap.storage_index u.pieces v.pieces asked body tells) (λ over. ap (λ (x : UploadState). x.status) is)
-    (takes_continue gives fails u v f (upload_sends.sends place server asked body first there tells some is))
+    (takes_continue gives fails u v f (upload_sends.sends position server asked body first there tells some is))
 
 -- ---- downloads and checks
 

@@ -34,10 +34,10 @@ pub record GoesOn (New : Said) (old new : Task) : Type 0 where
 
 -- a message is a request of this machine, by its number
 pub record IsRequestBy (task : Task) (x : Sent) (m : Message) : Type 0 where
-  pub place : ℕ
+  pub position : ℕ
   pub request : Request
-  pub entry : slice_get (requests_of task).entries place ≡ Some request
-  pub number : m.number ≡ place + 1
+  pub entry : slice_get (requests_of task).entries position ≡ Some request
+  pub number : m.number ≡ position + 1
   pub server : x.to ≡ request.server
   pub spelled : Spells (index_of task) request.asked m.body
 

@@ -47,7 +47,7 @@ pub record BeginsChanging (file other : List ℕ) (after : ℕ) (secret : List �
   pub begins : upload.Begins (kept_goal stream.kept) p.happy servers session now u.course
   pub pieces : u.pieces ≡ Streamed stream
 
--- it has failed as it began: two reads of one place differed
+-- it has failed as it began: two reads of one position differed
 abbrev pub FailsChanging : List ℕ → List ℕ → ℕ → Type 0
 FailsChanging file other after =
     (new : TwoTexts) × HasChanged GivesChanging (changing file other after) (length file) new

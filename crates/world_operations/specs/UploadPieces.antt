@@ -19,7 +19,7 @@ abbrev pub share_length_of : UploadPieces → ℕ
 share_length_of (Whole shares) = length_of shares
 share_length_of (Streamed s) = share_length s.kept
 
--- the bytes of a share from a place on were given
+-- the bytes of a share from an offset on were given
 abbrev pub gives : UploadPieces → ℕ → ℕ → List ℕ → UploadPieces → Type 0
 gives (Whole old) share offset bytes (Whole new) =
     (bytes ≡ piece_of old share offset (length bytes)) × (new ≡ old)

@@ -26,7 +26,7 @@ pub enum Job {
     /// it hands out, so many, are of the one and later ones of the other; the convergence secret
     /// and the parameters. The file is what the second of two passes over it brings.
     Changing(Bytes, Bytes, u64, Bytes, Params),
-    /// The download of a cap's file, from one place to before another.
+    /// The download of a cap's file, from one position to before another.
     Download(ReadCap, u64, u64),
     /// The check of a cap's shares.
     Check(VerifyCap),

@@ -249,7 +249,8 @@ fn begin_upload(
     }
 }
 
-// Begins the upload of a source that changes. It has failed where two reads of one place differed.
+// Begins the upload of a source that changes. It has failed where two reads of one position
+// differed.
 fn begin_changing(
     alloc: Global,
     file: &[u8],

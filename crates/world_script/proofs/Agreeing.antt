@@ -3,7 +3,7 @@ use Rattle.std.proofs.Common.{◌≡◌, ℕ, ◌+◌, ◌-◌, ◌<◌, ◌≤�
 use Rattle.std.specs.Prelude.{slice_get}
 use Rattle.std.proofs.lemmas.Bool.{cases_lt}
 use Rattle.std.proofs.lemmas.Option.{slice_get_within, slice_get-get_or, slice_get_read, get_or_from_slice_get}
-use Rattle.world_operations.proofs.Places.{same_some}
+use Rattle.world_operations.proofs.Positions.{same_some}
 use Rattle.std.specs.Prelude.{All, Contains}
 use Rattle.std.proofs.lemmas.List.Elements.{All-contains, Contains-get_or}
 use Rattle.cap_text.specs.Cap.{ReadCapValue}
@@ -15,7 +15,7 @@ use Rattle.world_operations.specs.declared.operation.Operation.{Operation}
 use Rattle.world_script.specs.Agreement.{Agree, HandedOut, HasByte}
 use Rattle.world_script.specs.Agreeing.{AgreesAs, AgreesWith, AllHave, AreSame, GoOn, Has}
 
--- as far as a place both have the same
+-- as far as a position both have the same
 abbrev pub AreAlike : List ℕ → ℕ → List ℕ → ℕ → Type 0
 AreAlike bytes from others n = (k : ℕ) → k < n → get_or bytes (from + k) 0 ≡ get_or others k 0
 
@@ -42,7 +42,7 @@ differ_at bytes others from n lo lb on = on n (get_or bytes (from + n) 0) (get_o
 
 -- one after the other
 pub same_later : (bytes others : List ℕ) (from other : ℕ) → from ≤ other → GoOn bytes (other - from) others → AreSame from bytes other others
-same_later bytes others from other le on place a b ha hb =
+same_later bytes others from other le on position a b ha hb =
     let at : ha.0 ≡ (other - from) + hb.0 = omega (arith, le, ha.1, hb.1) in
     on hb.0 a b (subst (λ i. slice_get bytes i ≡ Some a) at ha.2) hb.2
 
@@ -52,46 +52,46 @@ later_same bytes others from other le same i a b ea eb =
 
 -- the same the other way round
 pub same_back : (bytes others : List ℕ) (from other : ℕ) → AreSame from bytes other others → AreSame other others from bytes
-same_back bytes others from other same place a b ha hb = sym (same place b a hb ha)
+same_back bytes others from other same position a b ha hb = sym (same position b a hb ha)
 
 -- ---- operations
 
 -- all downloads agree with each operation
 pub agree_of : (operations : List Operation) → All (λ (op : Operation). AgreesWith op operations) operations → Agree operations
 agree_of operations all = record {
-  downloads = λ first second cap place a b cf cs hf hs.
+  downloads = λ first second cap position a b cf cs hf hs.
       let with : AgreesAs (Download cap hf.from hf.to) first operations = subst (λ (j : Job). AgreesAs j first operations) hf.job (All-contains (λ (op : Operation). AgreesWith op operations) operations first all cf) in
-      let have : AllHave cap hf.piece.place hf.piece.bytes operations = All-contains (λ (piece : Piece). AllHave cap piece.place piece.bytes operations) first.given hf.piece with hf.handed_out in
-      sym (theirs second cap hf.piece.place hf.piece.bytes have cs place b a hs hf.byte_is);
-  uploads = λ upload download cap place a b cu cd hu hd.
+      let have : AllHave cap hf.piece.offset hf.piece.bytes operations = All-contains (λ (piece : Piece). AllHave cap piece.offset piece.bytes operations) first.given hf.piece with hf.handed_out in
+      sym (theirs second cap hf.piece.offset hf.piece.bytes have cs position b a hs hf.byte_is);
+  uploads = λ upload download cap position a b cu cd hu hd.
       let with : AgreesAs (Upload hu.file hu.secret hu.p) upload operations = subst (λ (j : Job). AgreesAs j upload operations) hu.job (All-contains (λ (op : Operation). AgreesWith op operations) operations upload all cu) in
       let have : AllHave cap 0 hu.file operations = subst (λ (k : ReadCapValue). AllHave k 0 hu.file operations) (sym hu.cap_is) (with (hu.pairs, hu.happy) hu.upload) in
-      sym (theirs download cap 0 hu.file have cd place b a hd (place, omega arith, hu.byte_is));
+      sym (theirs download cap 0 hu.file have cd position b a hd (position, omega arith, hu.byte_is));
 }
   where
-    theirs : (op : Operation) (cap : ReadCapValue) (from : ℕ) (bytes : List ℕ) → AllHave cap from bytes operations → Contains operations op → (place b a : ℕ) → HandedOut op cap place b → HasByte from bytes place a → b ≡ a
-    theirs op cap from bytes have c place b a h own =
+    theirs : (op : Operation) (cap : ReadCapValue) (from : ℕ) (bytes : List ℕ) → AllHave cap from bytes operations → Contains operations op → (position b a : ℕ) → HandedOut op cap position b → HasByte from bytes position a → b ≡ a
+    theirs op cap from bytes have c position b a h own =
         let has : Has cap from bytes op = All-contains (λ (o : Operation). Has cap from bytes o) operations op have c in
-        let same : AreSame h.piece.place h.piece.bytes from bytes = All-contains (λ (piece : Piece). AreSame piece.place piece.bytes from bytes) op.given h.piece (has h.from h.to h.job) h.handed_out in
-        same place b a h.byte_is own
+        let same : AreSame h.piece.offset h.piece.bytes from bytes = All-contains (λ (piece : Piece). AreSame piece.offset piece.bytes from bytes) op.given h.piece (has h.from h.to h.job) h.handed_out in
+        same position b a h.byte_is own
 
 -- where all agree, they agree with each
 pub agree_with : (operations : List Operation) → Agree operations → (op : Operation) → Contains operations op → AgreesWith op operations
 agree_with operations agree op c = at_job op.job refl
   where
     at_job : (job : Job) → op.job ≡ job → AgreesAs job op operations
-    at_job (Download cap from to) e = λ k d low k' d' low' from' to' e' l m lm place a b ha hb.
+    at_job (Download cap from to) e = λ k d low k' d' low' from' to' e' l m lm position a b ha hb.
         let first : Piece = get_or op.given k d in
         let second : Operation = get_or operations k' d' in
         let third : Piece = get_or second.given l m in
-        agree.downloads second op cap place a b (Contains-get_or operations k' d' low') c
+        agree.downloads second op cap position a b (Contains-get_or operations k' d' low') c
         (record { from = from'; to = to'; piece = third; job = e'; handed_out = Contains-get_or second.given l m lm; byte_is = ha })
         (record { from = from; to = to; piece = first; job = e; handed_out = Contains-get_or op.given k d low; byte_is = hb })
-    at_job (Upload file secret p) e = λ happy upload k' d' low' from' to' e' l m lm place a b ha hb.
+    at_job (Upload file secret p) e = λ happy upload k' d' low' from' to' e' l m lm position a b ha hb.
         let second : Operation = get_or operations k' d' in
         let third : Piece = get_or second.given l m in
-        let at : hb.0 ≡ place = omega (arith, hb.1) in
-        sym (agree.uploads op second (prepared_of file secret p).cap place b a c (Contains-get_or operations k' d' low')
+        let at : hb.0 ≡ position = omega (arith, hb.1) in
+        sym (agree.uploads op second (prepared_of file secret p).cap position b a c (Contains-get_or operations k' d' low')
         (record { file = file; secret = secret; p = p; pairs = happy.0; job = e; upload = upload; cap_is = refl; happy = happy.1; byte_is = subst (λ (i : ℕ). slice_get file i ≡ Some b) at hb.2 })
         (record { from = from'; to = to'; piece = third; job = e'; handed_out = Contains-get_or second.given l m lm; byte_is = ha }))
     at_job (Changing one other after secret p) e = tt

@@ -71,7 +71,7 @@ parts_of (commands.Download node upload) words s = parts words verbs.Download (d
 parts_of (commands.DownloadRange node upload from to) words s = parts words verbs.Download (decimal node ∷ decimal upload ∷ decimal from ∷ decimal to ∷ []) s.1 (inr (node, upload, from, to, (s.0, refl)))
 parts_of (commands.Check node upload) words s = parts words verbs.Check (decimal node ∷ decimal upload ∷ []) s.1 (node, upload, (s.0, refl))
 parts_of (commands.Repair node operation happy) words s = parts words verbs.Repair (decimal node ∷ decimal operation ∷ decimal happy ∷ []) s.1 (node, operation, happy, (s.0, refl))
-parts_of (commands.Deliver place) words s = parts words verbs.Deliver (decimal place ∷ []) s.1 (place, (s.0, refl))
+parts_of (commands.Deliver position) words s = parts words verbs.Deliver (decimal position ∷ []) s.1 (position, (s.0, refl))
 parts_of commands.Drain words s = parts words verbs.Drain [] s.1 refl
 parts_of (commands.Random start count) words s = parts words verbs.Random (decimal start ∷ decimal count ∷ []) s.1 (start, count, (s.0, refl))
 parts_of (commands.Pass n) words s = parts words verbs.Pass (decimal n ∷ []) s.1 (n, (s.0, refl))
@@ -129,7 +129,7 @@ pub error_line : (e : LineError) (n line : ℕ) → error_at e n ≡ BadScript l
 error_line OutOfMemory n line at = absurd cc
 error_line NoCommand n line at = (refl, cc)
 
--- words by their places
+-- words by their positions
 pub third : (words : List (Bor (List ℕ))) (d : Bor (List ℕ)) (a b w : List ℕ) → map (λ (x : Bor (List ℕ)). x.now) words ≡ a ∷ b ∷ w ∷ [] → (get_or words 2 d).now ≡ w
 third words d a b w same =
     let long : length words ≡ 3 = sym (length-map words (λ (x : Bor (List ℕ)). x.now)) ∙ ap length same in

@@ -67,10 +67,10 @@ past [] = refl
 past (z ∷ zs) = past zs
 
 -- the oldest message that was not delivered
-oldest_of : (flags : List Bool) (events : List Event) (sent place : ℕ) → AreMarked flags events → IsFirstLeft flags sent (Some place) → IsOldest events sent place
-oldest_of flags events sent place marks first = record {
+oldest_of : (flags : List Bool) (events : List Event) (sent position : ℕ) → AreMarked flags events → IsFirstLeft flags sent (Some position) → IsOldest events sent position
+oldest_of flags events sent position marks first = record {
   there = first.0;
-  left = λ found. first.1 ((marks place).1 found);
+  left = λ found. first.1 ((marks position).1 found);
   older = λ p low. (marks p).0 (first.2 p low);
 }
 
@@ -100,14 +100,14 @@ gives_some (Fixed left) (Fixed rest) command honest ops before made flags sent m
     }
 gives_some (Fixed left) Oldest command honest ops before made flags sent most event is all low marks next = absurd next
 gives_some (Fixed left) (Drawn w n) command honest ops before made flags sent most event is all low marks next = absurd next
-gives_some Oldest new command honest ops before made flags sent most event is all low marks (Some place, first, at, e) =
+gives_some Oldest new command honest ops before made flags sent most event is all low marks (Some position, first, at, e) =
     record {
-      makes = subst (λ (k : Command). MakesNext k honest ops before made sent (Some event)) (sym is) (omega (arith, low, all), (place, oldest_of flags (before ++ made) sent place marks first, at));
+      makes = subst (λ (k : Command). MakesNext k honest ops before made sent (Some event)) (sym is) (omega (arith, low, all), (position, oldest_of flags (before ++ made) sent position marks first, at));
       plan = subst (λ (q : Plan). IsPlanOf q command honest ops (made ++ event ∷ [])) (sym e) is;
       most_is = subst (λ (q : Plan). IsMost q (length made + 1) most) (sym e) all;
     }
 gives_some Oldest new command honest ops before made flags sent most event is all low marks (None, first, at, e) = absurd cc
-gives_some (Drawn words count) (Drawn rest same) command honest ops before made flags sent most event (seed, k, w) all low marks (Some place, drawn, at, e) =
+gives_some (Drawn words count) (Drawn rest same) command honest ops before made flags sent most event (seed, k, w) all low marks (Some position, drawn, at, e) =
     record {
       makes = subst (λ (k : Command). MakesNext k honest ops before made sent (Some event)) (sym k) (omega (arith, low, all), drawn.0, at ∙ ap Deliver (drawn.1 ∙ ap (λ (g : Lcg). (pcg32 g).0 % sent) w));
       plan = (seed, k ∙ ap (λ (n : ℕ). commands.Random seed n) (sym e), drawn.2 ∙ ap (λ (g : Lcg). (pcg32 g).1) w ∙ next_words seed (length made) ∙ ap (λ (n : ℕ). after_words seed n) (sym (length-append made (event ∷ []))));
@@ -123,10 +123,10 @@ gives_none (Fixed left) new command honest ops before made flags sent is marks n
     makes_fixed command honest ops before made is.0 sent None is.1 (ap (λ (l : List Event). slice_get l (length made)) events ∙ past made)
 gives_none Oldest new command honest ops before made flags sent is marks (None, first, at, e) =
     subst (λ (k : Command). MakesNext k honest ops before made sent None) (sym is) (inr (λ p low. (marks p).0 (first p low)))
-gives_none Oldest new command honest ops before made flags sent is marks (Some place, first, at, e) = absurd cc
+gives_none Oldest new command honest ops before made flags sent is marks (Some position, first, at, e) = absurd cc
 gives_none (Drawn words count) (Drawn rest same) command honest ops before made flags sent (seed, k, w) marks (None, drawn, at, e) =
     subst (λ (k : Command). MakesNext k honest ops before made sent None) (sym k) (inr drawn.0)
-gives_none (Drawn words count) (Drawn rest same) command honest ops before made flags sent is marks (Some place, drawn, at, e) = absurd cc
+gives_none (Drawn words count) (Drawn rest same) command honest ops before made flags sent is marks (Some position, drawn, at, e) = absurd cc
 gives_none (Drawn words count) (Fixed rest) command honest ops before made flags sent is marks next = absurd next
 gives_none (Drawn words count) Oldest command honest ops before made flags sent is marks next = absurd next
 

@@ -53,7 +53,7 @@ up_to lines start i le lt =
     let long : length (take i lines) ≡ i = length-take-le i lines (omega arith) in
     ap (drop start) (take_more lines i [] lt) ∙ drop-append-le start (take i lines) (get_or lines i [] ∷ []) (omega arith)
 
--- the same at a line's place
+-- the same at a line's position
 pub skips : (lines : List (List ℕ)) (start i : ℕ) (commands : List Command) → start ≤ i → i < length lines → is_skipped (get_or lines i []) ≡ true → Reads (drop start (take i lines)) commands → Reads (drop start (take (i + 1) lines)) commands
 skips lines start i commands le lt skipped reads = subst (λ ls. Reads ls commands) (sym (up_to lines start i le lt)) (reads_skip (drop start (take i lines)) (get_or lines i []) commands skipped reads)
 

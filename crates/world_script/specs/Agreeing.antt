@@ -12,23 +12,23 @@ use Rattle.world_operations.specs.Jobs.{IsUpload}
 use Rattle.world_operations.specs.Status.{status_of}
 use Rattle.world_script.specs.Agreement.{HasByte}
 
--- bytes from a place on go on as others do, as far as both go
+-- bytes from an offset on go on as others do, as far as both go
 abbrev pub GoOn : List ℕ → ℕ → List ℕ → Type 0
 GoOn bytes from others = (i a b : ℕ) → slice_get bytes (from + i) ≡ Some a
     → slice_get others i ≡ Some b → a ≡ b
 
--- bytes from two places on have the same byte wherever both have one
+-- bytes from two offsets on have the same byte wherever both have one
 abbrev pub AreSame : ℕ → List ℕ → ℕ → List ℕ → Type 0
-AreSame from bytes other others = (place a b : ℕ) → HasByte from bytes place a
-    → HasByte other others place b → a ≡ b
+AreSame from bytes other others = (offset a b : ℕ) → HasByte from bytes offset a
+    → HasByte other others offset b → a ≡ b
 
--- an operation, if it is a download of this cap, has the bytes from a place on
+-- an operation, if it is a download of this cap, has the bytes from an offset on
 abbrev pub Has : ReadCapValue → ℕ → List ℕ → Operation → Type 0
-Has cap place bytes op = (from to : ℕ) → op.job ≡ Download cap from to
-    → All (λ (piece : Piece). AreSame piece.place piece.bytes place bytes) op.given
+Has cap offset bytes op = (from to : ℕ) → op.job ≡ Download cap from to
+    → All (λ (piece : Piece). AreSame piece.offset piece.bytes offset bytes) op.given
 
 abbrev pub AllHave : ReadCapValue → ℕ → List ℕ → List Operation → Type 0
-AllHave cap place bytes operations = All (Has cap place bytes) operations
+AllHave cap offset bytes operations = All (Has cap offset bytes) operations
 
 abbrev pub IsHappy : Operation → Type 0
 IsHappy op = (pairs : ℕ) × (status_of op ≡ Happy pairs)
@@ -36,7 +36,7 @@ IsHappy op = (pairs : ℕ) × (status_of op ≡ Happy pairs)
 -- All downloads agree with an operation. A script starts no upload of a source that changes.
 abbrev pub AgreesAs : Job → Operation → List Operation → Type 0
 AgreesAs (Download cap from to) op operations =
-    All (λ (piece : Piece). AllHave cap piece.place piece.bytes operations) op.given
+    All (λ (piece : Piece). AllHave cap piece.offset piece.bytes operations) op.given
 AgreesAs (Upload file secret p) op operations = IsHappy op → IsUpload file secret p
     → AllHave (prepared_of file secret p).cap 0 file operations
 AgreesAs (Changing one other after secret p) op operations = ⊤

@@ -52,7 +52,7 @@ IsEventOf (commands.Check node upload) operations event = (cap : ReadCapValue)
     × (event ≡ Start node (jobs.Check (verify_cap_of cap)))
 IsEventOf (commands.Repair node operation happy) operations event =
     IsRepairOf node operation happy event
-IsEventOf (commands.Deliver place) operations event = event ≡ Deliver place
+IsEventOf (commands.Deliver position) operations event = event ≡ Deliver position
 IsEventOf (commands.Restart node) operations event = IsNodeNumber node × (event ≡ Restart node)
 IsEventOf (commands.Fail node) operations event = IsNodeNumber node × (event ≡ FailStore node)
 IsEventOf (commands.Refuse number) operations event = event ≡ Refuse number
@@ -70,10 +70,10 @@ AreEventsOf command honest operations events =
     (event : Event) × IsEventOf command operations event × (events ≡ event ∷ [])
 
 -- the oldest of so many messages that these events did not deliver
-pub record IsOldest (events : List Event) (sent place : ℕ) : Type 0 where
-  pub there : place < sent
-  pub left : Contains events (Deliver place) → ⊥
-  pub older : (p : ℕ) → p < place → Contains events (Deliver p)
+pub record IsOldest (events : List Event) (sent position : ℕ) : Type 0 where
+  pub there : position < sent
+  pub left : Contains events (Deliver position) → ⊥
+  pub older : (p : ℕ) → p < position → Contains events (Deliver p)
 
 -- the generator of a number, after so many words
 unfoldable pub after_words : ℕ → ℕ → Lcg
@@ -95,7 +95,7 @@ abbrev pub MakesNext : Command → ℕ → List Operation → List Event → Lis
     → Type 0
 MakesNext commands.Drain honest operations before made sent (Some event) =
     (length made < most_drained)
-    × ((place : ℕ) × IsOldest (before ++ made) sent place × (event ≡ Deliver place))
+    × ((position : ℕ) × IsOldest (before ++ made) sent position × (event ≡ Deliver position))
 MakesNext commands.Drain honest operations before made sent None =
     (length made ≡ most_drained)
     ⊎ ((p : ℕ) → p < sent → Contains (before ++ made) (Deliver p))

@@ -16,10 +16,10 @@ pub record IsRequestIn (x : Sent) (request : Message) : Type 0 where
 
 -- the last request that was heard
 pub record IsLastRequest (heard : List Sent) (x : Sent) (request : Message) : Type 0 where
-  pub place : ℕ
-  pub at : slice_get heard place ≡ Some x
+  pub position : ℕ
+  pub at : slice_get heard position ≡ Some x
   pub request_is : IsRequestIn x request
-  pub last : (p : ℕ) (y : Sent) (m : Message) → place < p → slice_get heard p ≡ Some y
+  pub last : (p : ℕ) (y : Sent) (m : Message) → position < p → slice_get heard p ≡ Some y
       → IsRequestIn y m → ⊥
 
 -- 32 bytes ff, for an answer to a request
@@ -37,7 +37,7 @@ IsSaidBy Junk heard (Some (to, bytes)) = (x : Sent) × (request : Message)
     × IsLastRequest heard x request × (to ≡ x.from) × (bytes ≡ spelling (junk_answer request))
 IsSaidBy Junk heard None =
     (x : Sent) (m : Message) → Contains heard x → IsRequestIn x m → ⊥
-IsSaidBy Replay heard (Some (to, bytes)) = (x : Sent) × (place : ℕ)
-    × (place + 1 ≡ length heard) × (slice_get heard place ≡ Some x) × (to ≡ x.from)
+IsSaidBy Replay heard (Some (to, bytes)) = (x : Sent) × (position : ℕ)
+    × (position + 1 ≡ length heard) × (slice_get heard position ≡ Some x) × (to ≡ x.from)
     × (bytes ≡ x.body)
 IsSaidBy Replay heard None = heard ≡ []

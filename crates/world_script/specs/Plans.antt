@@ -19,7 +19,7 @@ use Rattle.world_script.specs.Events.{AreEventsOf, MakesNext, after_words, most_
 
 -- a message is marked as delivered
 abbrev pub IsMarked : List Bool → ℕ → Type 0
-IsMarked flags place = slice_get flags place ≡ Some true
+IsMarked flags position = slice_get flags position ≡ Some true
 
 -- the messages that are marked are those that these events delivered
 abbrev pub AreMarked : List Bool → List Event → Type 0
@@ -27,12 +27,12 @@ AreMarked flags events = (p : ℕ) → IsMarked flags p ↔ Contains events (Del
 
 -- one more message is marked
 abbrev pub IsNoted : List Bool → ℕ → List Bool → Type 0
-IsNoted old place new = (p : ℕ) → IsMarked new p ↔ ((p ≡ place) ⊎ IsMarked old p)
+IsNoted old position new = (p : ℕ) → IsMarked new p ↔ ((p ≡ position) ⊎ IsMarked old p)
 
 -- the oldest of so many messages that is not marked; or all are
 abbrev pub IsFirstLeft : List Bool → ℕ → Option ℕ → Type 0
-IsFirstLeft flags sent (Some place) =
-    (place < sent) × (IsMarked flags place → ⊥) × ((p : ℕ) → p < place → IsMarked flags p)
+IsFirstLeft flags sent (Some position) =
+    (position < sent) × (IsMarked flags position → ⊥) × ((p : ℕ) → p < position → IsMarked flags p)
 IsFirstLeft flags sent None = (p : ℕ) → p < sent → IsMarked flags p
 
 -- the plan of a command that has made these events
@@ -56,14 +56,14 @@ most_of (Drawn words count) = count
 
 -- a message of so many, drawn by the next word
 abbrev pub IsDrawn : Lcg → ℕ → Option ℕ → Lcg → Type 0
-IsDrawn words sent (Some place) new =
-    (0 < sent) × (place ≡ (pcg32 words).0 % sent) × (new ≡ (pcg32 words).1)
+IsDrawn words sent (Some position) new =
+    (0 < sent) × (position ≡ (pcg32 words).0 % sent) × (new ≡ (pcg32 words).1)
 IsDrawn words sent None new = (sent ≡ 0) × (new ≡ words)
 
 -- the message of an event, or none
 abbrev pub IsDelivery : Option Event → Option ℕ → Type 0
-IsDelivery (Some event) (Some place) = event ≡ Deliver place
-IsDelivery None place = place ≡ None
+IsDelivery (Some event) (Some position) = event ≡ Deliver position
+IsDelivery None position = position ≡ None
 IsDelivery event None = event ≡ None
 
 -- the next event of a plan
@@ -71,10 +71,10 @@ abbrev pub GivesNext : Plan → List Bool → ℕ → Option Event → Plan → 
 GivesNext (Fixed left) flags sent (Some event) (Fixed rest) =
     left.items ≡ rest.items ++ event ∷ []
 GivesNext (Fixed left) flags sent None new = left.items ≡ []
-GivesNext Oldest flags sent next new = (place : Option ℕ) × IsFirstLeft flags sent place
-    × IsDelivery next place × (new ≡ Oldest)
-GivesNext (Drawn words count) flags sent next (Drawn rest same) = (place : Option ℕ)
-    × IsDrawn words sent place rest × IsDelivery next place × (same ≡ count)
+GivesNext Oldest flags sent next new = (position : Option ℕ) × IsFirstLeft flags sent position
+    × IsDelivery next position × (new ≡ Oldest)
+GivesNext (Drawn words count) flags sent next (Drawn rest same) = (position : Option ℕ)
+    × IsDrawn words sent position rest × IsDelivery next position × (same ≡ count)
 GivesNext old flags sent next new = ⊥
 
 -- the read cap of the file that a job uploads, or none where it is no upload that may be started

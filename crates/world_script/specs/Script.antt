@@ -74,7 +74,7 @@ Spells (DownloadRange node upload from to) words =
 Spells (Check node upload) words = SpellsNumbers (codes "check") (node ∷ upload ∷ []) words
 Spells (Repair node operation happy) words =
     SpellsNumbers (codes "repair") (node ∷ operation ∷ happy ∷ []) words
-Spells (Deliver place) words = SpellsNumbers (codes "deliver") (place ∷ []) words
+Spells (Deliver position) words = SpellsNumbers (codes "deliver") (position ∷ []) words
 Spells Drain words = SpellsNumbers (codes "drain") [] words
 Spells (Random start count) words = SpellsNumbers (codes "random") (start ∷ count ∷ []) words
 Spells (Pass seconds) words = SpellsNumbers (codes "pass") (seconds ∷ []) words

@@ -13,7 +13,7 @@ use world_operations::job::Job;
 use world_operations::operation::Operation;
 use world_operations::status::Status;
 
-// Did no two downloads of one cap hand out different bytes for one place, and none of a happy
+// Did no two downloads of one cap hand out different bytes for one offset, and none of a happy
 // upload's cap another byte than its file has there?
 pub(crate) fn agree(alloc: Global, operations: &[Operation]) -> Result<bool, AllocError>
     ensures { IfOk result (λ agrees. (agrees ≡ true) ↔ Agree operations.now) }
@@ -56,74 +56,74 @@ fn is_happy(operation: &Operation) -> bool
 
 // Do all downloads of a cap agree with the pieces that an operation handed out?
 fn have_pieces(cap: &ReadCap, operation: &Operation, operations: &[Operation]) -> bool
-    ensures { IsTrue result ↔ All (λ (piece : Piece). AllHave cap.now piece.place piece.bytes
+    ensures { IsTrue result ↔ All (λ (piece : Piece). AllHave cap.now piece.offset piece.bytes
         operations.now) operation.now.given }
 {
     for piece in operation.given.as_slice() {
-        if !have_bytes(cap, piece.place, piece.bytes.as_slice(), operations) {
+        if !have_bytes(cap, piece.offset, piece.bytes.as_slice(), operations) {
             return false;
         }
     }
     true
 }
 
-// Do all downloads of a cap agree with bytes from a place on?
-fn have_bytes(cap: &ReadCap, place: u64, bytes: &[u8], operations: &[Operation]) -> bool
-    ensures { IsTrue result ↔ AllHave cap.now place bytes.now operations.now }
+// Do all downloads of a cap agree with bytes from an offset on?
+fn have_bytes(cap: &ReadCap, offset: u64, bytes: &[u8], operations: &[Operation]) -> bool
+    ensures { IsTrue result ↔ AllHave cap.now offset bytes.now operations.now }
 {
     for operation in operations {
-        if !has_bytes(cap, place, bytes, operation) {
+        if !has_bytes(cap, offset, bytes, operation) {
             return false;
         }
     }
     true
 }
 
-// Does an operation, if it is a download of this cap, agree with bytes from a place on?
-fn has_bytes(cap: &ReadCap, place: u64, bytes: &[u8], operation: &Operation) -> bool
-    ensures { IsTrue result ↔ Has cap.now place bytes.now operation.now }
+// Does an operation, if it is a download of this cap, agree with bytes from an offset on?
+fn has_bytes(cap: &ReadCap, offset: u64, bytes: &[u8], operation: &Operation) -> bool
+    ensures { IsTrue result ↔ Has cap.now offset bytes.now operation.now }
 {
     match &operation.job {
         Job::Download(other, _, _) if other == cap => {
-            have_same(place, bytes, operation.given.as_slice())
+            have_same(offset, bytes, operation.given.as_slice())
         }
         _ => true,
     }
 }
 
-// Do all pieces agree with bytes from a place on?
-fn have_same(place: u64, bytes: &[u8], pieces: &[Piece]) -> bool
+// Do all pieces agree with bytes from an offset on?
+fn have_same(offset: u64, bytes: &[u8], pieces: &[Piece]) -> bool
     ensures { IsTrue result
-        ↔ All (λ (piece : Piece). AreSame piece.place piece.bytes place bytes.now) pieces.now }
+        ↔ All (λ (piece : Piece). AreSame piece.offset piece.bytes offset bytes.now) pieces.now }
 {
     for piece in pieces {
-        if !are_same(piece.place, piece.bytes.as_slice(), place, bytes) {
+        if !are_same(piece.offset, piece.bytes.as_slice(), offset, bytes) {
             return false;
         }
     }
     true
 }
 
-// Have bytes from two places on the same byte wherever both have one?
-fn are_same(place: u64, bytes: &[u8], other_place: u64, others: &[u8]) -> bool
-    ensures { IsTrue result ↔ AreSame place bytes.now other_place others.now }
+// Have bytes from two offsets on the same byte wherever both have one?
+fn are_same(offset: u64, bytes: &[u8], other_offset: u64, others: &[u8]) -> bool
+    ensures { IsTrue result ↔ AreSame offset bytes.now other_offset others.now }
 {
-    if place <= other_place {
-        go_on(bytes, other_place - place, others)
+    if offset <= other_offset {
+        go_on(bytes, other_offset - offset, others)
     } else {
-        go_on(others, place - other_place, bytes)
+        go_on(others, offset - other_offset, bytes)
     }
 }
 
-// Do bytes from a place on go on as others do, as far as both go?
+// Do bytes from an offset on go on as others do, as far as both go?
 fn go_on(bytes: &[u8], from: u64, others: &[u8]) -> bool
     ensures { IsTrue result ↔ GoOn bytes.now from others.now }
 {
     if from >= bytes.len() as u64 {
         return true;
     }
-    for place in 0..others.len().min(bytes.len() - from as usize) {
-        if bytes[from as usize + place] != others[place] {
+    for offset in 0..others.len().min(bytes.len() - from as usize) {
+        if bytes[from as usize + offset] != others[offset] {
             return false;
         }
     }

@@ -15,14 +15,14 @@ pub enum Kind {
 }
 
 /// A command after the first. Nodes are named by their numbers; uploads, operations and messages
-/// by their places. None of them need be there.
+/// by their positions. None of them need be there.
 #[derive(Drop)]
 pub enum Command {
     /// A node uploads a file of at least 56 bytes.
     Upload(u64, Bytes, Params),
     /// A node downloads the whole file of an upload.
     Download(u64, u64),
-    /// A node downloads the file of an upload from one place to before another.
+    /// A node downloads the file of an upload from one position to before another.
     DownloadRange(u64, u64, u64, u64),
     /// A node checks the shares of an upload.
     Check(u64, u64),

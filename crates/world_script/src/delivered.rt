@@ -8,11 +8,11 @@ use std::alloc::{AllocError, Global};
 use std::marker::Model;
 use world::event::Event;
 
-// The messages that were delivered, by their places.
+// The messages that were delivered, by their positions.
 #[derive(Drop)]
 pub(crate) struct Delivered {
     flags: Vec<bool>,
-    // All messages before this place were delivered.
+    // All messages before this position were delivered.
     first: usize,
 }
 
@@ -38,11 +38,11 @@ impl Delivered {
         }
     }
 
-    // Was the message at a place delivered?
-    fn has(&self, place: usize) -> bool
-        ensures { IsTrue result ↔ IsMarked self.now place }
+    // Was the message at a position delivered?
+    fn has(&self, position: usize) -> bool
+        ensures { IsTrue result ↔ IsMarked self.now position }
     {
-        match self.flags.get(place) {
+        match self.flags.get(position) {
             Some(flag) => *flag,
             None => false,
         }
@@ -54,21 +54,21 @@ impl Delivered {
             → AreMarked self.new (events ++ event.now ∷ [])) }
     {
         match event {
-            Event::Deliver(place) => self.add(*place),
+            Event::Deliver(position) => self.add(*position),
             _ => Ok(()),
         }
     }
 
-    // The message at a place is delivered.
-    fn add(&mut self, place: usize) -> Result<(), AllocError>
-        ensures { OnOk result (IsNoted self.old place self.new) }
+    // The message at a position is delivered.
+    fn add(&mut self, position: usize) -> Result<(), AllocError>
+        ensures { OnOk result (IsNoted self.old position self.new) }
     {
         let _first = self.first;
-        for _length in self.flags.len()..place {
+        for _length in self.flags.len()..position {
             self.flags.push(false)?;
         }
-        if place < self.flags.len() {
-            self.flags[place] = true;
+        if position < self.flags.len() {
+            self.flags[position] = true;
         } else {
             self.flags.push(true)?;
         }
@@ -80,11 +80,11 @@ impl Delivered {
         ensures same { self.new ≡ self.old }
         ensures left { IsFirstLeft self.old sent result }
     {
-        for place in self.first..sent {
-            if !self.has(place) {
-                return Some(place);
+        for position in self.first..sent {
+            if !self.has(position) {
+                return Some(position);
             }
-            self.first = place + 1;
+            self.first = position + 1;
         }
         None
     }

@@ -76,7 +76,7 @@ fn event_of(alloc: Global, command: &Command, operations: &[Operation]) -> Resul
     ensures going { result ≢ Err Stopped }
 {
     match command {
-        Command::Deliver(place) => Ok(Event::Deliver(*place as usize)),
+        Command::Deliver(position) => Ok(Event::Deliver(*position as usize)),
         Command::Refuse(number) => Ok(Event::Refuse(*number as usize)),
         Command::Restart(node) => node_of(*node).map(Event::Restart),
         Command::Fail(node) => node_of(*node).map(Event::FailStore),

@@ -41,7 +41,7 @@ pub record IsDecodingTable (numbers rows : List ℕ) : Type 0 where
   pub table : AreDecodingRows numbers (length numbers) rows
 
 -- the polynomial with these coefficients, as many as there are numbers, has at each number's point
--- the byte at place t of its block
+-- the byte at position t of its block
 pub record IsThrough (coefficients numbers : List ℕ) (blocks : List (List ℕ)) (t : ℕ) : Type 0 where
   pub count : length coefficients ≡ length numbers
   pub bytes : All (λ c. c < 256) coefficients

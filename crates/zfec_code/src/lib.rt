@@ -1,8 +1,8 @@
 //! zfec's erasure code: from k primary blocks n shares, of which any k give the blocks back.
 //!
-//! The bytes of the primary blocks at one place are the values of a polynomial of degree below k
-//! over the field of 256 elements at the points 0, 1, x, x^2, ..; the byte of that place in share i
-//! is its value at point i. So share i below k is primary block i.
+//! The bytes of the primary blocks at one position are the values of a polynomial of degree below k
+//! over the field of 256 elements at the points 0, 1, x, x^2, ..; the byte of that position in
+//! share i is its value at point i. So share i below k is primary block i.
 #![tactic(auto)]
 
 ghost use Rattle.std.specs.Prelude.{◌≡◌, ◌≢◌, ℕ, ◌*◌, ◌<◌, ◌≤◌, List, length, map, All, IfOk};

@@ -1,5 +1,5 @@
-//! Sums of blocks: each byte is the sum of the blocks' bytes at its place, each times its block's
-//! coefficient.
+//! Sums of blocks: each byte is the sum of the blocks' bytes at its position, each times its
+//! block's coefficient.
 
 ghost use Rattle.std.specs.Prelude.{◌≡◌, ℕ, ◌+◌, ◌*◌, ◌<◌, ◌≤◌, List, [], length, slice_index};
 ghost use Rattle.std.specs.Prelude.{slice_index_or, EachIndex, map};

@@ -12,11 +12,11 @@ loop-t-preserved c =
       added = λ k below. elim (cases_lt k (32 * l.t)) [
         | inl before ↦ c.add_vector.ensures.below k before ∙ l.invariant.added k before
         | inr here ↦
-            let place : 32 * l.t + k % 32 ≡ k = omega arith in
+            let offset : 32 * l.t + k % 32 ≡ k = omega arith in
             let number : l.t ≡ k / 32 = omega arith in
-            ap (λ (q : ℕ). get_or c.add_vector.new.text q 0) (sym place)
+            ap (λ (q : ℕ). get_or c.add_vector.new.text q 0) (sym offset)
             ∙ c.add_vector.ensures.added (k % 32) (omega arith)
-            ∙ (λ i. bit_xor ((ap (λ (q : ℕ). get_or l.piece q 0) place ∙ l.invariant.kept k here) i) (get_or (get_or vectors (number i) []) (k % 32) 0))
+            ∙ (λ i. bit_xor ((ap (λ (q : ℕ). get_or l.piece q 0) offset ∙ l.invariant.kept k here) i) (get_or (get_or vectors (number i) []) (k % 32) 0))
       ];
       kept = λ k above. c.add_vector.ensures.above k (omega arith) ∙ l.invariant.kept k (omega arith);
     }

@@ -14,14 +14,14 @@ loop-g-preserved c =
     let old = c.args.stretch.now in
     let done = 256 * l.g in
     let new = c.add_stream.new.piece in
-    let place : 256 * (16 * index + l.g) ≡ 4096 * index + done = omega arith in
+    let offset : 256 * (16 * index + l.g) ≡ 4096 * index + done = omega arith in
     let next : done + 256 ≡ 256 * (l.g + 1) = omega arith in
     let part = c.add_stream.ensures (16 * index + l.g) (λ j low.
     let number : 16 * (16 * index) + (16 * l.g + j) ≡ 16 * (16 * index + l.g) + j = omega arith in
     c.add.ensures.blocks j
     ∙ ap₂ xor_bytes (c.first_round-first.ensures.blocks j low ∙ ap (λ b. rounds key b 1) (c.counters.ensures.blocks j low)) ((c.requires.table l.g c.loop-g-test.true).blocks j low)
     ∙ counter_round_sum key (16 * (16 * index)) (16 * l.g + j) j (omega arith) (omega arith) (omega arith) (omega arith)
-    ∙ ap (counter_round key) number) ∙ ap (λ p. xored_from key p (take (done + 256 - done) (drop done l.stretch))) place in
+    ∙ ap (counter_round key) number) ∙ ap (λ p. xored_from key p (take (done + 256 - done) (drop done l.stretch))) offset in
     rw (← next) (more_added key old l.stretch new (4096 * index) done 256 (omega arith) (search rules) part l.invariant)
 
 pub loop-g-init : goal.loop-g-init

@@ -16,4 +16,4 @@ returns-in_ok-joined-in-Some-clause-some c =
 pub returns-in-None-clause-none : goal.returns-in-None-clause-none
 returns-in-None-clause-none c has =
     let found = good_offered c.args.machine.now c.requires.done c.args.number has in
-    c.in-None.ensures.none found.place found.offer (ap (λ (l : List Offer). slice_get l found.place) c.deref.ensures.value ∙ found.there) found.number found.good
+    c.in-None.ensures.none found.position found.offer (ap (λ (l : List Offer). slice_get l found.position) c.deref.ensures.value ∙ found.there) found.number found.good

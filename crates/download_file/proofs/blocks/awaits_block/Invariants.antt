@@ -1,4 +1,4 @@
 use Rattle.download_file.proofs.blocks.awaits_block.Given as goal
 
-abbrev pub invariant-loop-place : goal.invariant-loop-place
-invariant-loop-place l = Unit {0}
+abbrev pub invariant-loop-position : goal.invariant-loop-position
+invariant-loop-position l = Unit {0}

@@ -6,16 +6,16 @@ use Rattle.download_file.proofs.row.are_proved.Goals as goal
 
 pub proves_hash-requires : goal.proves_hash-requires
 proves_hash-requires c =
-    let place = c.loop-hash.invariant.place in
+    let position = c.loop-hash.invariant.position in
     let within = c.requires.within in
     let low = c.loop-hash-test.true in
-    omega (arith, place, within, low)
+    omega (arith, position, within, low)
 
 pub returns-then-not-proves_hash : goal.returns-then-not-proves_hash
 returns-then-not-proves_hash c = (
   λ yes. absurd (true≢false (sym yes)),
   λ all. sym c.if-not-proves_hash.true ∙ c.proves_hash.ensures.1
-      (ap (known_hash c.args.supply.now) c.loop-hash.invariant.place ∙ all c.loop-hash.hash-index c.loop-hash-test.true
+      (ap (known_hash c.args.supply.now) c.loop-hash.invariant.position ∙ all c.loop-hash.hash-index c.loop-hash-test.true
       ∙ ap Some (sym (c.block_hashes-hashes.ensures c.loop-hash.hash-index c.loop-hash-test.true))),
 )
 
@@ -25,12 +25,12 @@ loop-hash-preserved c =
     let n : ℕ = c.loop-hash.hash-index in
     let number : ℕ = c.args.number in
     let rows : List (List ℕ) = map (λ r. r.items) c.args.rows.now in
-    let place = k.place in
+    let position = k.position in
     let one : IsProved c.args.supply.now (number + n) (nth_block (nth rows n) c.args.size c.args.k) =
-    ap (known_hash c.args.supply.now) (sym place) ∙ c.proves_hash.ensures.0 c.if-not-proves_hash.false
+    ap (known_hash c.args.supply.now) (sym position) ∙ c.proves_hash.ensures.0 c.if-not-proves_hash.false
     ∙ ap Some (c.block_hashes-hashes.ensures n c.loop-hash-test.true) in
     record {
-      place = omega (arith, place);
+      position = omega (arith, position);
       proved = λ i below. elim (cases_lt i n) [
         | inl less ↦ k.proved i less
         | inr more ↦

@@ -17,6 +17,6 @@ returns-clause-taken c =
     let taken : List ℕ = c.args.taken.now in
     let these : c.nodes-nodes.result ≡ nodes_of h.geometry a b p = c.nodes-nodes.ensures.value ∙ ap (λ (g : Geometry). nodes_of g a b p) c.requires.plan in
     let long : length c.args.bytes.now ≡ 32 * c.nodes-nodes.result.count = read_long h r taken a b w c.requires.taker p c.args.bytes.now c.nodes-nodes.result c.requires.part c.requires.long these in
-    subst (λ (q : Part). TakesPart h r taken a b q w.place c.take_nodes.new.self c.take_ciphertext.new.self (slice_set taken p.level (p.index + 1))) (sym c.requires.part)
+    subst (λ (q : Part). TakesPart h r taken a b q w.position c.take_nodes.new.self c.take_ciphertext.new.self (slice_set taken p.level (p.index + 1))) (sym c.requires.part)
     (took_ciphertext h r taken a b w c.requires.taker c.take_nodes.new.self c.take_ciphertext.new.self p c.nodes-nodes.result c.args.bytes.now
     c.in_ok-take_nodes.ensures.others c.in_ok-take_nodes.ensures.right c.in_ok-take_nodes.ensures.grow these long c.in_ok-take_nodes.ensures.taken c.take_ciphertext.ensures.taken c.take_ciphertext.ensures.right)

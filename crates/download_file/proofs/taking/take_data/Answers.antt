@@ -14,5 +14,5 @@ returns-clause-taken c = λ (taken : List ℕ).
     let b = c.args.plan.now.end in
     let w = c.args.first.now in
     let due : IsDue r.supply (Data c.args.index) = subst (λ (p : Part). IsDue r.supply p) c.requires.part c.requires.taker.due in
-    subst (λ (q : Part). TakesPart h r taken a b q w.place h c.take_data.new.self taken) (sym c.requires.part)
+    subst (λ (q : Part). TakesPart h r taken a b q w.position h c.take_data.new.self taken) (sym c.requires.part)
     (took_data h r taken a b w c.requires.taker c.take_data.new.self c.args.index due.next c.in_ok-take_data.ensures.taken c.in_ok-take_data.ensures.right)

@@ -25,6 +25,6 @@ returns-clause-taken c = λ taken.
     let share : c.from-share.result ≡ r.share = c.from-share.ensures ∙ c.share.ensures in
     let root : known_leaf c.take_share_hashes.new.self.trees.shares r.share ≡ Some c.in_ok-tree.tree.root =
     subst (λ (n : ℕ). known_leaf c.take_share_hashes.new.self.trees.shares n ≡ Some c.in_ok-tree.tree.root) share c.in_ok-tree.ensures.root in
-    subst (λ (q : Part). TakesPart h r taken a b q w.place c.take_share_hashes.new.self c.take_tree.new.self taken) (sym c.requires.part)
+    subst (λ (q : Part). TakesPart h r taken a b q w.position c.take_share_hashes.new.self c.take_tree.new.self taken) (sym c.requires.part)
     (took_hashes h r taken a b w c.requires.taker c.take_share_hashes.new.self c.take_tree.new.self c.in_ok-tree.tree c.requires.part
     c.in_ok-tree.ensures.others c.in_ok-tree.ensures.right c.in_ok-tree.ensures.grow c.in_ok-tree.ensures.ciphertext root c.take_tree.ensures.taken c.take_tree.ensures.right)

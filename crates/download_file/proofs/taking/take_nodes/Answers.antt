@@ -16,5 +16,5 @@ returns-clause-taken c =
     let b = c.args.plan.now.end in
     let w = c.args.first.now in
     on_ok c.take_nodes.result _ _ _ c.take_nodes.ensures.taken c.take_nodes.ensures.waiting (λ takes waiting. λ (taken : List ℕ).
-    subst (λ (q : Part). TakesPart h r taken a b q w.place h c.take_nodes.new.self taken) (sym c.requires.part)
+    subst (λ (q : Part). TakesPart h r taken a b q w.position h c.take_nodes.new.self taken) (sym c.requires.part)
     (took_nodes h r taken a b w c.requires.taker c.take_nodes.new.self c.args.piece.now c.args.bytes.now c.take_nodes.ensures.server c.take_nodes.ensures.share waiting takes c.take_nodes.ensures.right))

@@ -18,7 +18,7 @@ stays (Err e) x = refl
 pub returns-in-ShareHashes-clause-taken : goal.returns-in-ShareHashes-clause-taken
 returns-in-ShareHashes-clause-taken c =
     let w = c.args.first.now in
-    of_any c.take_hashes.result (λ t. TakesPart c.args.handout.now c.args.reader.now t c.args.plan.now.first c.args.plan.now.end w.wanted.part w.place c.take_hashes.new.handout c.take_hashes.new.reader t) c.args.taken.now c.take_hashes.ensures.taken
+    of_any c.take_hashes.result (λ t. TakesPart c.args.handout.now c.args.reader.now t c.args.plan.now.first c.args.plan.now.end w.wanted.part w.position c.take_hashes.new.handout c.take_hashes.new.reader t) c.args.taken.now c.take_hashes.ensures.taken
 
 pub returns-in-ShareHashes-clause-refused : goal.returns-in-ShareHashes-clause-refused
 returns-in-ShareHashes-clause-refused c = c.take_hashes.ensures.refused
@@ -37,7 +37,7 @@ returns-in-ShareHashes-clause-pieces c = stays c.take_hashes.result c.args.taken
 pub returns-in-BlockTree-clause-taken : goal.returns-in-BlockTree-clause-taken
 returns-in-BlockTree-clause-taken c =
     let w = c.args.first.now in
-    of_any c.take_nodes.result (λ t. TakesPart c.args.handout.now c.args.reader.now t c.args.plan.now.first c.args.plan.now.end w.wanted.part w.place c.args.handout.now c.take_nodes.new.reader t) c.args.taken.now c.take_nodes.ensures.taken
+    of_any c.take_nodes.result (λ t. TakesPart c.args.handout.now c.args.reader.now t c.args.plan.now.first c.args.plan.now.end w.wanted.part w.position c.args.handout.now c.take_nodes.new.reader t) c.args.taken.now c.take_nodes.ensures.taken
 
 pub returns-in-BlockTree-clause-refused : goal.returns-in-BlockTree-clause-refused
 returns-in-BlockTree-clause-refused c = c.take_nodes.ensures.refused
@@ -61,7 +61,7 @@ returns-in-CiphertextTree c = c.take_ciphertext.ensures
 pub returns-in-Data-clause-taken : goal.returns-in-Data-clause-taken
 returns-in-Data-clause-taken c =
     let w = c.args.first.now in
-    of_any c.take_data.result (λ t. TakesPart c.args.handout.now c.args.reader.now t c.args.plan.now.first c.args.plan.now.end w.wanted.part w.place c.args.handout.now c.take_data.new.reader t) c.args.taken.now c.take_data.ensures.taken
+    of_any c.take_data.result (λ t. TakesPart c.args.handout.now c.args.reader.now t c.args.plan.now.first c.args.plan.now.end w.wanted.part w.position c.args.handout.now c.take_data.new.reader t) c.args.taken.now c.take_data.ensures.taken
 
 pub returns-in-Data-clause-refused : goal.returns-in-Data-clause-refused
 returns-in-Data-clause-refused c = λ check is. absurd (c.take_data.ensures.refused check is)

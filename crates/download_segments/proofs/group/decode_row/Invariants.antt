@@ -8,7 +8,7 @@ abbrev pub invariant-loop-row : goal.invariant-loop-row
 invariant-loop-row l =
     let d = l.group.decoding in
     record {
-      place : l.place ≡ l.number + l.row-index;
+      position : l.position ≡ l.number + l.row-index;
       count : length l.segments.items ≡ l.row-index;
       decodes : (i : ℕ) → i < l.row-index → DecodesBlocks d.geometry d.numbers
           (blocks_in d.geometry (l.number + i) (nth (map (λ r. r.items) l.rows) i)) (l.number + i) (nth (map (λ s. s.items) l.segments.items) i);

@@ -1,7 +1,7 @@
 use Rattle.std.proofs.Common.{◌≡◌, ◌∙◌, ◌+◌, ◌-◌, ◌*◌, ◌<◌, ℕ, Ok, Some, map, arith, ap, subst, sym, refl, true, length, slice_get, slice_set}
 use Rattle.std.proofs.lemmas.Bool.{true≢false}
 use Rattle.lemmas.proofs.Options.{one_there}
-use Rattle.lemmas.proofs.Places.{got}
+use Rattle.lemmas.proofs.Positions.{got}
 use Rattle.share_layout.specs.Geometry.{Geometry, segment_count}
 use Rattle.share_layout.specs.Pieces.{block_length, segment_length}
 use Rattle.download_segments.proofs.HandoutLemmas.{valid_of}

@@ -4,13 +4,13 @@ use Rattle.file_encoding.proofs.decoded.all_blocks.Goals as goal
 
 pub share_blocks-requires : goal.share_blocks-requires
 share_blocks-requires c =
-    let some = c.requires.readable c.loop-place.place-index c.loop-place-test.true in (
+    let some = c.requires.readable c.loop-position.position-index c.loop-position-test.true in (
       some.0,
-      subst (λ (T : Type 0). T) (readable_at c.args.geometry.now c.args.shares.now (get_or c.args.places.now c.loop-place.place-index 0) _ some.0
-          (c.requires.inside c.loop-place.place-index 0 c.loop-place-test.true)) some.1,
+      subst (λ (T : Type 0). T) (readable_at c.args.geometry.now c.args.shares.now (get_or c.args.positions.now c.loop-position.position-index 0) _ some.0
+          (c.requires.inside c.loop-position.position-index 0 c.loop-position-test.true)) some.1,
     )
 
-pub loop-place-preserved : goal.loop-place-preserved
-loop-place-preserved c =
-    blocks_more c.args.geometry.now c.args.shares.now c.loop-place.blocks.items c.push.new.self.items c.args.places.now c.loop-place.place-index _ c.share_blocks.result _
-    c.loop-place-test.true (c.requires.inside c.loop-place.place-index 0 c.loop-place-test.true) c.in_ok-push.ensures.items refl c.share_blocks.ensures c.loop-place.invariant
+pub loop-position-preserved : goal.loop-position-preserved
+loop-position-preserved c =
+    blocks_more c.args.geometry.now c.args.shares.now c.loop-position.blocks.items c.push.new.self.items c.args.positions.now c.loop-position.position-index _ c.share_blocks.result _
+    c.loop-position-test.true (c.requires.inside c.loop-position.position-index 0 c.loop-position-test.true) c.in_ok-push.ensures.items refl c.share_blocks.ensures c.loop-position.invariant

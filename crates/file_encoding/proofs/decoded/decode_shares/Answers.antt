@@ -2,19 +2,19 @@ use Rattle.std.proofs.Common.{◌≡◌, length, map, ap, ◌∙◌, arith}
 use Rattle.std.proofs.lemmas.List.{length-map}
 use Rattle.file_encoding.specs.LowestShares.{TakesAt}
 use Rattle.file_encoding.specs.Reading.{TakenShare}
-use Rattle.file_encoding.proofs.LowestShares.{enough_places}
+use Rattle.file_encoding.proofs.LowestShares.{enough_positions}
 use Rattle.file_encoding.proofs.Reread.{inside_shares}
 use Rattle.file_encoding.proofs.decoded.decode_shares.Goals as goal
 
 takes_at : (c : goal.After-deref) → TakesAt c.args.cap.now (map (λ s. s.0) c.args.shares.now) (map (λ s. s.1.now) c.args.shares.now) c.deref.result.now
 takes_at c =
-    let are = c.in_ok-places.ensures in
-    let count : length c.in_ok-places.places.items ≡ length are.taken = ap length are.at ∙ length-map are.taken (λ (t : TakenShare). t.place) in
+    let are = c.in_ok-positions.ensures in
+    let count : length c.in_ok-positions.positions.items ≡ length are.taken = ap length are.at ∙ length-map are.taken (λ (t : TakenShare). t.position) in
     record {
       taken = are.taken;
       takes = record {
         lowest = are.lowest;
-        enough = omega (arith, count, are.lowest.few, c.if-len-from.false, c.from.ensures, c.needed.ensures.value, c.len.ensures, c.in_ok-places.places.ok);
+        enough = omega (arith, count, are.lowest.few, c.if-len-from.false, c.from.ensures, c.needed.ensures.value, c.len.ensures, c.in_ok-positions.positions.ok);
       };
       at = c.deref.ensures.value ∙ are.at;
     }
@@ -24,8 +24,8 @@ decode_taken-requires-clause-takes c = takes_at c
 
 pub decode_taken-requires-clause-some : goal.decode_taken-requires-clause-some
 decode_taken-requires-clause-some c =
-    let all : length c.deref.result.now ≡ length c.in_ok-places.places.items = ap length c.deref.ensures.value in
-    omega (arith, all, c.needed.ensures.cap.parameters.some, c.if-len-from.false, c.from.ensures, c.needed.ensures.value, c.len.ensures, c.in_ok-places.places.ok)
+    let all : length c.deref.result.now ≡ length c.in_ok-positions.positions.items = ap length c.deref.ensures.value in
+    omega (arith, all, c.needed.ensures.cap.parameters.some, c.if-len-from.false, c.from.ensures, c.needed.ensures.value, c.len.ensures, c.in_ok-positions.positions.ok)
 
 pub decode_taken-requires-clause-inside : goal.decode_taken-requires-clause-inside
 decode_taken-requires-clause-inside c = λ k d inside.
@@ -34,15 +34,15 @@ decode_taken-requires-clause-inside c = λ k d inside.
 
 pub returns-then-len-from-clause-not_enough : goal.returns-then-len-from-clause-not_enough
 returns-then-len-from-clause-not_enough c = λ _.
-    let are = c.in_ok-places.ensures in
-    let count : length c.in_ok-places.places.items ≡ length are.taken = ap length are.at ∙ length-map are.taken (λ (t : TakenShare). t.place) in
+    let are = c.in_ok-positions.ensures in
+    let count : length c.in_ok-positions.positions.items ≡ length are.taken = ap length are.at ∙ length-map are.taken (λ (t : TakenShare). t.position) in
     record {
       taken = are.taken;
       lowest = are.lowest;
-      few = omega (arith, count, c.if-len-from.true, c.from.ensures, c.needed.ensures.value, c.len.ensures, c.in_ok-places.places.ok);
+      few = omega (arith, count, c.if-len-from.true, c.from.ensures, c.needed.ensures.value, c.len.ensures, c.in_ok-positions.positions.ok);
     }
 
 pub returns-clause-lacking : goal.returns-clause-lacking
 returns-clause-lacking c = λ lacks.
-    absurd (enough_places c.args.cap.now (map (λ s. s.0) c.args.shares.now) (map (λ s. s.1.now) c.args.shares.now) c.in_ok-places.places.items c.in_ok-places.ensures
-    (omega (arith, c.if-len-from.false, c.from.ensures, c.needed.ensures.value, c.len.ensures, c.in_ok-places.places.ok)) lacks)
+    absurd (enough_positions c.args.cap.now (map (λ s. s.0) c.args.shares.now) (map (λ s. s.1.now) c.args.shares.now) c.in_ok-positions.positions.items c.in_ok-positions.ensures
+    (omega (arith, c.if-len-from.false, c.from.ensures, c.needed.ensures.value, c.len.ensures, c.in_ok-positions.positions.ok)) lacks)

@@ -1,7 +1,7 @@
 use Rattle.std.proofs.Common.{◌≡◌, ℕ, ◌<◌, ◌++◌, arith, List, length, get_or, subst, sym, ◌∙◌, ap}
 use Rattle.std.proofs.lemmas.Result.{IfOk-weaker}
 use Rattle.merkle.specs.Tree.{height, needed_numbers, tree_nodes}
-use Rattle.share_layout.specs.Layout.{places_of}
+use Rattle.share_layout.specs.Layout.{offsets_of}
 use Rattle.share_layout.specs.Writing.{ending}
 use Rattle.file_encoding.specs.Blocks.{numbered}
 use Rattle.file_encoding.specs.Drafts.{DraftState}
@@ -34,7 +34,7 @@ put_numbered-requires-clause-room c = omega (
 
 pub finish-requires-clause-last : goal.finish-requires-clause-last
 finish-requires-clause-last c =
-    let last : length c.put_numbered.new.draft.bytes ≡ (places_of c.args.begun.draft.geometry).extension_block =
+    let last : length c.put_numbered.new.draft.bytes ≡ (offsets_of c.args.begun.draft.geometry).extension_block =
     omega (
       arith,
       c.in_ok-put_numbered.ensures.size,
@@ -42,7 +42,7 @@ finish-requires-clause-last c =
       hashes_fill c.args.begun.draft.geometry c.args.share_tree.now c.deref.result.now c.args.begun.draft.number c.requires.total
           (c.deref.ensures.value ∙ c.in_ok-numbers.ensures.numbers ∙ ap (needed_numbers (height (length c.args.share_tree.now))) c.number.ensures),
     ) in
-    last ∙ ap (λ (d : DraftState). (places_of d.geometry).extension_block) (sym c.in_ok-put_numbered.ensures.bytes)
+    last ∙ ap (λ (d : DraftState). (offsets_of d.geometry).extension_block) (sym c.in_ok-put_numbered.ensures.bytes)
 
 pub returns : goal.returns
 returns c =

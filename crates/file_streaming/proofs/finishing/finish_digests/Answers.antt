@@ -6,7 +6,7 @@ use Rattle.std.proofs.lemmas.Iterator.Adapters.{YieldsList-from_vec}
 use Rattle.std.proofs.lemmas.Iterator.Consumers.{YieldsList-end, YieldsList-turn}
 use Rattle.std.proofs.lemmas.List.{get_or-append_right, get_or-take, get_or_append_left, length-append, length-take-le, length_push}
 use Rattle.std.proofs.lemmas.List.FromFn.{fill_by_all}
-use Rattle.lemmas.proofs.Places.{got}
+use Rattle.lemmas.proofs.Positions.{got}
 use Rattle.tagged_hash.specs.TaggedHash.{tagged_hash}
 use Rattle.tagged_hash.specs.declared.tag.Tag.TheVariants.{WholeShare}
 use Rattle.file_streaming.specs.Finishing.{bytes_behind}

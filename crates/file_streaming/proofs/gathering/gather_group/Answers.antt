@@ -3,26 +3,26 @@ use Rattle.std.proofs.lemmas.List.{length-take, length-take-le, take_at}
 use Rattle.aes_ctr.specs.CounterMode.{xored_from}
 use Rattle.file_streaming.specs.Gathering.{HasGathered, gathered_group}
 use Rattle.block_making.proofs.ReadRuns.{ended-wider}
-use Rattle.file_streaming.proofs.GroupSteps.{has_first, has_place}
+use Rattle.file_streaming.proofs.GroupSteps.{has_first, has_offset}
 use Rattle.file_streaming.proofs.SecondPass.{ended_fault}
 use Rattle.file_streaming.proofs.gathering.gather_group.Goals as goal
 
 pub slice_bounds-read_part-end : goal.slice_bounds-read_part-end
 slice_bounds-read_part-end g c =
-    let at = has_place c.args.geometry.now c.args.group 0 c.requires.group (has_first c.args.geometry.now c.args.group c.requires.group) in
+    let at = has_offset c.args.geometry.now c.args.group 0 c.requires.group (has_first c.args.geometry.now c.args.group c.requires.group) in
     omega (arith, at.fits, c.requires.segments)
 
 pub slice_bounds-read_part-end-2 : goal.slice_bounds-read_part-end-2
 slice_bounds-read_part-end-2 g c =
-    let at = has_place c.args.geometry.now c.args.group 0 c.requires.group (has_first c.args.geometry.now c.args.group c.requires.group) in
+    let at = has_offset c.args.geometry.now c.args.group 0 c.requires.group (has_first c.args.geometry.now c.args.group c.requires.group) in
     sym (length-take-le c.args.group.len c.args.segments.now (omega (arith, at.fits, c.requires.segments)))
 
 pub returns-in_err-read_part-clause-ended : goal.returns-in_err-read_part-clause-ended
 returns-in_err-read_part-clause-ended g c = λ e.
     let len : ℕ = c.args.group.len in
-    let place : ℕ = c.args.group.place in
-    let at = has_place c.args.geometry.now c.args.group 0 c.requires.group (has_first c.args.geometry.now c.args.group c.requires.group) in
-    ended-wider g.S.Source.gives c.args.source.now (place + length (take len c.args.segments.now)) c.args.geometry.now.size c.read_part.new.source
+    let offset : ℕ = c.args.group.offset in
+    let at = has_offset c.args.geometry.now c.args.group 0 c.requires.group (has_first c.args.geometry.now c.args.group c.requires.group) in
+    ended-wider g.S.Source.gives c.args.source.now (offset + length (take len c.args.segments.now)) c.args.geometry.now.size c.read_part.new.source
     (c.in_err-read_part.ensures.ended (ended_fault c.from_residual.result _ c.from_residual.ensures.1 e))
     (omega (arith, at.file, length-take len c.args.segments.now))
 
@@ -37,13 +37,13 @@ returns-clause-gathered g c =
     let out : List ℕ = c.read_part.new.out in
     let len : ℕ = c.args.group.len in
     let behind : List ℕ = drop len c.args.segments.now in
-    let at = has_place c.args.geometry.now c.args.group 0 c.requires.group (has_first c.args.geometry.now c.args.group c.requires.group) in
+    let at = has_offset c.args.geometry.now c.args.group 0 c.requires.group (has_first c.args.geometry.now c.args.group c.requires.group) in
     let long : length out ≡ len = c.read_part.auto.out ∙ length-take-le len c.args.segments.now (omega (arith, at.fits, c.requires.segments)) in
     record {
       text = out;
       long = long;
       read = c.in_ok-read_part.ensures.ok;
       has = λ s secret file held.
-          subst (λ (o : List ℕ). HasGathered c.args.geometry.now (gathered_group c.args.geometry.now c.args.group (xored_from c.args.encoder.now.cipher c.args.group.place o) s) secret (file ++ o) c.add.new.self)
+          subst (λ (o : List ℕ). HasGathered c.args.geometry.now (gathered_group c.args.geometry.now c.args.group (xored_from c.args.encoder.now.cipher c.args.group.offset o) s) secret (file ++ o) c.add.new.self)
           (take_at out behind len long) (c.in_ok-add.ensures.gathered s secret file held);
     }

@@ -10,13 +10,13 @@ use Rattle.file_streaming.specs.Wholes.{HavePieceMore, IsGivenAt}
 use Rattle.file_streaming.specs.declared.groups.Group.{Group}
 use Rattle.file_streaming.specs.declared.shares.ShareSoFar.{ShareSoFar}
 use Rattle.file_streaming.specs.declared.wholes.WholeHashers.{WholeHashers}
-use Rattle.file_streaming.proofs.GroupSteps.{has_first, has_place}
+use Rattle.file_streaming.proofs.GroupSteps.{has_first, has_offset}
 use Rattle.file_streaming.proofs.Rows.{rows-shares, rows-wholes}
 use Rattle.file_streaming.proofs.ShareBlocks.{HaveSoFar, same_blocks, so_far-all, so_far-group, so_far-more}
 use Rattle.file_streaming.proofs.shares.add_segments.Goals as goal
 
 pub add_rows-requires-clause-at_once : goal.add_rows-requires-clause-at_once
-add_rows-requires-clause-at_once c = (has_place c.args.geometry.now c.args.group 0 c.requires.group (has_first c.args.geometry.now c.args.group c.requires.group)).few
+add_rows-requires-clause-at_once c = (has_offset c.args.geometry.now c.args.group 0 c.requires.group (has_first c.args.geometry.now c.args.group c.requires.group)).few
 
 pub loop-eight-preserved : goal.loop-eight-preserved
 loop-eight-preserved c =
@@ -56,7 +56,7 @@ pub returns-clause-shares : goal.returns-clause-shares
 returns-clause-shares c = λ s held.
     let g : Geometry = c.args.geometry.now in
     let group : Group = c.args.group in
-    let at = has_place g group 0 c.requires.group (has_first g group c.requires.group) in
+    let at = has_offset g group 0 c.requires.group (has_first g group c.requires.group) in
     let text : List ℕ = take group.len c.args.segments.now in
     let long : length text ≡ group.len = length-take-le group.len c.args.segments.now (omega (arith, at.fits, c.requires.segments)) in
     let all = (div_ceil_times (length c.args.shares.now) 8 (omega arith)).0 in

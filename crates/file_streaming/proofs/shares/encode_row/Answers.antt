@@ -8,8 +8,8 @@ use Rattle.share_layout.specs.Pieces.{block_length, pieces}
 use Rattle.share_verify.specs.Pieces.{joined}
 use Rattle.file_encoding.specs.Encoding.{block_of, blocks_of, padded_segment}
 use Rattle.file_streaming.specs.declared.groups.Group.{Group}
-use Rattle.file_streaming.proofs.GroupSteps.{has_place, padded-piece}
-use Rattle.file_streaming.proofs.Rows.{front-more, front_of, has_block_place, row-more, row-short}
+use Rattle.file_streaming.proofs.GroupSteps.{has_offset, padded-piece}
+use Rattle.file_streaming.proofs.Rows.{front-more, front_of, has_block_offset, row-more, row-short}
 use Rattle.file_streaming.proofs.SecondPass.{block-is}
 use Rattle.file_streaming.proofs.shares.encode_row.Goals as goal
 
@@ -23,7 +23,7 @@ pub slice_bounds-padded-end : goal.slice_bounds-padded-end
 slice_bounds-padded-end c =
     let g : Geometry = c.args.geometry.now in
     let i : ℕ = c.loop-i.i in
-    let at = has_place g c.args.group i c.requires.group (omega (arith, c.loop-i-test.true, c.loop-i.auto.i-end)) in
+    let at = has_offset g c.args.group i c.requires.group (omega (arith, c.loop-i-test.true, c.loop-i.auto.i-end)) in
     let start : i * c.segment_size-segment_size.result ≡ i * g.segment_size = ap (λ n. i * n) c.segment_size-segment_size.ensures.value in
     let room = within_segment g c.block_length-size.result c.from-needed.result (c.from-needed.ensures ∙ c.needed.ensures.value) c.block_length-size.ensures.range.1 in
     omega (arith, start, room, at.ends, c.requires.segments)
@@ -41,9 +41,9 @@ loop-i-preserved c =
     let needed : ℕ = c.from-needed.result in
     let same : needed ≡ g.needed = c.from-needed.ensures ∙ c.needed.ensures.value in
     let low : i < group.count = omega (arith, c.loop-i-test.true, c.loop-i.auto.i-end) in
-    let at = has_place g group i c.requires.group low in
+    let at = has_offset g group i c.requires.group low in
     let text_long : length text ≡ group.len = length-take-le group.len buffer (omega (arith, at.fits, c.requires.segments)) in
-    let block = has_block_place g group text share c.requires.group text_long i low in
+    let block = has_block_offset g group text share c.requires.group text_long i low in
     let start : ℕ = i * c.segment_size-segment_size.result in
     let start_is : start ≡ i * g.segment_size = ap (λ n. i * n) c.segment_size-segment_size.ensures.value in
     let room = within_segment g size needed same c.block_length-size.ensures.range.1 in
@@ -61,13 +61,13 @@ loop-i-preserved c =
     ∙ mul_comm size needed ∙ ap (λ n. n * size) same in
     let row : List ℕ = c.loop-i.row in
     let row_long : length row ≡ group.row = c.loop-i.auto.row ∙ c.requires.row in
-    let place : ℕ = i * c.block_size-block_size.result in
-    let place_is : place ≡ i * b = ap (λ n. i * n) c.block_size-block_size.ensures.value in
-    let part : place + size - place ≡ size = omega arith in
+    let offset : ℕ = i * c.block_size-block_size.result in
+    let offset_is : offset ≡ i * b = ap (λ n. i * n) c.block_size-block_size.ensures.value in
+    let part : offset + size - offset ≡ size = omega arith in
     let out : List ℕ = c.encode_lane.new.lanes in
     let out_long : length out ≡ size =
-    c.encode_lane.auto.lanes ∙ ap (λ n. length (take n (drop place row))) part
-    ∙ length-take-le size (drop place row) (omega (arith, length-drop place row, row_long, place_is, size_is, block.ends)) in
+    c.encode_lane.auto.lanes ∙ ap (λ n. length (take n (drop offset row))) part
+    ∙ length-take-le size (drop offset row) (omega (arith, length-drop offset row, row_long, offset_is, size_is, block.ends)) in
     let none : 0 * size ≡ 0 = omega arith in
     let made : out ≡ block_of g.needed share piece =
     sym (ap (λ n. take size (drop n out)) none ∙ take_all size out (omega (arith, out_long)))
@@ -77,7 +77,7 @@ loop-i-preserved c =
     let next : ((i + 1) * b ≡ i * b + size) ⊎ (i * b + size ≡ group.row) =
     elim block.next [ inl full ↦ inl (omega (arith, full, size_is, split)) | inr end ↦ inr (omega (arith, end, size_is)) ] in
     let front : List ℕ = front_of g c.requires.group.valid share i text in
-    (λ p. take ((i + 1) * b) (put_mid (place_is p) (part p) row out))
+    (λ p. take ((i + 1) * b) (put_mid (offset_is p) (part p) row out))
     ∙ row-more (i * b) size ((i + 1) * b) group.row row front out c.loop-i.invariant block.before out_long row_long (omega (arith, size_is, block.ends)) next
     (omega (arith, split, c.block_length-size.ensures.range.1))
     ∙ ap (λ (l : List ℕ). front ++ l) made ∙ sym (front-more g c.requires.group.valid share i text)
@@ -88,11 +88,11 @@ slice_bounds-encode_lane-end c =
     let group : Group = c.args.group in
     let i : ℕ = c.loop-i.i in
     let low : i < group.count = omega (arith, c.loop-i-test.true, c.loop-i.auto.i-end) in
-    let at = has_place g group i c.requires.group low in
+    let at = has_offset g group i c.requires.group low in
     let text_long : length (take group.len c.args.segments.now) ≡ group.len = length-take-le group.len c.args.segments.now (omega (arith, at.fits, c.requires.segments)) in
-    let block = has_block_place g group (take group.len c.args.segments.now) c.args.share c.requires.group text_long i low in
-    let place_is : i * c.block_size-block_size.result ≡ i * block_size g = ap (λ n. i * n) c.block_size-block_size.ensures.value in
-    omega (arith, place_is, c.block_length-size.ensures.value, block.ends, c.loop-i.auto.row, c.requires.row)
+    let block = has_block_offset g group (take group.len c.args.segments.now) c.args.share c.requires.group text_long i low in
+    let offset_is : i * c.block_size-block_size.result ≡ i * block_size g = ap (λ n. i * n) c.block_size-block_size.ensures.value in
+    omega (arith, offset_is, c.block_length-size.ensures.value, block.ends, c.loop-i.auto.row, c.requires.row)
 
 pub returns : goal.returns
 returns c =

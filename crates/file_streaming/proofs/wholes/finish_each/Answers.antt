@@ -6,7 +6,7 @@ use Rattle.std.proofs.lemmas.Iterator.Adapters.{YieldsList-from_vec}
 use Rattle.std.proofs.lemmas.Iterator.Consumers.{YieldsList-end, YieldsList-turn}
 use Rattle.std.proofs.lemmas.List.{length_push}
 use Rattle.std.proofs.lemmas.Option.{same_Some, slice_get_within}
-use Rattle.lemmas.proofs.Places.{got}
+use Rattle.lemmas.proofs.Positions.{got}
 use Rattle.std.proofs.Common.{get_or-set_other, get_or-set_same}
 use Rattle.tagged_hash.specs.TaggedHasher.{Holds}
 use Rattle.tagged_hash.specs.declared.hasher.TaggedHasher.{TaggedHasher}

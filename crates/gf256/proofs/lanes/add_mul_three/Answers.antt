@@ -21,13 +21,13 @@ loop-i-preserved c =
         | inr here ↦
             let j : ℕ = k - l.i * 16 in
             let within : j < 16 = omega arith in
-            let place : l.i * 16 + j ≡ k = omega arith in
+            let position : l.i * 16 + j ≡ k = omega arith in
             let first : get_or c.times.result j 0 ≡ product a (get_or c.args.x.now k 0) =
-            c.times.ensures.each j within ∙ (λ i. product (c.new-by_a.ensures i) (get_or c.args.x.now (place i) 0)) in
+            c.times.ensures.each j within ∙ (λ i. product (c.new-by_a.ensures i) (get_or c.args.x.now (position i) 0)) in
             let second : get_or c.times-in-loop-i.result j 0 ≡ product b (get_or c.args.y.now k 0) =
-            c.times-in-loop-i.ensures.each j within ∙ (λ i. product (c.new-by_b.ensures i) (get_or c.args.y.now (place i) 0)) in
+            c.times-in-loop-i.ensures.each j within ∙ (λ i. product (c.new-by_b.ensures i) (get_or c.args.y.now (position i) 0)) in
             let third : get_or c.times-in-loop-i-2.result j 0 ≡ product d (get_or c.args.z.now k 0) =
-            c.times-in-loop-i-2.ensures.each j within ∙ (λ i. product (c.new-by_c.ensures i) (get_or c.args.z.now (place i) 0)) in
+            c.times-in-loop-i-2.ensures.each j within ∙ (λ i. product (c.new-by_c.ensures i) (get_or c.args.z.now (position i) 0)) in
             c.add_lanes.ensures.added k here (omega arith)
             ∙ ap (bit_xor (get_or l.dst k 0))
             (get_or-three c.times.result c.times-in-loop-i.result c.times-in-loop-i-2.result j c.times.ensures.size c.times-in-loop-i.ensures.size c.times-in-loop-i-2.ensures.size within)

@@ -8,19 +8,19 @@ use Rattle.merkle.proofs.padding.+padding_node.Goals as goal
 pub returns-then-row-height : goal.returns-then-row-height
 returns-then-row-height t c =
     let m = c.args.height in
-    let place = c.args.place in
+    let position = c.args.position in
     let hashes = padded_to (2 ^ m) [] in
     let same : c.args.row ≡ m = c.if-row-height.true in
-    let below : place < 2 ^ m = rw same at c.requires.there in
-    c.empty_leaf.ensures ∙ sym (padded_to-empty (2 ^ m) [] place (omega arith) below) ∙ sym (node-leaf m hashes place)
-    ∙ ap (λ (r : ℕ). node m hashes r place) (sym same)
+    let below : position < 2 ^ m = rw same at c.requires.there in
+    c.empty_leaf.ensures ∙ sym (padded_to-empty (2 ^ m) [] position (omega arith) below) ∙ sym (node-leaf m hashes position)
+    ∙ ap (λ (r : ℕ). node m hashes r position) (sym same)
 
 pub node_over_run-requires : goal.node_over_run-requires
-node_over_run-requires t c = run_inside 7 c.args.height c.args.row c.args.place c.if-row-height-2.true c.requires.there c.requires.low
+node_over_run-requires t c = run_inside 7 c.args.height c.args.row c.args.position c.if-row-height-2.true c.requires.there c.requires.low
 
 pub returns-then-row-height-2 : goal.returns-then-row-height-2
 returns-then-row-height-2 t c =
-    c.node_over_run.ensures ∙ sym (node-run 7 c.args.height c.args.row c.args.place c.if-row-height-2.true c.requires.there)
+    c.node_over_run.ensures ∙ sym (node-run 7 c.args.height c.args.row c.args.position c.if-row-height-2.true c.requires.there)
 
 pub returns : goal.returns
 returns t c =
@@ -28,4 +28,4 @@ returns t c =
     let hashes = padded_to (2 ^ m) [] in
     let left = c.padding_node-left.ensures in
     let right = c.padding_node-right.ensures in
-    c.pair.ensures ∙ (λ i. node_hash (left i) (right i)) ∙ sym (node_split m hashes c.args.row c.args.place (omega arith))
+    c.pair.ensures ∙ (λ i. node_hash (left i) (right i)) ∙ sym (node_split m hashes c.args.row c.args.position (omega arith))

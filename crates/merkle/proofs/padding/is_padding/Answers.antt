@@ -18,8 +18,8 @@ returns-then-number-height c =
     let same : 2 ^ (h.result + 1) ≡ 2 ^ (height c.args.leaf_count + 1) = ap (λ (k : ℕ). 2 ^ (k + 1)) h.ensures.value in
     sym (is_padding-outside c.args.leaf_count c.args.number (omega (arith, cut, same, next_power (height c.args.leaf_count), c.if-number-height.true)))
 
-pub overflow_sub-place : goal.overflow_sub-place
-overflow_sub-place c =
+pub overflow_sub-position : goal.overflow_sub-position
+overflow_sub-position c =
     let h = c.height-height in
     let r = c.height-row in
     let low = height_low _ h.result 20 c.requires.few h.ensures.least in

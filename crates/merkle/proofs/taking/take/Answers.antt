@@ -16,7 +16,7 @@ use Rattle.merkle.proofs.RowLemmas.{number_inside, number_some, row_done, row_fo
 use Rattle.merkle.proofs.taking.take.Goals as goal
 use Rattle.merkle.proofs.taking.take.Goals.{else-number-row-eq1, else-number-row-eq1-via-else-number-row-eq1, else-number-row-eq1-via-then-number-row-eq1+else-not-follows_sibling, then-number-row-eq1+then-not-follows_sibling+in_ok-join}
 
--- the number at a place of a list
+-- the number at a position of a list
 number_at : (items : List ℕ) (i number : ℕ) → i < length items → number ≡ get_or items i number → slice_index_or items i 0 ≡ number
 number_at items i number below is = get_or_from_slice_get items i number 0 (slice_get_read items (length items) i number refl below is)
 
@@ -71,7 +71,7 @@ loop-offer-preserved c =
     let within : item.0 < node_count n = omega (arith, cut, same, next_power (height n), c.if-number-height.false) in
     let adds : Adds (padding n) (get nat_eq c.loop-offer.nodes) item.0 item.1 (get nat_eq c.add.new.nodes) = search rules in
     let s = c.loop-offer.invariant in
-    let touched : IsTouched offers item.0 = record { place = i; below = item.0; hash = item.1; rows = 0; offered = here; above = refl } in record {
+    let touched : IsTouched offers item.0 = record { position = i; below = item.0; hash = item.1; rows = 0; offered = here; above = refl } in record {
       under =
           underway_more n (padding n) first offers (get nat_eq c.loop-offer.nodes) c.loop-offer.added.items item.0 item.1 (get nat_eq c.add.new.nodes) c.add.new.added.items
           s.under adds c.add.ensures.grows touched within (λ new extended. extended.offered i item.0 item.1 here);

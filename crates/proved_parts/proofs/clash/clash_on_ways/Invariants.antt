@@ -5,8 +5,8 @@ use Rattle.proved_parts.proofs.clash.clash_on_ways.Given as goal
 
 abbrev pub invariant-loop-i : goal.invariant-loop-i
 invariant-loop-i l = record {
-  place : l.at ≡ l.place / 2 ^ l.i;
-  mine : l.left ≡ path_root l.i (l.place % 2 ^ l.i) l.fn.first l.these;
-  yours : l.right ≡ path_root l.i (l.place % 2 ^ l.i) l.fn.second l.those;
+  position : l.at ≡ l.position / 2 ^ l.i;
+  mine : l.left ≡ path_root l.i (l.position % 2 ^ l.i) l.fn.first l.these;
+  yours : l.right ≡ path_root l.i (l.position % 2 ^ l.i) l.fn.second l.those;
   apart : l.left ≢ l.right;
 }

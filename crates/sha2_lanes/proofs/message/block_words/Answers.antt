@@ -22,8 +22,8 @@ returns-then-start-prefix c =
     let all : length (padded_message (p ++ t)) ≡ (length p + length t + 72) / 64 * 64 = length_padded p t in
     same_part t (padded_message (p ++ t)) (64 * b - length p) (b * 64) (omega arith) (omega arith)
     (λ i low.
-    let place : 64 * b - length p + i ≡ b * 64 + i - length p = omega arith in
-    ap (λ (q : ℕ). get_or t q 0) place ∙ sym (byte_text p t (b * 64 + i) (omega arith) (omega arith))))
+    let offset : 64 * b - length p + i ≡ b * 64 + i - length p = omega arith in
+    ap (λ (q : ℕ). get_or t q 0) offset ∙ sym (byte_text p t (b * 64 + i) (omega arith) (omega arith))))
     c.words.ensures
 
 pub returns-else-prefix-start : goal.returns-else-prefix-start

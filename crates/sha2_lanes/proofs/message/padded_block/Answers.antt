@@ -33,10 +33,10 @@ returns c i below =
                 ∙ c.put-2.ensures.behind i below (omega arith) ∙ c.put.ensures.behind i below (omega arith)
                 ∙ get_or-replicate 64 i 0 0 below ∙ sym (byte_zero p t q (omega arith) (omega arith))
             | inr last ↦
-                let place : q - (end - 8) ≡ q + 8 - end = omega arith in
+                let offset : q - (end - 8) ≡ q + 8 - end = omega arith in
                 c.put-4.ensures.inside i below (omega arith) (omega arith)
                 ∙ ap (λ (b : List ℕ). get_or b (q - (end - 8)) 0) c.to_be_bytes-bits.ensures
-                ∙ ap (λ (k : ℕ). get_or (to_be_bytes w64 (total * 8 % 2 ^ 64)) k 0) place
+                ∙ ap (λ (k : ℕ). get_or (to_be_bytes w64 (total * 8 % 2 ^ 64)) k 0) offset
                 ∙ sym (byte_length p t q (omega arith) (omega arith))
           ]
         ]

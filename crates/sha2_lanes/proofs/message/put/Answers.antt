@@ -8,11 +8,11 @@ returns-then-from-to-clause-inside c i below low high =
     let from = c.max-from.result in
     let to = c.min-to.result in
     let start = c.args.start in
-    let place = c.args.place in
+    let offset = c.args.offset in
     let bytes : List ℕ = c.args.bytes.now in
     let part : List ℕ = c.copy_from_slice.new.self in
-    let at : from - place + (i - (from - start)) ≡ start + i - place = omega arith in
+    let at : from - offset + (i - (from - start)) ≡ start + i - offset = omega arith in
     get_or-overwritten (from - start) i c.args.block.now part _ 0 (omega arith) (omega arith) (omega arith)
     ∙ ap (λ (p : List ℕ). get_or p (i - (from - start)) 0) c.copy_from_slice.ensures.after
-    ∙ get_or-chunk (from - place) (to - place - (from - place)) bytes (i - (from - start)) 0 (omega arith)
+    ∙ get_or-chunk (from - offset) (to - offset - (from - offset)) bytes (i - (from - start)) 0 (omega arith)
     ∙ ap (λ (q : ℕ). get_or bytes q 0) at

@@ -1,7 +1,7 @@
 use Rattle.std.proofs.Common.{subst, arith}
-use Rattle.share_layout.specs.declared.places.Places.{Places}
+use Rattle.share_layout.specs.declared.offsets.Offsets.{Offsets}
 use Rattle.share_layout.specs.Layout.{width}
-use Rattle.share_layout.specs.Places.{HasVersion, layout_in}
+use Rattle.share_layout.specs.Offsets.{HasVersion, layout_in}
 use Rattle.share_layout.specs.Cutting.{IsCut}
 use Rattle.share_layout.specs.Reading.{sections_in}
 use Rattle.share_layout.proofs.ListLemmas.{bytes_between}
@@ -16,5 +16,5 @@ pub returns-in-Ok-cut : goal.returns-in-Ok-cut
 returns-in-Ok-cut c =
     let bytes = c.args.bytes.now in
     located bytes (sections_in c.in-Ok-cut.view) (bytes_between bytes _ (width (layout_in bytes)) (λ i. omega (arith, c.type_inv.bytes i)))
-    (subst (λ (p : Places). HasVersion p.layout bytes) c.in-Ok.ensures.places c.in-Ok.ensures.version) c.in-Ok.ensures.right
-    (subst (λ (p : Places). IsCut p bytes (sections_in c.in-Ok-cut.view)) c.in-Ok.ensures.places c.in-Ok-cut.ensures)
+    (subst (λ (p : Offsets). HasVersion p.layout bytes) c.in-Ok.ensures.offsets c.in-Ok.ensures.version) c.in-Ok.ensures.right
+    (subst (λ (p : Offsets). IsCut p bytes (sections_in c.in-Ok-cut.view)) c.in-Ok.ensures.offsets c.in-Ok-cut.ensures)

@@ -5,22 +5,22 @@ use Rattle.share_store.proofs.NameLaws.{open_long_enough, open_index_part, open_
 use Rattle.share_store.proofs.names.read_open_name.Goals as goal
 
 pub returns-then-name-clause-only : goal.returns-then-name-clause-only
-returns-then-name-clause-only c = λ place placed is. absurd (open_long_enough c.args.name.now place placed is c.if-name.true)
+returns-then-name-clause-only c = λ key placed is. absurd (open_long_enough c.args.name.now key placed is c.if-name.true)
 
 pub returns-then-ne-clause-only : goal.returns-then-ne-clause-only
-returns-then-ne-clause-only c = λ place placed is.
-    let text = c.split_at-2.ensures.back ∙ ap (λ (xs : List ℕ). drop (length xs - 4) xs) c.split_at.ensures.back ∙ open_end_part c.args.name.now place placed is in
+returns-then-ne-clause-only c = λ key placed is.
+    let text = c.split_at-2.ensures.back ∙ ap (λ (xs : List ℕ). drop (length xs - 4) xs) c.split_at.ensures.back ∙ open_end_part c.args.name.now key placed is in
     absurd (true≢false (sym c.if-ne.true ∙ c.ne.ensures ∙ ap (λ (xs : List ℕ). not (pointwise nat_eq xs (codes "open"))) text))
 
 pub returns-in_err-share-clause-only : goal.returns-in_err-share-clause-only
-returns-in_err-share-clause-only c = λ place placed is.
-    let text = c.split_at-2.ensures.front ∙ ap (λ (xs : List ℕ). take (length xs - 4) xs) c.split_at.ensures.back ∙ open_share_part c.args.name.now place placed is in
-    absurd (true≢false (sym (rw c.in_err-share.was at (c.read_between.ensures.only place.1 placed.1 text))))
+returns-in_err-share-clause-only c = λ key placed is.
+    let text = c.split_at-2.ensures.front ∙ ap (λ (xs : List ℕ). take (length xs - 4) xs) c.split_at.ensures.back ∙ open_share_part c.args.name.now key placed is in
+    absurd (true≢false (sym (rw c.in_err-share.was at (c.read_between.ensures.only key.1 placed.1 text))))
 
 pub returns-then-not-from_base32-clause-only : goal.returns-then-not-from_base32-clause-only
-returns-then-not-from_base32-clause-only c = λ place placed is.
-    let text = c.split_at.ensures.front ∙ open_index_part c.args.name.now place placed is in
-    let yes = (c.from_base32.ensures.only place.0 placed.0 text).0 in
+returns-then-not-from_base32-clause-only c = λ key placed is.
+    let text = c.split_at.ensures.front ∙ open_index_part c.args.name.now key placed is in
+    let yes = (c.from_base32.ensures.only key.0 placed.0 text).0 in
     search rules
 
 pub returns-clause-value : goal.returns-clause-value

@@ -7,7 +7,7 @@ use Rattle.share_verify.specs.Leaves.{AreBlockHashes}
 use Rattle.share_verify.proofs.HashedLemmas.{hash_behind}
 use Rattle.share_verify.proofs.blocks.are_hashes_of.Goals as goal
 
--- the leaves from one on, and the blocks from the same place on
+-- the leaves from one on, and the blocks from the same position on
 module _ (leaves : List (List ℕ)) (size : ℕ) (blocks rest : List ℕ) (first end : ℕ)
     (is : rest ≡ drop (first * size) blocks) (low : first ≤ end) (high : end ≤ length leaves) where
   -- where all leaves are hashes, so are those of the group

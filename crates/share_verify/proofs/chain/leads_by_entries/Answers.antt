@@ -21,9 +21,9 @@ returns c =
     let own : carried_hash entries (node_number (height total) leaf) ≡ Some hash =
     ap (carried_hash entries) (ap (λ (m : ℕ). node_number m leaf) (sym same)
     ∙ ap (λ (l : ℕ). node_number c.height_of-height.result l) (sym c.from.ensures) ∙ sym c.node_number-own.ensures.value) ∙ carries in
-    let numbers : ℕ → ℕ → ℕ → Type 0 = λ n place m. LeadsBy n root place hash (take m siblings) in (
+    let numbers : ℕ → ℕ → ℕ → Type 0 = λ n offset m. LeadsBy n root offset hash (take m siblings) in (
       λ yes. entries_lead total root leaf hash entries siblings long all own
-          (subst (λ (m : ℕ). numbers total leaf m) same (subst (λ (place : ℕ). numbers total place c.height_of-height.result) c.from-3.ensures (subst (λ (n : ℕ). numbers n c.from-3.result c.height_of-height.result) c.from-2.ensures (c.check_path.ensures.0 yes)))),
+          (subst (λ (m : ℕ). numbers total leaf m) same (subst (λ (offset : ℕ). numbers total offset c.height_of-height.result) c.from-3.ensures (subst (λ (n : ℕ). numbers n c.from-3.result c.height_of-height.result) c.from-2.ensures (c.check_path.ensures.0 yes)))),
       λ held. c.check_path.ensures.1
-          (subst (λ (n : ℕ). numbers n c.from-3.result c.height_of-height.result) (sym c.from-2.ensures) (subst (λ (place : ℕ). numbers total place c.height_of-height.result) (sym c.from-3.ensures) (subst (λ (m : ℕ). numbers total leaf m) (sym same) (siblings_lead total root leaf hash entries siblings long all held)))),
+          (subst (λ (n : ℕ). numbers n c.from-3.result c.height_of-height.result) (sym c.from-2.ensures) (subst (λ (offset : ℕ). numbers total offset c.height_of-height.result) (sym c.from-3.ensures) (subst (λ (m : ℕ). numbers total leaf m) (sym same) (siblings_lead total root leaf hash entries siblings long all held)))),
     )

@@ -6,7 +6,7 @@ use Rattle.sources.proofs.part.read_part.Goals as goal
 pub loop-done-preserved : goal.loop-done-preserved
 loop-done-preserved g c =
     let rest : ℕ = length c.loop-done.out - c.loop-done.done in
-    part-more g.S.Source.gives g.S.Source.size g.S.Source.failures c.args.source.now c.loop-done.source c.read_some.new.source c.args.place c.args.out.now
+    part-more g.S.Source.gives g.S.Source.size g.S.Source.failures c.args.source.now c.loop-done.source c.read_some.new.source c.args.offset c.args.out.now
     c.loop-done.out c.read_some.new.out c.loop-done.done c.in-Ok.count (length c.loop-done.out - c.loop-done.done) c.loop-done.invariant
     (omega (arith, c.read_some.auto.out, length-take rest (drop c.loop-done.done c.loop-done.out), length-drop c.loop-done.done c.loop-done.out)) refl
     (omega (arith, c.in-Ok.ensures.some.1, length-take rest (drop c.loop-done.done c.loop-done.out), length-drop c.loop-done.done c.loop-done.out))
@@ -14,6 +14,6 @@ loop-done-preserved g c =
 
 pub returns-in-Err-clause-ended : goal.returns-in-Err-clause-ended
 returns-in-Err-clause-ended g c = λ e.
-    ends_early g.S.Source.gives c.args.source.now c.loop-done.source c.read_some.new.source c.args.place (c.args.place + c.loop-done.done)
-    (c.args.place + length c.args.out.now) (take c.loop-done.done c.loop-done.out) c.loop-done.invariant.read
+    ends_early g.S.Source.gives c.args.source.now c.loop-done.source c.read_some.new.source c.args.offset (c.args.offset + c.loop-done.done)
+    (c.args.offset + length c.args.out.now) (take c.loop-done.done c.loop-done.out) c.loop-done.invariant.read
     (omega (arith, c.loop-done-test.true, c.loop-done.invariant.long)) (c.in-Err.ensures.ended (err-again c.in-Err.fault _ e))

@@ -1,6 +1,6 @@
 use Rattle.std.proofs.Common.{[], refl, sym, inl, inr, ◌∙◌}
 use Rattle.request_record.specs.Follow.{Nothing}
-use Rattle.world_operations.proofs.Places.{append_none}
+use Rattle.world_operations.proofs.Positions.{append_none}
 use Rattle.lemmas.proofs.Results.{on_ok}
 use Rattle.world_operations.proofs.Sending.{moves_nowhere}
 use Rattle.world.proofs.parts.tick_one.Goals as goal

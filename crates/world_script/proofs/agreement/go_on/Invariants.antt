@@ -1,5 +1,5 @@
 use Rattle.world_script.proofs.Agreeing.{AreAlike}
 use Rattle.world_script.proofs.agreement.go_on.Given as goal
 
-abbrev pub invariant-loop-place : goal.invariant-loop-place
-invariant-loop-place l = AreAlike l.bytes l.from l.others l.place
+abbrev pub invariant-loop-offset : goal.invariant-loop-offset
+invariant-loop-offset l = AreAlike l.bytes l.from l.others l.offset

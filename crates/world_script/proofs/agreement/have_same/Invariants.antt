@@ -4,4 +4,4 @@ use Rattle.world_script.proofs.Agreeing.{AreFirst}
 use Rattle.world_script.proofs.agreement.have_same.Given as goal
 
 abbrev pub invariant-loop-piece : goal.invariant-loop-piece
-invariant-loop-piece l = AreFirst (λ (piece : Piece). AreSame piece.place piece.bytes l.place l.bytes) l.pieces l.piece-index
+invariant-loop-piece l = AreFirst (λ (piece : Piece). AreSame piece.offset piece.bytes l.offset l.bytes) l.pieces l.piece-index

@@ -30,9 +30,9 @@ pub returns-in_err-read_part-clause-ended : goal.returns-in_err-read_part-clause
 returns-in_err-read_part-clause-ended g c = λ e.
     let valid = subst (λ (m : Making). IsGeometry m.geometry) c.self.view_is c.segment_size.ensures.valid in
     let len = c.segment_length-len.ensures.value ∙ ap (λ (m : Making). segment_length m.geometry c.args.number) c.self.view_is in
-    let place : c.from.result * c.from-2.result ≡ c.args.number * c.args.self.now.geometry.segment_size =
+    let offset : c.from.result * c.from-2.result ≡ c.args.number * c.args.self.now.geometry.segment_size =
     λ p. c.from.ensures p * (c.from-2.ensures ∙ c.segment_size.ensures.value ∙ ap (λ (m : Making). m.geometry.segment_size) c.self.view_is) p in
-    let low = ends-within c.args.self.now.geometry c.args.number (c.from.result * c.from-2.result) c.segment_length-len.result valid c.requires.number place len in
+    let low = ends-within c.args.self.now.geometry c.args.number (c.from.result * c.from-2.result) c.segment_length-len.result valid c.requires.number offset len in
     ended-wider g.S.Source.gives c.args.source.now (c.from.result * c.from-2.result + length (take c.segment_length-len.result c.args.padded.now))
     c.args.self.now.geometry.size c.read_part.new.source
     (c.in_err-read_part.ensures.ended (ended_fault c.from_residual.result _ c.from_residual.ensures.1 e))
@@ -55,7 +55,7 @@ pub returns-clause-read : goal.returns-clause-read
 returns-clause-read g c =
     let valid = subst (λ (m : Making). IsGeometry m.geometry) c.self.view_is c.segment_size.ensures.valid in
     let len = c.segment_length-len.ensures.value ∙ ap (λ (m : Making). segment_length m.geometry c.args.number) c.self.view_is in
-    let place : c.from.result * c.from-2.result ≡ c.args.number * c.args.self.now.geometry.segment_size =
+    let offset : c.from.result * c.from-2.result ≡ c.args.number * c.args.self.now.geometry.segment_size =
     λ p. c.from.ensures p * (c.from-2.ensures ∙ c.segment_size.ensures.value ∙ ap (λ (m : Making). m.geometry.segment_size) c.self.view_is) p in
     let padded : List ℕ = c.read_part.new.out ++ drop c.segment_length-len.result c.args.padded.now in
     let written = c.encrypt.ensures
@@ -63,4 +63,4 @@ returns-clause-read g c =
     subst (λ (p : List ℕ). IsSegmentRead g.S.Source.gives c.args.source.now c.args.self.now c.args.number p c.read_part.new.source) (sym written)
     (segment_read g.S.Source.gives c.args.source.now c.read_part.new.source c.args.self.now c.args.number (c.from.result * c.from-2.result) c.segment_length-len.result
     c.args.padded.now c.read_part.new.out c.requires.number
-    (is_room c.args.self.now.geometry c.args.number (length c.args.padded.now) valid c.requires.number c.requires.room) place len c.read_part.auto.out c.in_ok-read_part.ensures.ok)
+    (is_room c.args.self.now.geometry c.args.number (length c.args.padded.now) valid c.requires.number c.requires.room) offset len c.read_part.auto.out c.in_ok-read_part.ensures.ok)

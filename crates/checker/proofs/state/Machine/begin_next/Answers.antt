@@ -1,6 +1,6 @@
 use Rattle.std.proofs.Common.{[], ◌+◌, ◌∙◌, length, ap, subst, arith}
 use Rattle.std.proofs.lemmas.List.{length-set}
-use Rattle.lemmas.proofs.Places.{get_of}
+use Rattle.lemmas.proofs.Positions.{get_of}
 use Rattle.share_reading.specs.declared.opening.Opening.TheVariants.{Start}
 use Rattle.share_reading.specs.declared.reading.ShareReading.TheVariants.{Beginning}
 use Rattle.share_reading.specs.declared.reading.ShareReading.{ShareReading}

@@ -11,7 +11,7 @@ use Rattle.lemmas.proofs.Results.{if_ok_then}
 use Rattle.checker.specs.declared.status.CheckStatus.TheVariants.{Running, Failed}
 use Rattle.checker.specs.declared.status.CheckStatus.{CheckStatus}
 use Rattle.checker.proofs.Keeping.{asks_trans, book_counted, goes_on_running, kept_counted, kept_failed, on_err_all, safe_goes, stops_with}
-use Rattle.checker.proofs.RecordMoves.{IsCounted, counted_at_place, message_brought}
+use Rattle.checker.proofs.RecordMoves.{IsCounted, counted_at_position, message_brought}
 use Rattle.checker.proofs.state.Machine.hear.Goals as goal
 
 runs_well : (s : CheckStatus) → s ≡ Running → s ≡ Failed → ⊥
@@ -20,8 +20,8 @@ runs_well s e f = clash (sym e ∙ f)
     clash : Running ≡ Failed → ⊥
     clash g = cc
 
-counted_as : (from now : ℕ) (m : Message) (s r : RequestsState) (place : ℕ) → Some place ≡ counts_at from m s → r ≡ after_message from m now s → IsCounted s.entries r.entries place
-counted_as from now m s r place counts is = subst (λ (x : RequestsState). IsCounted s.entries x.entries place) (sym is) (counted_at_place from now m s place counts)
+counted_as : (from now : ℕ) (m : Message) (s r : RequestsState) (position : ℕ) → Some position ≡ counts_at from m s → r ≡ after_message from m now s → IsCounted s.entries r.entries position
+counted_as from now m s r position counts is = subst (λ (x : RequestsState). IsCounted s.entries x.entries position) (sym is) (counted_at_position from now m s position counts)
 
 once_as : (from now : ℕ) (m : Message) (s r : RequestsState) → r ≡ after_message from m now s → AsksOnce s.entries → AsksOnce r.entries
 once_as from now m s r is once = subst (λ (x : RequestsState). AsksOnce x.entries) (sym is) (once_answered from now m s once)
@@ -30,8 +30,8 @@ pub returns-then-not-is_running-clause-kept : goal.returns-then-not-is_running-c
 returns-then-not-is_running-clause-kept c =
     let m = c.args.self.now in
     let r = c.take_answer.new.self in
-    kept_counted m r c.in-Some.counted.place c.args.status (λ e. false≢true (sym c.if-not-is_running.true ∙ c.is_running.ensures.1 e))
-    (counted_as c.args.from c.args.now c.args.message m.requests r c.in-Some.counted.place c.in-Some.ensures.place c.take_answer.ensures.«record»)
+    kept_counted m r c.in-Some.counted.position c.args.status (λ e. false≢true (sym c.if-not-is_running.true ∙ c.is_running.ensures.1 e))
+    (counted_as c.args.from c.args.now c.args.message m.requests r c.in-Some.counted.position c.in-Some.ensures.position c.take_answer.ensures.«record»)
     (once_as c.args.from c.args.now c.args.message m.requests r c.take_answer.ensures.«record» c.requires.kept.safe.once) c.requires.kept
 
 pub returns-then-not-is_running-clause-failed : goal.returns-then-not-is_running-clause-failed
@@ -39,42 +39,42 @@ returns-then-not-is_running-clause-failed c =
     let m = c.args.self.now in
     let r = c.take_answer.new.self in
     kept_failed (record m { requests = r }) c.args.status
-    (kept_counted m r c.in-Some.counted.place c.args.status (λ e. false≢true (sym c.if-not-is_running.true ∙ c.is_running.ensures.1 e))
-    (counted_as c.args.from c.args.now c.args.message m.requests r c.in-Some.counted.place c.in-Some.ensures.place c.take_answer.ensures.«record»)
+    (kept_counted m r c.in-Some.counted.position c.args.status (λ e. false≢true (sym c.if-not-is_running.true ∙ c.is_running.ensures.1 e))
+    (counted_as c.args.from c.args.now c.args.message m.requests r c.in-Some.counted.position c.in-Some.ensures.position c.take_answer.ensures.«record»)
     (once_as c.args.from c.args.now c.args.message m.requests r c.take_answer.ensures.«record» c.requires.kept.safe.once) c.requires.kept)
 
 pub take_in-requires-clause-safe : goal.take_in-requires-clause-safe
 take_in-requires-clause-safe c =
     let m = c.args.self.now in
     let r = c.take_answer.new.self in
-    safe_goes m r (c.in-Some.counted.place ∷ [])
-    (counted_as c.args.from c.args.now c.args.message m.requests r c.in-Some.counted.place c.in-Some.ensures.place c.take_answer.ensures.«record»).goes
+    safe_goes m r (c.in-Some.counted.position ∷ [])
+    (counted_as c.args.from c.args.now c.args.message m.requests r c.in-Some.counted.position c.in-Some.ensures.position c.take_answer.ensures.«record»).goes
     (once_as c.args.from c.args.now c.args.message m.requests r c.take_answer.ensures.«record» c.requires.kept.safe.once) c.requires.kept.safe
 
 pub take_in-requires-clause-settled : goal.take_in-requires-clause-settled
 take_in-requires-clause-settled c r e =
-    (counted_as c.args.from c.args.now c.args.message c.args.self.now.requests c.take_answer.new.self c.in-Some.counted.place c.in-Some.ensures.place c.take_answer.ensures.«record»).quiet
-    c.in-Some.counted.place r (contains_head c.in-Some.counted.place []) e
+    (counted_as c.args.from c.args.now c.args.message c.args.self.now.requests c.take_answer.new.self c.in-Some.counted.position c.in-Some.ensures.position c.take_answer.ensures.«record»).quiet
+    c.in-Some.counted.position r (contains_head c.in-Some.counted.position []) e
 
 pub take_in-requires-clause-brought : goal.take_in-requires-clause-brought
 take_in-requires-clause-brought c =
-    message_brought c.args.from c.args.now c.args.message c.args.self.now.requests c.take_answer.new.self c.in-Some.counted.place _ c.in-Some.ensures.place c.take_answer.ensures.«record» c.in-Some.ensures.bytes
+    message_brought c.args.from c.args.now c.args.message c.args.self.now.requests c.take_answer.new.self c.in-Some.counted.position _ c.in-Some.ensures.position c.take_answer.ensures.«record» c.in-Some.ensures.bytes
 
 pub take_in-requires-clause-book : goal.take_in-requires-clause-book
 take_in-requires-clause-book c = (
   [],
-  book_counted c.args.self.now c.take_answer.new.self c.in-Some.counted.place
-      (counted_as c.args.from c.args.now c.args.message c.args.self.now.requests c.take_answer.new.self c.in-Some.counted.place c.in-Some.ensures.place c.take_answer.ensures.«record»)
+  book_counted c.args.self.now c.take_answer.new.self c.in-Some.counted.position
+      (counted_as c.args.from c.args.now c.args.message c.args.self.now.requests c.take_answer.new.self c.in-Some.counted.position c.in-Some.ensures.position c.take_answer.ensures.«record»)
       (c.requires.kept.book (runs_well c.args.status (c.is_running.ensures.0 c.if-not-is_running.false))),
 )
 
 pub settle-requires-clause-book : goal.settle-requires-clause-book
 settle-requires-clause-book c =
     c.in_ok-take_in.ensures.book []
-    (book_counted c.args.self.now c.take_answer.new.self c.in-Some.counted.place
-    (counted_as c.args.from c.args.now c.args.message c.args.self.now.requests c.take_answer.new.self c.in-Some.counted.place c.in-Some.ensures.place c.take_answer.ensures.«record»)
+    (book_counted c.args.self.now c.take_answer.new.self c.in-Some.counted.position
+    (counted_as c.args.from c.args.now c.args.message c.args.self.now.requests c.take_answer.new.self c.in-Some.counted.position c.in-Some.ensures.position c.take_answer.ensures.«record»)
     (c.requires.kept.book (runs_well c.args.status (c.is_running.ensures.0 c.if-not-is_running.false))))
-    (inl (λ h. contains_none c.in-Some.counted.place h))
+    (inl (λ h. contains_none c.in-Some.counted.position h))
 
 pub returns-clause-ok : goal.returns-clause-ok
 returns-clause-ok c =

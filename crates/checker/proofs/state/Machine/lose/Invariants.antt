@@ -3,5 +3,5 @@ use Rattle.checker.proofs.Keeping.{IsLosing}
 use Rattle.checker.proofs.state.Machine.lose.Given as goal
 
 -- those before this one are taken in
-abbrev pub invariant-loop-place : goal.invariant-loop-place
-invariant-loop-place l = IsLosing l.initial.self l.self l.places (drop l.place-index l.places)
+abbrev pub invariant-loop-position : goal.invariant-loop-position
+invariant-loop-position l = IsLosing l.initial.self l.self l.positions (drop l.position-index l.positions)

@@ -1,7 +1,7 @@
 use Rattle.std.proofs.Common.{◌∙◌, IfSome, subst, sym, true≢false}
 use Rattle.request_record.specs.Follow.{Follows, Nothing}
 use Rattle.request_record.proofs.FollowLaws.{follows_itself}
-use Rattle.download_core.specs.Sections.{ReadsInPlace}
+use Rattle.download_core.specs.Sections.{ReadsInSections}
 use Rattle.download_core.specs.Sending.{Takes}
 use Rattle.download_core.specs.State.{DownloadState}
 use Rattle.download_core.specs.Steps.{state_of}
@@ -37,5 +37,5 @@ pub returns-clause-reads : goal.returns-clause-reads
 returns-clause-reads c =
     let s = c.self.inside in
     let d : DownloadState = state_of s.machine s.servers.items s.status in
-    subst (λ (e : DownloadState). IfSome c.take_outgoing.result (ReadsInPlace e)) c.self.view_is
+    subst (λ (e : DownloadState). IfSome c.take_outgoing.result (ReadsInSections e)) c.self.view_is
     (taken_lie d (state_of c.take_outgoing.new.self s.servers.items s.status) c.take_outgoing.result c.self.invariant.file c.know_right.ensures.file c.self.invariant.fair.reads (taken (goal.at.returns-clause-reads c).After-take_outgoing))

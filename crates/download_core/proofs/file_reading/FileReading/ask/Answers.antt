@@ -4,11 +4,11 @@ use Rattle.download_shares.specs.HoldingState.{HoldingsState}
 use Rattle.std.specs.Prelude.{All, AllPairs}
 use Rattle.std.proofs.lemmas.Option.{slice_get_within}
 use Rattle.lemmas.proofs.Results.{on_ok_then}
-use Rattle.lemmas.proofs.Places.{got}
+use Rattle.lemmas.proofs.Positions.{got}
 use Rattle.download_shares.specs.HoldingMoves.{IsUnasked}
 use Rattle.download_shares.proofs.Opened.{goes_none}
 use Rattle.download_supply.specs.declared.wanted.Wanted.{Wanted}
-use Rattle.download_file.specs.State.{IsLive, placed, waiting_at}
+use Rattle.download_file.specs.State.{IsLive, waiting_from, waiting_at}
 use Rattle.download_core.specs.Reading.{AreLinked, AreReading, IsOf}
 use Rattle.download_core.specs.ReadingState.{ReadingState, reading_state}
 use Rattle.download_parts.specs.PlanLaws.{AreApart}
@@ -58,7 +58,7 @@ ask_parts-requires-clause-there c =
 
 pub ask_parts-requires-clause-apart : goal.ask_parts-requires-clause-apart
 ask_parts-requires-clause-apart c =
-    subst (λ (l : List Wanted). AllPairs (λ (v w : Wanted). AreApart v.read.place v.read.length w.read.place w.read.length) l) (sym c.deref.ensures.value) c.in_ok-wanted.ensures.asks.apart
+    subst (λ (l : List Wanted). AllPairs (λ (v w : Wanted). AreApart v.read.offset v.read.length w.read.offset w.read.length) l) (sym c.deref.ensures.value) c.in_ok-wanted.ensures.asks.apart
 
 pub ask_parts-requires-clause-fresh : goal.ask_parts-requires-clause-fresh
 ask_parts-requires-clause-fresh c =
@@ -67,7 +67,7 @@ ask_parts-requires-clause-fresh c =
     let reading : AreLinked bs r = subst (AreLinked bs) (sym c.self.view_is) c.requires.reading.linked in
     let live : IsLive r.file c.args.reader = subst (λ (x : ReadingState). IsLive x.file c.args.reader) (sym c.self.view_is) c.requires.live in
     let of : IsOf r c.args.reader c.index.result.now = got r.holdings c.args.reader c.index.result.now (let k = reading.live c.args.reader live in slice_get_within r.holdings c.args.reader k.holding k.of) c.index.ensures in
-    subst (λ (l : List Wanted). All (λ (w : Wanted). IsUnasked bs.holdings c.index.result.now w.read.place w.read.length) l) (sym c.deref.ensures.value)
+    subst (λ (l : List Wanted). All (λ (w : Wanted). IsUnasked bs.holdings c.index.result.now w.read.offset w.read.length) l) (sym c.deref.ensures.value)
     (parts_unasked bs r c.wanted.new.self c.args.reader c.index.result.now c.in_ok-wanted.wanted.items reading live of c.in_ok-wanted.ensures.asks)
 
 pub returns-clause-reading : goal.returns-clause-reading
@@ -82,14 +82,14 @@ returns-clause-reading c =
     let t = c.ask_parts.new.beginnings in
     let k = c.in_ok-wanted.ensures in
     let before : AreReading bs r = subst (AreReading bs) (sym c.self.view_is) c.requires.reading in
-    let place : c.len-place.result ≡ length bs.holdings.requests.entries = c.len-place.ensures.value ∙ ap (λ (x : RequestsState). length x.entries) (c.requests.ensures.value ∙ ap (λ (x : HoldingsState). x.requests) c.holdings.ensures) in
+    let position : c.len-position.result ≡ length bs.holdings.requests.entries = c.len-position.ensures.value ∙ ap (λ (x : RequestsState). length x.entries) (c.requests.ensures.value ∙ ap (λ (x : HoldingsState). x.requests) c.holdings.ensures) in
     on_ok_then c.ask_parts.result _ (AreReading t q) c.ask_parts.ensures.asks
     (λ done.
     let asks = subst (λ (l : List Wanted). steps.AsksParts c.index.result.now l bs t) c.deref.ensures.value done in
     record {
       linked = asked_reading bs r f c.args.reader c.index.result.now c.in_ok-wanted.wanted.items reading live of k.asks t asks c.ask_parts.ensures.grows k.right reads_keep k.reads k.live k.copies k.same.geometry;
       awaits = asked_awaits bs t r f c.args.reader c.index.result.now c.in_ok-wanted.wanted.items before.awaits of asks c.ask_parts.ensures.goes k.live
-          (subst (λ n. waiting_at f c.args.reader ≡ waiting_at r.file c.args.reader ++ placed n c.in_ok-wanted.wanted.items) place k.waits) k.others;
+          (subst (λ n. waiting_at f c.args.reader ≡ waiting_at r.file c.args.reader ++ waiting_from n c.in_ok-wanted.wanted.items) position k.waits) k.others;
       busy = busy_file None t r q refl (busy_goes bs t r before.busy asks.table asks.begun c.ask_parts.ensures.goes);
     })
 
@@ -116,6 +116,6 @@ returns-clause-continues c =
       same = c.in_ok-wanted.ensures.same;
       pieces = adds_none r.file.handout q.file.handout c.in_ok-wanted.ensures.handout;
       answers = λ a. reads_keep bs.holdings.requests.entries c.ask_parts.new.beginnings.holdings.requests.entries c.wanted.new.self c.ask_parts.ensures.grows.stays (c.in_ok-wanted.ensures.reads bs.holdings.requests.entries a);
-      reads = λ place n share offset len there le asked. planned_of r.file c.in_ok-wanted.wanted.items offset len c.in_ok-wanted.ensures.asks.planned
-          (subst (λ (l : List Wanted). IsOneOf l offset len) c.deref.ensures.value (c.ask_parts.ensures.adds place n share offset len there le asked));
+      reads = λ position n share offset len there le asked. planned_of r.file c.in_ok-wanted.wanted.items offset len c.in_ok-wanted.ensures.asks.planned
+          (subst (λ (l : List Wanted). IsOneOf l offset len) c.deref.ensures.value (c.ask_parts.ensures.adds position n share offset len there le asked));
     })

@@ -4,7 +4,7 @@ use Rattle.download_core.specs.ReadingCauses.{IsBlameOf}
 use Rattle.std.proofs.Common.{refl, ap, ◌≡◌, ℕ, ◌<◌, length, get_or, Some, None, sym, subst, arith}
 use Rattle.std.specs.Prelude.{slice_get}
 use Rattle.std.proofs.lemmas.Option.{slice_get_within}
-use Rattle.lemmas.proofs.Places.{got}
+use Rattle.lemmas.proofs.Positions.{got}
 use Rattle.lemmas.proofs.Options.{one_there}
 use Rattle.download_shares.specs.BeginningState.{BeginningsState}
 use Rattle.download_file.specs.State.{IsLive}

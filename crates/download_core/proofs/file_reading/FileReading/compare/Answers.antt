@@ -12,7 +12,7 @@ use Rattle.download_core.proofs.file_reading.FileReading.compare.Goals.{After-co
 use Rattle.download_core.proofs.file_reading.FileReading.compare.Goals as goal
 
 pub compare-requires-clause-awaits : goal.compare-requires-clause-awaits
-compare-requires-clause-awaits c = awaited c.args.beginnings.now c.args.holding c.args.place c.requires.told.linked.kept.known c.requires.waits
+compare-requires-clause-awaits c = awaited c.args.beginnings.now c.args.holding c.args.position c.requires.told.linked.kept.known c.requires.waits
 
 pub returns-in_err-compare-clause-continues : goal.returns-in_err-compare-clause-continues
 returns-in_err-compare-clause-continues c = record {

@@ -11,17 +11,17 @@ use Rattle.download_core.proofs.file_reading.FileReading.hear.Goals as goal
 pub compare-requires-clause-told : goal.compare-requires-clause-told
 compare-requires-clause-told c =
     let e = c.follow.ensures in
-    (heard_left c.args.beginnings.now c.args.self.now c.follow.new.self c.args.news c.requires.heard e.linked e.holdings e.awaits (news.Beginning c.in-Beginning.holding c.in-Beginning.place) c.in-Beginning.is).0
+    (heard_left c.args.beginnings.now c.args.self.now c.follow.new.self c.args.news c.requires.heard e.linked e.holdings e.awaits (news.Beginning c.in-Beginning.holding c.in-Beginning.position) c.in-Beginning.is).0
 
 pub compare-requires-clause-waits : goal.compare-requires-clause-waits
 compare-requires-clause-waits c =
     let e = c.follow.ensures in
-    (heard_left c.args.beginnings.now c.args.self.now c.follow.new.self c.args.news c.requires.heard e.linked e.holdings e.awaits (news.Beginning c.in-Beginning.holding c.in-Beginning.place) c.in-Beginning.is).1
+    (heard_left c.args.beginnings.now c.args.self.now c.follow.new.self c.args.news c.requires.heard e.linked e.holdings e.awaits (news.Beginning c.in-Beginning.holding c.in-Beginning.position) c.in-Beginning.is).1
 
 pub compare-requires-clause-answered : goal.compare-requires-clause-answered
 compare-requires-clause-answered c =
     let e = c.follow.ensures in
-    (heard_left c.args.beginnings.now c.args.self.now c.follow.new.self c.args.news c.requires.heard e.linked e.holdings e.awaits (news.Beginning c.in-Beginning.holding c.in-Beginning.place) c.in-Beginning.is).2
+    (heard_left c.args.beginnings.now c.args.self.now c.follow.new.self c.args.news c.requires.heard e.linked e.holdings e.awaits (news.Beginning c.in-Beginning.holding c.in-Beginning.position) c.in-Beginning.is).2
 
 pub take_of-requires-in-Bytes : goal.take_of-requires-in-Bytes
 take_of-requires-in-Bytes c =

@@ -2,7 +2,7 @@ use Rattle.std.proofs.Common.{◌≡◌, ◌∙◌, ℕ, ◌<◌, List, length, 
 use Rattle.std.specs.Prelude.{slice_get}
 use Rattle.std.proofs.lemmas.Bool.{false≢true}
 use Rattle.std.proofs.lemmas.Option.{get_or_from_slice_get, slice_get_within}
-use Rattle.lemmas.proofs.Places.{got}
+use Rattle.lemmas.proofs.Positions.{got}
 use Rattle.lemmas.proofs.Options.{one_there}
 use Rattle.download_shares.specs.HoldingState.{HoldingsState}
 use Rattle.download_shares.specs.declared.holding.Holding.{Holding}

@@ -6,8 +6,8 @@ use Rattle.download_core.specs.ReadingCauses.{IsPartFault}
 use Rattle.download_core.specs.ReadingSteps.{Continues}
 use Rattle.download_core.proofs.file_reading.FileReading.take.Given as goal
 
-abbrev pub invariant-loop-place : goal.invariant-loop-place
-invariant-loop-place l = record {
+abbrev pub invariant-loop-position : goal.invariant-loop-position
+invariant-loop-position l = record {
   reading : AreReadingBut (Some l.reader) l.beginnings l.self;
   live : IsLive l.self.file l.reader;
   requests : l.beginnings.holdings.requests ≡ l.initial.beginnings.holdings.requests;
@@ -15,5 +15,5 @@ invariant-loop-place l = record {
   continues : Continues l.initial.beginnings l.initial.self l.beginnings l.self;
 }
 
-abbrev pub decreases-loop-place : goal.decreases-loop-place
-decreases-loop-place l = length (waiting_at l.self.file l.reader)
+abbrev pub decreases-loop-position : goal.decreases-loop-position
+decreases-loop-position l = length (waiting_at l.self.file l.reader)

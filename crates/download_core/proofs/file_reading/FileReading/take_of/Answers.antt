@@ -80,7 +80,7 @@ returns-else-holdings-holding-clause-reading c =
     record {
       linked = told.linked;
       awaits = awaits_last bs r c.in-Some.reader (subst (λ o. AreAwaited o bs r) e told.awaits)
-          (λ place g k first. (
+          (λ position g k first. (
           let one : k.holding ≡ c.args.holding = one_there (slice_get r.holdings c.in-Some.reader) k.holding c.args.holding k.of (told.linked.kept.back c.args.holding c.in-Some.reader told.begun told.there e) in
           let same : g ≡ h.0 = one_there (slice_get bs.holdings.table.holdings c.args.holding) g h.0 (subst (λ x. IsHolding bs.holdings.table x g) one k.is) h.1 in
           absurd (true≢false (sym k.left ∙ ap (λ (x : Holding). x.left) same ∙ gone))));

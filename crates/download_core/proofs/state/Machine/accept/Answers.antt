@@ -19,13 +19,13 @@ returns-clause-way c =
     let e = c.accept.ensures in
     let total = e.count ∙ c.requires.count ∙ sym (ap (λ (v : VerifyCapValue). v.total) c.requires.wanted.verify) ∙ sym b.block.total ∙ ap (λ (g : Geometry). g.total) (sym b.geometry) in
     on_both c.accept.result e.known e.compared
-    (λ known compared. found_way m t c.args.place c.args.opened.now c.in_ok-reading.reading c.requires.none c.requires.wanted b e.goes e.requests (file_is (goal.at.returns-clause-way c).After-accept)
+    (λ known compared. found_way m t c.args.position c.args.opened.now c.in_ok-reading.reading c.requires.none c.requires.wanted b e.goes e.requests (file_is (goal.at.returns-clause-way c).After-accept)
     (c.in_ok-reading.ensures.reading t known compared total))
 
 pub returns-clause-moves : goal.returns-clause-moves
 returns-clause-moves c =
     let e = c.accept.ensures in
-    found_moves c.args.self.now c.accept.new.self c.args.place c.args.opened.now c.in_ok-reading.reading c.requires.none c.requires.wanted c.requires.block e.goes e.requests
+    found_moves c.args.self.now c.accept.new.self c.args.position c.args.opened.now c.in_ok-reading.reading c.requires.none c.requires.wanted c.requires.block e.goes e.requests
     (file_is (goal.at.returns-clause-moves c).After-accept) e.causes
     (subst (λ n. AddsBlames (λ b. b.share < n) c.args.self.now.beginnings.holdings.blamed c.accept.new.self.holdings.blamed) c.requires.count e.low)
 

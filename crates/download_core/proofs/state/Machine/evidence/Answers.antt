@@ -17,7 +17,7 @@ unreachable-requires c =
     let f = c.in-Some.found in
     let k = subst (λ (x : Option FoundFile). IsFileIfFound m.cap m.from m.to (entries_of m) (found_of x)) c.in-Some.is c.requires.file in
     let same = c.requests-requests.ensures.value ∙ ap (λ (x : HoldingsState). x.requests) c.holdings.ensures in
-    c.in_default-bytes_at.ensures.none k.head.text (subst (λ (r : RequestsState). IsAnsweredBy r.entries f.place k.head.text) (sym same) (head_answers k.head))
+    c.in_default-bytes_at.ensures.none k.head.text (subst (λ (r : RequestsState). IsAnsweredBy r.entries f.position k.head.text) (sym same) (head_answers k.head))
 
 pub returns : goal.returns
 returns c =
@@ -25,7 +25,7 @@ returns c =
     let f = c.in-Some.found in
     let k = subst (λ (x : Option FoundFile). IsFileIfFound m.cap m.from m.to (entries_of m) (found_of x)) c.in-Some.is c.requires.file in
     let same = c.requests-requests.ensures.value ∙ ap (λ (x : HoldingsState). x.requests) c.holdings.ensures in
-    let answered = subst (λ (r : RequestsState). IsAnsweredBy r.entries f.place c.in-Some-bytes_at.text.now) same c.in-Some-bytes_at.ensures.some in
+    let answered = subst (λ (r : RequestsState). IsAnsweredBy r.entries f.position c.in-Some-bytes_at.text.now) same c.in-Some-bytes_at.ensures.some in
     let text = c.from_vec-extension_block.ensures ∙ c.in_ok-from_slice.ensures.items in
     subst (λ (x : Option FoundFile). IsEvidenceOf m.verify (entries_of m) (found_of x) (Some (record { extension_block = c.from_vec-extension_block.result; parts = c.from_vec.result }))) (sym c.in-Some.is)
     (proves_made m.verify m.cap c.requires.verify (entries_of m) f k.head c.in-Some-bytes_at.text.now answered c.from_vec-extension_block.result c.from_vec.result text c.file.result.now c.file.ensures c.in_ok-parts.parts.items c.from_vec.ensures c.in_ok-parts.ensures.all c.in_ok-parts.ensures.by

@@ -15,11 +15,11 @@ unreachable-requires c =
     let f = c.in-Some.found in
     let k = subst (λ (x : Option FoundFile). IsFileIfFound m.cap m.from m.to (entries_of m) (found_of x)) c.in-Some.is c.requires.file in
     let same = c.requests-requests.ensures.value ∙ ap (λ (x : HoldingsState). x.requests) c.holdings.ensures in
-    c.in_default-bytes_at.ensures.none k.head.text (subst (λ (r : RequestsState). IsAnsweredBy r.entries f.place k.head.text) (sym same) (head_answers k.head))
+    c.in_default-bytes_at.ensures.none k.head.text (subst (λ (r : RequestsState). IsAnsweredBy r.entries f.position k.head.text) (sym same) (head_answers k.head))
 
 pub returns-clause-some : goal.returns-clause-some
 returns-clause-some c =
     let m = c.args.self.now in
     let same = c.requests-requests.ensures.value ∙ ap (λ (x : HoldingsState). x.requests) c.holdings.ensures in
     subst (λ (x : Option FoundFile). IsAcceptedBlock (entries_of m) (found_of x) c.in-Some-bytes_at.text.now) (sym c.in-Some.is)
-    (subst (λ (r : RequestsState). IsAnsweredBy r.entries c.in-Some.found.place c.in-Some-bytes_at.text.now) same c.in-Some-bytes_at.ensures.some)
+    (subst (λ (r : RequestsState). IsAnsweredBy r.entries c.in-Some.found.position c.in-Some-bytes_at.text.now) same c.in-Some-bytes_at.ensures.some)

@@ -17,7 +17,7 @@ caused : (c : After-settle) → AddsBlames (IsCause (verify_cap_of c.args.self.n
 caused c =
     let m = c.args.self.now in
     let f = c.in-Some.found in
-    made_fair (verify_cap_of m.cap) m.beginnings c.settle.new.beginnings (record { place = f.place; file = c.settle.new.self.file }) c.settle.ensures.causes
+    made_fair (verify_cap_of m.cap) m.beginnings c.settle.new.beginnings (record { position = f.position; file = c.settle.new.self.file }) c.settle.ensures.causes
 
 pub returns-in_err-settled-in-Some-clause-moves : goal.returns-in_err-settled-in-Some-clause-moves
 returns-in_err-settled-in-Some-clause-moves c = moves_read c.args.self.now c.in-Some.found c.settle.new.beginnings c.settle.new.self c.in-Some.is c.settle.ensures.continues (caused (goal.at.returns-in_err-settled-in-Some-clause-moves c).After-settle)

@@ -15,7 +15,7 @@ caused : (c : After-hear) → AddsBlames (IsCause (verify_cap_of c.args.self.now
 caused c =
     let m = c.args.self.now in
     let f = c.in-Some.found in
-    heard_fair (verify_cap_of m.cap) m.beginnings c.hear.new.beginnings (record { place = f.place; file = c.hear.new.self.file }) c.hear.ensures.requests
+    heard_fair (verify_cap_of m.cap) m.beginnings c.hear.new.beginnings (record { position = f.position; file = c.hear.new.self.file }) c.hear.ensures.requests
     (subst (λ (v : VerifyCapValue). AddsBlames (HasCause v (entries_of m) c.hear.new.self.file) m.beginnings.holdings.blamed c.hear.new.beginnings.holdings.blamed) c.requires.wanted.verify c.hear.ensures.causes)
 
 pub returns-in-Some-clause-way : goal.returns-in-Some-clause-way

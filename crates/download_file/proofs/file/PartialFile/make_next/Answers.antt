@@ -73,8 +73,8 @@ find_wrong-requires-clause-there c =
     let is : IsFile f = c.self.invariant.0 in
     let number : ℕ = c.in-Some.number in
     let next : next_segment f.handout ≡ Some number = sym c.in-Some.ensures.value in
-    subst (λ (rs : List ReaderState). All (λ place. place < length rs) c.deref-6.result.now) (sym c.deref-5.ensures.value)
-    (subst (λ (l : List ℕ). All (λ place. place < length f.readers) l) (sym c.deref-6.ensures.value) is.live.there)
+    subst (λ (rs : List ReaderState). All (λ position. position < length rs) c.deref-6.result.now) (sym c.deref-5.ensures.value)
+    (subst (λ (l : List ℕ). All (λ position. position < length f.readers) l) (sym c.deref-6.ensures.value) is.live.there)
 
 pub find_wrong-requires-clause-ready : goal.find_wrong-requires-clause-ready
 find_wrong-requires-clause-ready c =
@@ -140,8 +140,8 @@ begin_group-requires-clause-there c =
     let is : IsFile f = c.self.invariant.0 in
     let number : ℕ = c.in-Some.number in
     let next : next_segment f.handout ≡ Some number = sym c.in-Some.ensures.value in
-    subst (λ (rs : List ReaderState). All (λ place. place < length rs) c.deref-9.result.now) (sym c.deref-8.ensures.value)
-    (subst (λ (l : List ℕ). All (λ place. place < length f.readers) l) (sym c.deref-9.ensures.value) is.live.there)
+    subst (λ (rs : List ReaderState). All (λ position. position < length rs) c.deref-9.result.now) (sym c.deref-8.ensures.value)
+    (subst (λ (l : List ℕ). All (λ position. position < length f.readers) l) (sym c.deref-9.ensures.value) is.live.there)
 
 pub begin_group-requires-clause-shares : goal.begin_group-requires-clause-shares
 begin_group-requires-clause-shares c =

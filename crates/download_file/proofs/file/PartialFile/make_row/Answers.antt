@@ -55,8 +55,8 @@ join_row-requires-clause-held c =
 pub are_right-requires-clause-there : goal.are_right-requires-clause-there
 are_right-requires-clause-there c =
     let f : FileState = seen c.self.inside in
-    subst (λ (rs : List ReaderState). All (λ place. place < length rs) c.deref-6.result.now) (sym c.deref-5.ensures.value)
-    (subst (λ (l : List ℕ). All (λ place. place < length f.readers) l) (sym c.deref-6.ensures.value) c.self.invariant.0.live.there)
+    subst (λ (rs : List ReaderState). All (λ position. position < length rs) c.deref-6.result.now) (sym c.deref-5.ensures.value)
+    (subst (λ (l : List ℕ). All (λ position. position < length f.readers) l) (sym c.deref-6.ensures.value) c.self.invariant.0.live.there)
 
 pub are_right-requires-clause-ready : goal.are_right-requires-clause-ready
 are_right-requires-clause-ready c = λ i low.
@@ -90,8 +90,8 @@ are_right-requires-clause-long c =
 pub begin_group-requires-clause-there : goal.begin_group-requires-clause-there
 begin_group-requires-clause-there c =
     let f : FileState = seen c.self.inside in
-    subst (λ (rs : List ReaderState). All (λ place. place < length rs) c.deref-9.result.now) (sym c.deref-8.ensures.value)
-    (subst (λ (l : List ℕ). All (λ place. place < length f.readers) l) (sym c.deref-9.ensures.value) c.self.invariant.0.live.there)
+    subst (λ (rs : List ReaderState). All (λ position. position < length rs) c.deref-9.result.now) (sym c.deref-8.ensures.value)
+    (subst (λ (l : List ℕ). All (λ position. position < length f.readers) l) (sym c.deref-9.ensures.value) c.self.invariant.0.live.there)
 
 pub begin_group-requires-clause-shares : goal.begin_group-requires-clause-shares
 begin_group-requires-clause-shares c =

@@ -1,7 +1,7 @@
 use Rattle.std.proofs.Common.{refl, ◌≡◌, ◌∙◌, ◌<◌, inr, ℕ, List, Err, Some, ap, subst, sym, length, slice_get, slice_set, rules}
 use Rattle.std.proofs.lemmas.List.Elements.{All-contains}
 use Rattle.lemmas.proofs.Options.{one_there}
-use Rattle.lemmas.proofs.Places.{got}
+use Rattle.lemmas.proofs.Positions.{got}
 use Rattle.request_record.specs.declared.requests.Request.{Request}
 use Rattle.download_parts.specs.declared.error.TreeFault.TheVariants as faults
 use Rattle.download_segments.specs.State.{HandoutState}
@@ -20,7 +20,7 @@ pub take_part-requires-clause-taker : goal.take_part-requires-clause-taker
 take_part-requires-clause-taker c =
     let f : FileState = seen c.self.inside in
     let live : IsLive f c.args.reader = subst (λ (s : FileState). IsLive s c.args.reader) (sym c.self.view_is) c.requires.live in
-    let low : c.args.reader < length f.readers = All-contains (λ place. place < length f.readers) f.live c.args.reader c.self.invariant.0.live.there live in
+    let low : c.args.reader < length f.readers = All-contains (λ position. position < length f.readers) f.live c.args.reader c.self.invariant.0.live.there live in
     let r : ReaderState = c.index_mut.result.now in
     let at : slice_get f.readers c.args.reader ≡ Some r = got f.readers c.args.reader r low c.index_mut.ensures.value in
     let was : c.index.result.now ≡ r = one_there (slice_get f.readers c.args.reader) c.index.result.now r (got f.readers c.args.reader c.index.result.now low c.index.ensures) at in
@@ -36,7 +36,7 @@ taken : (c : goal.In_ok-take_part) → HasTaken c.args.self.now c.args.reader c.
 taken c =
     let f : FileState = seen c.self.inside in
     let live : IsLive f c.args.reader = subst (λ (s : FileState). IsLive s c.args.reader) (sym c.self.view_is) c.requires.live in
-    let low : c.args.reader < length f.readers = All-contains (λ place. place < length f.readers) f.live c.args.reader c.self.invariant.0.live.there live in
+    let low : c.args.reader < length f.readers = All-contains (λ position. position < length f.readers) f.live c.args.reader c.self.invariant.0.live.there live in
     let r : ReaderState = c.index_mut.result.now in
     let at : slice_get f.readers c.args.reader ≡ Some r = got f.readers c.args.reader r low c.index_mut.ensures.value in
     let was : c.index.result.now ≡ r = one_there (slice_get f.readers c.args.reader) c.index.result.now r (got f.readers c.args.reader c.index.result.now low c.index.ensures) at in
@@ -78,7 +78,7 @@ same : (c : goal.After-from_residual) → still c ≡ c.args.self.now
 same c =
     let f : FileState = seen c.self.inside in
     let live : IsLive f c.args.reader = subst (λ (s : FileState). IsLive s c.args.reader) (sym c.self.view_is) c.requires.live in
-    let low : c.args.reader < length f.readers = All-contains (λ place. place < length f.readers) f.live c.args.reader c.self.invariant.0.live.there live in
+    let low : c.args.reader < length f.readers = All-contains (λ position. position < length f.readers) f.live c.args.reader c.self.invariant.0.live.there live in
     let r : ReaderState = c.index_mut.result.now in
     let at : slice_get f.readers c.args.reader ≡ Some r = got f.readers c.args.reader r low c.index_mut.ensures.value in
     let was : c.index.result.now ≡ r = one_there (slice_get f.readers c.args.reader) c.index.result.now r (got f.readers c.args.reader c.index.result.now low c.index.ensures) at in
@@ -110,7 +110,7 @@ pub returns-in_err-take_part-clause-refused : goal.returns-in_err-take_part-clau
 returns-in_err-take_part-clause-refused c = λ check is.
     let f : FileState = seen c.self.inside in
     let live : IsLive f c.args.reader = subst (λ (s : FileState). IsLive s c.args.reader) (sym c.self.view_is) c.requires.live in
-    let low : c.args.reader < length f.readers = All-contains (λ place. place < length f.readers) f.live c.args.reader c.self.invariant.0.live.there live in
+    let low : c.args.reader < length f.readers = All-contains (λ position. position < length f.readers) f.live c.args.reader c.self.invariant.0.live.there live in
     let r : ReaderState = c.index_mut.result.now in
     let at : slice_get f.readers c.args.reader ≡ Some r = got f.readers c.args.reader r low c.index_mut.ensures.value in
     let was : c.index.result.now ≡ r = one_there (slice_get f.readers c.args.reader) c.index.result.now r (got f.readers c.args.reader c.index.result.now low c.index.ensures) at in

@@ -1,7 +1,7 @@
 use Rattle.std.proofs.Common.{◌≡◌, ◌≢◌, ◌∙◌, ◌<◌, ℕ, List, true, false, Some, ap, subst, sym, length, slice_get, slice_set, arith}
 use Rattle.std.proofs.lemmas.List.{length-set}
 use Rattle.std.proofs.lemmas.List.Elements.{All-contains, All-weaker}
-use Rattle.lemmas.proofs.Places.{get_other, got}
+use Rattle.lemmas.proofs.Positions.{get_other, got}
 use Rattle.download_segments.specs.Handout.{next_segment}
 use Rattle.download_file.specs.State.{FileState, IsLive, ReaderState, giver, file_state}
 use Rattle.download_file.proofs.EndLemmas.{next_left, option_is_false, option_is_true}
@@ -13,18 +13,18 @@ use Rattle.download_file.proofs.file.PartialFile.wanted.Goals as goal
 abbrev asked : goal.In-Ok → FileState
 asked c = file_state c.self.inside.handout c.self.inside.plan.first c.self.inside.plan.end c.self.inside.taken (slice_set c.self.inside.readers.items c.args.reader c.ask.new.self) c.self.inside.live.items c.self.inside.groups.items
 
-wanted : (c : goal.In-Ok) → HasWanted c.args.self.now c.args.reader c.args.place c.last_asked-last.result c.in-Ok.wanted.items (asked c)
+wanted : (c : goal.In-Ok) → HasWanted c.args.self.now c.args.reader c.args.position c.last_asked-last.result c.in-Ok.wanted.items (asked c)
 wanted c =
     let f : FileState = seen c.self.inside in
     let live : IsLive f c.args.reader = subst (λ (s : FileState). IsLive s c.args.reader) (sym c.self.view_is) c.requires.live in
-    let low : c.args.reader < length f.readers = All-contains (λ place. place < length f.readers) f.live c.args.reader c.self.invariant.0.live.there live in
+    let low : c.args.reader < length f.readers = All-contains (λ position. position < length f.readers) f.live c.args.reader c.self.invariant.0.live.there live in
     let r : ReaderState = c.index_mut.result.now in
     let at : slice_get f.readers c.args.reader ≡ Some r = got f.readers c.args.reader r low c.index_mut.ensures.value in
     let first_is : c.copied.result ≡ slice_get f.live 0 = c.copied.ensures ∙ c.first.ensures.value ∙ ap (λ (l : List ℕ). slice_get l 0) c.deref.ensures.value in
     let gives_yes : giver f ≡ Some c.args.reader → c.eq-gives.result ≡ true = λ e. c.eq-gives.ensures ∙ option_is_true c.copied.result c.args.reader (first_is ∙ e) in
     let gives_no : giver f ≢ Some c.args.reader → c.eq-gives.result ≡ false = λ e. c.eq-gives.ensures ∙ option_is_false c.copied.result c.args.reader (λ k. e (sym first_is ∙ k)) in
-    subst (λ (s : FileState). HasWanted s c.args.reader c.args.place c.last_asked-last.result c.in-Ok.wanted.items (asked c)) c.self.view_is
-    (has_wanted f c.args.reader r c.ask.new.self c.eq-gives.result c.last_asked-last.result c.args.place c.in-Ok.wanted.items c.self.invariant.0 live at
+    subst (λ (s : FileState). HasWanted s c.args.reader c.args.position c.last_asked-last.result c.in-Ok.wanted.items (asked c)) c.self.view_is
+    (has_wanted f c.args.reader r c.ask.new.self c.eq-gives.result c.last_asked-last.result c.args.position c.in-Ok.wanted.items c.self.invariant.0 live at
     c.ask.ensures.server c.ask.ensures.share c.ask.ensures.only c.ask.ensures.right c.in-Ok.ensures.asks c.ask.ensures.none (gives_yes, gives_no) c.in-Ok.ensures.waits)
 
 pub invariant_of-self : goal.invariant_of-self
@@ -61,8 +61,8 @@ returns-in-Ok-clause-right c = (wanted c).right
 pub end_reader-requires-clause-there : goal.end_reader-requires-clause-there
 end_reader-requires-clause-there c =
     let long = length-set c.self.inside.readers.items c.args.reader c.ask.new.self in
-    All-weaker (λ place. place < length c.self.inside.readers.items) (λ place. place < length (slice_set c.self.inside.readers.items c.args.reader c.ask.new.self))
-    (λ place low. omega (arith, low, long)) c.self.inside.live.items c.self.invariant.0.live.there
+    All-weaker (λ position. position < length c.self.inside.readers.items) (λ position. position < length (slice_set c.self.inside.readers.items c.args.reader c.ask.new.self))
+    (λ position low. omega (arith, low, long)) c.self.inside.live.items c.self.invariant.0.live.there
 
 pub end_reader-requires-clause-gives : goal.end_reader-requires-clause-gives
 end_reader-requires-clause-gives c = λ gave next s first at.
@@ -78,7 +78,7 @@ ended : (c : goal.After-end_reader) → HasEnded c.args.self.now c.args.reader c
 ended c =
     let f : FileState = seen c.self.inside in
     let live : IsLive f c.args.reader = subst (λ (s : FileState). IsLive s c.args.reader) (sym c.self.view_is) c.requires.live in
-    let low : c.args.reader < length f.readers = All-contains (λ place. place < length f.readers) f.live c.args.reader c.self.invariant.0.live.there live in
+    let low : c.args.reader < length f.readers = All-contains (λ position. position < length f.readers) f.live c.args.reader c.self.invariant.0.live.there live in
     let r : ReaderState = c.index_mut.result.now in
     let at : slice_get f.readers c.args.reader ≡ Some r = got f.readers c.args.reader r low c.index_mut.ensures.value in
     let first_is : c.copied.result ≡ slice_get f.live 0 = c.copied.ensures ∙ c.first.ensures.value ∙ ap (λ (l : List ℕ). slice_get l 0) c.deref.ensures.value in

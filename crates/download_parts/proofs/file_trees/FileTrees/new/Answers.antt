@@ -8,7 +8,7 @@ invariant_of-result c = record {
   shares = record {
     sound = c.in_ok-tree_with.ensures.right;
     of_root = refl;
-    leaves = ap (λ (p : PartialState). p.leaf_count) c.in_ok-tree_with.ensures.tree ∙ c.of-places.ensures ∙ c.share_places.ensures.value;
+    leaves = ap (λ (p : PartialState). p.leaf_count) c.in_ok-tree_with.ensures.tree ∙ c.of-positions.ensures ∙ c.share_leaves.ensures.value;
   };
   ciphertext = record {
     sound = c.in_ok-tree_with-2.ensures.right;

@@ -21,15 +21,15 @@ returns-clause-root c =
     let bytes = c.args.bytes.now in
     let taken = is_taken c in
     let items = is_offered c in
-    let own : get_or (needed_numbers (height total) share) c.own_place.result 0 ≡ node_number (height total) share = search rules in
+    let own : get_or (needed_numbers (height total) share) c.own_position.result 0 ≡ node_number (height total) share = search rules in
     let xs = c.in_ok-offers.offers.items in
-    let k = c.own_place.result in
+    let k = c.own_position.result in
     let found = c.index.result.now in
-    let there : k < length xs = omega (arith, c.in_ok-offers.ensures.count, c.own_place.ensures.within) in
+    let there : k < length xs = omega (arith, c.in_ok-offers.ensures.count, c.own_position.ensures.within) in
     let hash : (get_or xs k (0, [])).1 ≡ c.in_ok-tree.tree.root = ap (λ (o : ℕ × List ℕ). o.1) (get_or_from_slice_get xs k found (0, []) (slice_get-get_or xs k found there ∙ ap Some (sym c.index.ensures))) ∙ sym (ap (λ (p : PartialState). p.root) c.in_ok-tree.ensures.tree) in
-    known-own c.self.inside.shares c.offer.new.tree total share bytes c.in_ok-tree.tree.root c.own_place.result
-    c.self.invariant.shares.leaves taken (subst (λ (l : List (ℕ × List ℕ)). c.own_place.result < length l) items there) own
-    (subst (λ (l : List (ℕ × List ℕ)). (get_or l c.own_place.result (0, [])).1 ≡ c.in_ok-tree.tree.root) items hash)
+    known-own c.self.inside.shares c.offer.new.tree total share bytes c.in_ok-tree.tree.root c.own_position.result
+    c.self.invariant.shares.leaves taken (subst (λ (l : List (ℕ × List ℕ)). c.own_position.result < length l) items there) own
+    (subst (λ (l : List (ℕ × List ℕ)). (get_or l c.own_position.result (0, [])).1 ≡ c.in_ok-tree.tree.root) items hash)
 
 pub returns-clause-block_root : goal.returns-clause-block_root
 returns-clause-block_root c =

@@ -5,4 +5,4 @@ use Rattle.download_parts.proofs.plan.Plan.block_offset.Goals as goal
 pub returns-clause-value : goal.returns-clause-value
 unfolding offset_at
 returns-clause-value c =
-    λ i. (c.block_place.ensures.value i - c.block_place-2.ensures.value i) % c.run_size.ensures.value i % c.from.ensures i
+    λ i. (c.block_start.ensures.value i - c.block_start-2.ensures.value i) % c.run_size.ensures.value i % c.from.ensures i

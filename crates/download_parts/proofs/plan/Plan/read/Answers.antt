@@ -7,4 +7,4 @@ pub returns-in-Data-clause-ends : goal.returns-in-Data-clause-ends
 returns-in-Data-clause-ends c =
     let p = c.args.self.now in
     let is : c.in-Data.index < data_pieces p.geometry p.first p.end = subst (IsPart p.geometry p.first p.end) c.in-Data.is c.requires in
-    λ i part. rw (c.read_data.ensures.place, c.read_data.ensures.length) (end_with_blocks p.geometry p.first p.end c.in-Data.index p.range is)
+    λ i part. rw (c.read_data.ensures.offset, c.read_data.ensures.length) (end_with_blocks p.geometry p.first p.end c.in-Data.index p.range is)

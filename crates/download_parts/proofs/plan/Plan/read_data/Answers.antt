@@ -10,7 +10,7 @@ overflow_add-index c =
 pub overflow_sub-result : goal.overflow_sub-result
 overflow_sub-result c =
     let p = c.args.self.now in
-    omega (arith, c.data_place-place.ensures.value, c.data_place.ensures.value, c.data_end.ensures.value, c.min-end.ensures, data_inside p.geometry p.first p.end c.args.index p.range c.requires, data_rises p.geometry p.range.valid p.first c.args.index)
+    omega (arith, c.data_offset-offset.ensures.value, c.data_offset.ensures.value, c.data_end.ensures.value, c.min-end.ensures, data_inside p.geometry p.first p.end c.args.index p.range c.requires, data_rises p.geometry p.range.valid p.first c.args.index)
 
 pub returns-clause-range : goal.returns-clause-range
 returns-clause-range c =
@@ -18,8 +18,8 @@ returns-clause-range c =
     let inside = data_inside p.geometry p.first p.end c.args.index p.range c.requires in
     let rises = data_rises p.geometry p.range.valid p.first c.args.index in
     let most = data_short p.geometry p.range.valid p.first c.args.index in (
-      omega (arith, c.data_place-place.ensures.value, c.data_place.ensures.value, c.data_end.ensures.value, c.min-end.ensures, inside, rises),
-      omega (arith, c.data_place-place.ensures.value, c.data_place.ensures.value, c.data_end.ensures.value, c.min-end.ensures, most),
+      omega (arith, c.data_offset-offset.ensures.value, c.data_offset.ensures.value, c.data_end.ensures.value, c.min-end.ensures, inside, rises),
+      omega (arith, c.data_offset-offset.ensures.value, c.data_offset.ensures.value, c.data_end.ensures.value, c.min-end.ensures, most),
     )
 
 pub overflow_cast-result : goal.overflow_cast-result

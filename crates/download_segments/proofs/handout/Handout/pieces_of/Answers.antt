@@ -95,7 +95,7 @@ loop-segment-preserved c =
     let end : c.end_behind-end.result ≡ next_end m = c.end_behind-end.ensures in
     let bytes : c.from_vec.result ≡ xored_from m.key m.reached (take (next_end m - m.reached) (drop (m.reached % m.geometry.segment_size) segment)) =
     c.from_vec.ensures ∙ c.decrypted-bytes.ensures ∙ ap (λ (x : ℕ). xored_from m.key m.reached (take (x - m.reached) (drop (m.reached % m.geometry.segment_size) segment))) end in
-    let piece : record { place = c.loop-segment.reached; bytes = c.from_vec.result } ≡ next_piece m segment = λ i. record { place = m.reached; bytes = bytes i } in
+    let piece : record { offset = c.loop-segment.reached; bytes = c.from_vec.result } ≡ next_piece m segment = λ i. record { offset = m.reached; bytes = bytes i } in
     let ready : h.ready ++ c.push_back.new.self.items ≡ m.ready ++ next_piece m segment ∷ [] =
     ap (λ (l : List Piece). h.ready ++ l) (c.in_ok-push_back.ensures.items) ∙ sym (append_assoc h.ready c.loop-segment.pieces.items _)
     ∙ ap (λ (p : Piece). m.ready ++ p ∷ []) piece in

@@ -13,7 +13,7 @@ pub has_leaf-requires : goal.has_leaf-requires
 has_leaf-requires c =
     let h = c.args.self.now in
     let right : IsHandout h = subst IsHandout c.self.view_is c.self.invariant in
-    subst (λ (n : ℕ). n < segment_count h.geometry) (sym c.loop-hash.invariant.place)
+    subst (λ (n : ℕ). n < segment_count h.geometry) (sym c.loop-hash.invariant.offset)
     (row_there h c.args.number c.loop-hash.hash-index right c.requires.wanted c.loop-hash-test.true)
 
 pub returns-then-not-has_leaf : goal.returns-then-not-has_leaf
@@ -23,17 +23,17 @@ returns-then-not-has_leaf c =
       λ yes. absurd (true≢false (sym yes)),
       λ all.
           let own = (all i c.loop-hash-test.true).known in
-          sym c.if-not-has_leaf.true ∙ c.has_leaf.ensures.known.1 (ap (known_leaf h.trees.ciphertext) c.loop-hash.invariant.place ∙ own ∙ ap Some (sym (c.segment_hashes-hashes.ensures c.loop-hash.hash-index c.loop-hash-test.true))),
+          sym c.if-not-has_leaf.true ∙ c.has_leaf.ensures.known.1 (ap (known_leaf h.trees.ciphertext) c.loop-hash.invariant.offset ∙ own ∙ ap Some (sym (c.segment_hashes-hashes.ensures c.loop-hash.hash-index c.loop-hash-test.true))),
     )
 
-pub overflow_add-place : goal.overflow_add-place
-overflow_add-place c =
+pub overflow_add-offset : goal.overflow_add-offset
+overflow_add-offset c =
     let h = c.args.self.now in
-    let place = c.loop-hash.invariant.place in
+    let offset = c.loop-hash.invariant.offset in
     let right : IsHandout h = subst IsHandout c.self.view_is c.self.invariant in
     let there = row_there h c.args.number c.loop-hash.hash-index right c.requires.wanted c.loop-hash-test.true in
     let few = (valid_of h right).few in
-    omega (arith, place, there, few)
+    omega (arith, offset, there, few)
 
 pub loop-hash-preserved : goal.loop-hash-preserved
 loop-hash-preserved c =
@@ -42,18 +42,18 @@ loop-hash-preserved c =
     let segments : List (List ℕ) = map (λ s. s.items) c.args.segments.now in
     let n : ℕ = c.loop-hash.hash-index in
     let k = c.loop-hash.invariant in
-    let place = k.place in
+    let offset = k.offset in
     let right : IsHandout h = subst IsHandout c.self.view_is c.self.invariant in
     let eight = c.requires.eight in
     let low = c.loop-hash-test.true in
     let long : length (get_or segments n []) ≡ h.geometry.segment_size =
     nth_map (λ s. s.items) (λ l. length l ≡ h.geometry.segment_size) c.args.segments.now c.requires.long n (omega (arith, eight, low)) in
     let known : known_leaf h.trees.ciphertext (number + n) ≡ Some (tagged_hash CiphertextSegment (get_or segments n [])) =
-    ap (known_leaf h.trees.ciphertext) (sym place) ∙ c.has_leaf.ensures.known.0 c.if-not-has_leaf.false ∙ ap Some (c.segment_hashes-hashes.ensures c.loop-hash.hash-index c.loop-hash-test.true) in
+    ap (known_leaf h.trees.ciphertext) (sym offset) ∙ c.has_leaf.ensures.known.0 c.if-not-has_leaf.false ∙ ap Some (c.segment_hashes-hashes.ensures c.loop-hash.hash-index c.loop-hash-test.true) in
     let one : ProvesSegment h (number + n) (get_or segments n []) =
     record { size = long ∙ sym (row_length h number n right c.requires.wanted low); known = known } in
     record {
-      place = omega (arith, place);
+      offset = omega (arith, offset);
       proves = λ i below. elim (cases_lt i n) [
         | inl less ↦ k.proves i less
         | inr more ↦

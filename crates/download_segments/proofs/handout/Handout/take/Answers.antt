@@ -9,7 +9,7 @@ invariant_of-self-2 c =
     let p = c.in_ok-piece.piece in
     let ps = c.pop_front.new.self.items in
     let is : h.ready ≡ p ∷ ps = search rules in
-    subst (λ (l : List ℕ). IsHandout (record h { ready = ps; handed = p.place + length l })) (sym c.as_slice.ensures)
+    subst (λ (l : List ℕ). IsHandout (record h { ready = ps; handed = p.offset + length l })) (sym c.as_slice.ensures)
     (right_taken h p ps c.self.invariant is)
 
 pub returns-clause-right : goal.returns-clause-right

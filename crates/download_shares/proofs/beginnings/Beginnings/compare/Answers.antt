@@ -103,9 +103,9 @@ returns-in-Some-compared-clause-causes c =
     by_result c.blame.result _ _ (AddsBlames P s.holdings.blamed c.blame.new.self.blamed) c.blame.ensures.ok c.blame.ensures.err
     (λ b. adds_one P s.holdings.blamed c.blame.new.self.blamed (record { server = b.held.server; share = b.held.share; check = c.in-Some-compared.check })
     (b.blamed ∙ ap (λ (h : HoldingsState). h.blamed ++ record { server = b.held.server; share = b.held.share; check = c.in-Some-compared.check } ∷ []) same)
-    (fault_of s c.args.holding c.args.place c.in-Some.opening b.held a.0 c.requires.known c.requires.awaits c.in-Some.ensures.opening
+    (fault_of s c.args.holding c.args.position c.in-Some.opening b.held a.0 c.requires.known c.requires.awaits c.in-Some.ensures.opening
     (subst (λ (h : HoldingsState). IsHolding h.table c.args.holding b.held) same b.is) a.1 c.args.cap.now c.args.geometry.now c.in-Some-compared.check
-    (c.in-Some-compared.ensures.fails a.0 (subst (λ (h : HoldingsState). IsAnsweredBy h.requests.entries c.args.place a.0) (sym (ap (λ (x : BeginningsState). x.holdings) c.take_waiting.ensures.rests.is)) a.1))))
+    (c.in-Some-compared.ensures.fails a.0 (subst (λ (h : HoldingsState). IsAnsweredBy h.requests.entries c.args.position a.0) (sym (ap (λ (x : BeginningsState). x.holdings) c.take_waiting.ensures.rests.is)) a.1))))
     (λ e. adds_none P s.holdings.blamed c.blame.new.self.blamed (ap (λ (h : HoldingsState). h.blamed) e ∙ ap (λ (h : HoldingsState). h.blamed) same))
 
 pub returns-in-None-clause-causes : goal.returns-in-None-clause-causes
@@ -134,7 +134,7 @@ returns-in-None-clause-agrees c o bytes awaits answered =
     let e : Some c.in-Some.opening ≡ Some o = c.in-Some.ensures.opening awaits.begun awaits.there ∙ awaits.of_opening in
     let same : c.in-Some.opening ≡ o = cc in
     inr (subst (λ (p : Opening). LeadsOn c.args.cap.now c.args.geometry.now p bytes) same
-    (c.in-None.ensures.leads bytes (subst (λ (h : HoldingsState). IsAnsweredBy h.requests.entries c.args.place bytes) (sym (ap (λ (x : BeginningsState). x.holdings) c.take_waiting.ensures.rests.is)) answered)))
+    (c.in-None.ensures.leads bytes (subst (λ (h : HoldingsState). IsAnsweredBy h.requests.entries c.args.position bytes) (sym (ap (λ (x : BeginningsState). x.holdings) c.take_waiting.ensures.rests.is)) answered)))
 
 -- the numbers of the shares that are blamed
 pub returns-then-not-holdings-holding-clause-low : goal.returns-then-not-holdings-holding-clause-low

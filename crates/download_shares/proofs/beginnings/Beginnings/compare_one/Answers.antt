@@ -17,7 +17,7 @@ use Rattle.download_shares.proofs.Opened.{goes_from, goes_none}
 use Rattle.download_shares.proofs.beginnings.Beginnings.compare_one.Goals.{else-left-via-then-left+else-differs, else-left-via-else-left}
 use Rattle.download_shares.proofs.beginnings.Beginnings.compare_one.Goals as goal
 use Rattle.std.proofs.lemmas.Option.{get_or_from_slice_get}
-use Rattle.lemmas.proofs.Places.{got}
+use Rattle.lemmas.proofs.Positions.{got}
 use Rattle.lemmas.proofs.Results.{on_ok_then, by_result}
 use Rattle.download_shares.proofs.Fields.{seen_beginnings}
 

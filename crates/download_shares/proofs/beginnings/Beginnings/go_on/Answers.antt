@@ -24,16 +24,16 @@ use Rattle.download_shares.proofs.Fields.{seen_beginnings}
 use Rattle.download_shares.proofs.beginnings.Beginnings.go_on.Goals as goal
 
 -- the opening that is awaited is the one that is taken
-module _ (s w : BeginningsState) (holding place : ℕ) (o : Opening) (awaits : (p : Opening) × Awaits s holding place p) (is : (b : Begun) → IsBegun s holding b → Some o ≡ b.opening) where
-  pub awaits_it : Awaits s holding place o
+module _ (s w : BeginningsState) (holding position : ℕ) (o : Opening) (awaits : (p : Opening) × Awaits s holding position p) (is : (b : Begun) → IsBegun s holding b → Some o ≡ b.opening) where
+  pub awaits_it : Awaits s holding position o
   awaits_it =
       let a = awaits.1 in
       let e : Some o ≡ Some awaits.0 = is a.begun a.there ∙ a.of_opening in
       let one : awaits.0 ≡ o = cc in
-      subst (λ (q : Opening). Awaits s holding place q) one a
+      subst (λ (q : Opening). Awaits s holding position q) one a
 
-answered_still : (s w : BeginningsState) (holding place : ℕ) (known : AreBegun s) (rests : Rests holding s w) (bytes : List ℕ) → IsAnsweredBy s.holdings.requests.entries place bytes → IsAnsweredBy w.holdings.requests.entries place bytes
-answered_still s w holding place known rests bytes a = subst (λ (r : RequestsState). IsAnsweredBy r.entries place bytes) (sym (rested_requests s w holding known rests)) a
+answered_still : (s w : BeginningsState) (holding position : ℕ) (known : AreBegun s) (rests : Rests holding s w) (bytes : List ℕ) → IsAnsweredBy s.holdings.requests.entries position bytes → IsAnsweredBy w.holdings.requests.entries position bytes
+answered_still s w holding position known rests bytes a = subst (λ (r : RequestsState). IsAnsweredBy r.entries position bytes) (sym (rested_requests s w holding known rests)) a
 
 pub returns-then-not-holdings-holding-clause-known : goal.returns-then-not-holdings-holding-clause-known
 returns-then-not-holdings-holding-clause-known c = rested_known c.args.self.now c.take_waiting.new.self c.args.holding c.requires.known c.take_waiting.ensures.rests
@@ -65,10 +65,10 @@ returns-in_err-blame-in-Err-clause-goes c =
 
 pub ask_next-requires-clause-unasked : goal.ask_next-requires-clause-unasked
 ask_next-requires-clause-unasked c =
-    next_unasked c.args.self.now c.take_waiting.new.self c.args.holding c.requires.known c.take_waiting.ensures.rests c.requires.opening c.in-Some.opening c.args.place
-    (awaits_it c.args.self.now c.take_waiting.new.self c.args.holding c.args.place c.in-Some.opening c.requires.awaits (λ b is. sym c.in-Some.is ∙ c.take_waiting.ensures.opening b is))
+    next_unasked c.args.self.now c.take_waiting.new.self c.args.holding c.requires.known c.take_waiting.ensures.rests c.requires.opening c.in-Some.opening c.args.position
+    (awaits_it c.args.self.now c.take_waiting.new.self c.args.holding c.args.position c.in-Some.opening c.requires.awaits (λ b is. sym c.in-Some.is ∙ c.take_waiting.ensures.opening b is))
     c.requires.answered.0 c.requires.answered.1 c.args.cap.now c.in-Ok-Next.next
-    (subst (λ (p : Progress). Advances c.args.cap.now c.in-Some.opening c.requires.answered.0 p) c.in-Ok-Next.field-0-is (c.in-Ok-Next.ensures.taken c.requires.answered.0 (answered_still c.args.self.now c.take_waiting.new.self c.args.holding c.args.place c.requires.known c.take_waiting.ensures.rests c.requires.answered.0 c.requires.answered.1)))
+    (subst (λ (p : Progress). Advances c.args.cap.now c.in-Some.opening c.requires.answered.0 p) c.in-Ok-Next.field-0-is (c.in-Ok-Next.ensures.taken c.requires.answered.0 (answered_still c.args.self.now c.take_waiting.new.self c.args.holding c.args.position c.requires.known c.take_waiting.ensures.rests c.requires.answered.0 c.requires.answered.1)))
 
 pub returns-in_err-ask_next-in-Ok-Next-clause-goes : goal.returns-in_err-ask_next-in-Ok-Next-clause-goes
 returns-in_err-ask_next-in-Ok-Next-clause-goes c =
@@ -97,18 +97,18 @@ returns-in_ok-blame-in-Err-clause-goes c =
 
 pub returns-in_ok-ask_next-in-Ok-Next-clause-known : goal.returns-in_ok-ask_next-in-Ok-Next-clause-known
 returns-in_ok-ask_next-in-Ok-Next-clause-known c =
-    nexts_known c.args.self.now c.take_waiting.new.self c.args.holding c.requires.known c.take_waiting.ensures.rests c.requires.opening c.in-Some.opening c.args.place
-    (awaits_it c.args.self.now c.take_waiting.new.self c.args.holding c.args.place c.in-Some.opening c.requires.awaits (λ b is. sym c.in-Some.is ∙ c.take_waiting.ensures.opening b is))
+    nexts_known c.args.self.now c.take_waiting.new.self c.args.holding c.requires.known c.take_waiting.ensures.rests c.requires.opening c.in-Some.opening c.args.position
+    (awaits_it c.args.self.now c.take_waiting.new.self c.args.holding c.args.position c.in-Some.opening c.requires.awaits (λ b is. sym c.in-Some.is ∙ c.take_waiting.ensures.opening b is))
     c.requires.answered.0 c.requires.answered.1 c.args.cap.now c.ask_next.new.self c.in-Ok-Next.next
-    (subst (λ (p : Progress). Advances c.args.cap.now c.in-Some.opening c.requires.answered.0 p) c.in-Ok-Next.field-0-is (c.in-Ok-Next.ensures.taken c.requires.answered.0 (answered_still c.args.self.now c.take_waiting.new.self c.args.holding c.args.place c.requires.known c.take_waiting.ensures.rests c.requires.answered.0 c.requires.answered.1)))
+    (subst (λ (p : Progress). Advances c.args.cap.now c.in-Some.opening c.requires.answered.0 p) c.in-Ok-Next.field-0-is (c.in-Ok-Next.ensures.taken c.requires.answered.0 (answered_still c.args.self.now c.take_waiting.new.self c.args.holding c.args.position c.requires.known c.take_waiting.ensures.rests c.requires.answered.0 c.requires.answered.1)))
     c.in_ok-ask_next-in-Ok-Next.ensures.asks c.in_ok-ask_next-in-Ok-Next.ensures.right
 
 pub returns-in_ok-ask_next-in-Ok-Next-clause-opening : goal.returns-in_ok-ask_next-in-Ok-Next-clause-opening
 returns-in_ok-ask_next-in-Ok-Next-clause-opening c =
-    nexts_opening c.args.self.now c.take_waiting.new.self c.args.holding c.requires.known c.take_waiting.ensures.rests c.requires.opening c.in-Some.opening c.args.place
-    (awaits_it c.args.self.now c.take_waiting.new.self c.args.holding c.args.place c.in-Some.opening c.requires.awaits (λ b is. sym c.in-Some.is ∙ c.take_waiting.ensures.opening b is))
+    nexts_opening c.args.self.now c.take_waiting.new.self c.args.holding c.requires.known c.take_waiting.ensures.rests c.requires.opening c.in-Some.opening c.args.position
+    (awaits_it c.args.self.now c.take_waiting.new.self c.args.holding c.args.position c.in-Some.opening c.requires.awaits (λ b is. sym c.in-Some.is ∙ c.take_waiting.ensures.opening b is))
     c.requires.answered.0 c.requires.answered.1 c.args.cap.now c.ask_next.new.self c.in-Ok-Next.next
-    (subst (λ (p : Progress). Advances c.args.cap.now c.in-Some.opening c.requires.answered.0 p) c.in-Ok-Next.field-0-is (c.in-Ok-Next.ensures.taken c.requires.answered.0 (answered_still c.args.self.now c.take_waiting.new.self c.args.holding c.args.place c.requires.known c.take_waiting.ensures.rests c.requires.answered.0 c.requires.answered.1)))
+    (subst (λ (p : Progress). Advances c.args.cap.now c.in-Some.opening c.requires.answered.0 p) c.in-Ok-Next.field-0-is (c.in-Ok-Next.ensures.taken c.requires.answered.0 (answered_still c.args.self.now c.take_waiting.new.self c.args.holding c.args.position c.requires.known c.take_waiting.ensures.rests c.requires.answered.0 c.requires.answered.1)))
     c.in_ok-ask_next-in-Ok-Next.ensures.asks
 
 pub returns-in_ok-ask_next-in-Ok-Next-clause-goes : goal.returns-in_ok-ask_next-in-Ok-Next-clause-goes
@@ -127,10 +127,10 @@ returns-in-Ok-Done-clause-found_asks c = rested_requests c.args.self.now c.take_
 
 pub returns-in-Ok-Done-clause-block : goal.returns-in-Ok-Done-clause-block
 returns-in-Ok-Done-clause-block c =
-    block_at c.args.self.now c.take_waiting.new.self c.args.holding c.requires.known c.take_waiting.ensures.rests c.requires.opening c.in-Some.opening c.args.place
-    (awaits_it c.args.self.now c.take_waiting.new.self c.args.holding c.args.place c.in-Some.opening c.requires.awaits (λ b is. sym c.in-Some.is ∙ c.take_waiting.ensures.opening b is))
+    block_at c.args.self.now c.take_waiting.new.self c.args.holding c.requires.known c.take_waiting.ensures.rests c.requires.opening c.in-Some.opening c.args.position
+    (awaits_it c.args.self.now c.take_waiting.new.self c.args.holding c.args.position c.in-Some.opening c.requires.awaits (λ b is. sym c.in-Some.is ∙ c.take_waiting.ensures.opening b is))
     c.requires.answered.0 c.requires.answered.1 c.args.cap.now c.in-Ok-Done.opened
-    (subst (λ (p : Progress). Advances c.args.cap.now c.in-Some.opening c.requires.answered.0 p) c.in-Ok-Done.field-0-is (c.in-Ok-Done.ensures.taken c.requires.answered.0 (answered_still c.args.self.now c.take_waiting.new.self c.args.holding c.args.place c.requires.known c.take_waiting.ensures.rests c.requires.answered.0 c.requires.answered.1)))
+    (subst (λ (p : Progress). Advances c.args.cap.now c.in-Some.opening c.requires.answered.0 p) c.in-Ok-Done.field-0-is (c.in-Ok-Done.ensures.taken c.requires.answered.0 (answered_still c.args.self.now c.take_waiting.new.self c.args.holding c.args.position c.requires.known c.take_waiting.ensures.rests c.requires.answered.0 c.requires.answered.1)))
 
 pub returns-in-Ok-Done-clause-goes : goal.returns-in-Ok-Done-clause-goes
 returns-in-Ok-Done-clause-goes c = rested_goes c.args.self.now c.take_waiting.new.self c.args.holding c.requires.known c.take_waiting.ensures.rests
@@ -169,9 +169,9 @@ returns-in_ok-blame-in-Err-clause-causes c =
     let same : c.self.inside.holdings ≡ s.holdings = ap (λ (x : BeginningsState). x.holdings) c.self.view_is ∙ ap (λ (x : BeginningsState). x.holdings) c.take_waiting.ensures.rests.is in
     let a = c.requires.answered in
     adds_one (fault c.args.cap.now s) s.holdings.blamed c.blame.new.self.blamed one (b.blamed ∙ ap (λ (h : HoldingsState). h.blamed ++ one ∷ []) same)
-    (opening_fault s c.args.holding c.args.place c.in-Some.opening b.held a.0 c.requires.known c.requires.awaits (λ k is. sym c.in-Some.is ∙ c.take_waiting.ensures.opening k is)
+    (opening_fault s c.args.holding c.args.position c.in-Some.opening b.held a.0 c.requires.known c.requires.awaits (λ k is. sym c.in-Some.is ∙ c.take_waiting.ensures.opening k is)
     (subst (λ (h : HoldingsState). IsHolding h.table c.args.holding b.held) same b.is) a.1 c.args.cap.now c.check.result c.in-Err.error
-    (c.in-Err.ensures.refused a.0 (answered_still s w c.args.holding c.args.place c.requires.known c.take_waiting.ensures.rests a.0 a.1)) c.check.ensures)
+    (c.in-Err.ensures.refused a.0 (answered_still s w c.args.holding c.args.position c.requires.known c.take_waiting.ensures.rests a.0 a.1)) c.check.ensures)
 
 pub returns-in_ok-ask_next-in-Ok-Next-clause-causes : goal.returns-in_ok-ask_next-in-Ok-Next-clause-causes
 returns-in_ok-ask_next-in-Ok-Next-clause-causes c =
@@ -255,12 +255,12 @@ returns-in_ok-ask_next-in-Ok-Next-clause-adds c =
     let s = c.args.self.now in
     let w = c.take_waiting.new.self in
     let u = c.ask_next.new.self in
-    let awaits = awaits_it s w c.args.holding c.args.place c.in-Some.opening c.requires.awaits (λ b is. sym c.in-Some.is ∙ c.take_waiting.ensures.opening b is) in
+    let awaits = awaits_it s w c.args.holding c.args.position c.in-Some.opening c.requires.awaits (λ b is. sym c.in-Some.is ∙ c.take_waiting.ensures.opening b is) in
     let a = c.requires.answered in
     subst (λ (es : List Request). AddsReads (IsInBeginning u.holdings.requests.entries) es u.holdings.requests.entries) (entries_still s w c.args.holding c.take_waiting.ensures.rests)
     (reads_next w u c.args.holding c.in-Ok-Next.next c.in_ok-ask_next-in-Ok-Next.ensures.asks
-    (led_now s w c.args.holding c.requires.known c.take_waiting.ensures.rests c.requires.opening c.in-Some.opening c.args.place awaits a.0 a.1 c.args.cap.now c.in-Ok-Next.next
-    (subst (λ (p : Progress). Advances c.args.cap.now c.in-Some.opening a.0 p) c.in-Ok-Next.field-0-is (c.in-Ok-Next.ensures.taken a.0 (answered_still s w c.args.holding c.args.place c.requires.known c.take_waiting.ensures.rests a.0 a.1)))))
+    (led_now s w c.args.holding c.requires.known c.take_waiting.ensures.rests c.requires.opening c.in-Some.opening c.args.position awaits a.0 a.1 c.args.cap.now c.in-Ok-Next.next
+    (subst (λ (p : Progress). Advances c.args.cap.now c.in-Some.opening a.0 p) c.in-Ok-Next.field-0-is (c.in-Ok-Next.ensures.taken a.0 (answered_still s w c.args.holding c.args.position c.requires.known c.take_waiting.ensures.rests a.0 a.1)))))
 
 pub returns-in-Ok-Done-clause-adds : goal.returns-in-Ok-Done-clause-adds
 returns-in-Ok-Done-clause-adds c =

@@ -1,6 +1,6 @@
 use Rattle.std.proofs.Common.{◌≡◌, ◌∙◌, ◌+◌, List, OnOk, refl, sym, subst, ap}
 use Rattle.lemmas.proofs.Results.{on_ok_then, by_result}
-use Rattle.share_reading.specs.Opening.{next_length, next_place}
+use Rattle.share_reading.specs.Opening.{next_length, next_offset}
 use Rattle.share_reading.specs.declared.opening.Opening.{Opening}
 use Rattle.share_reading.specs.declared.opening.Opening.TheVariants.{Start}
 use Rattle.download_shares.specs.HoldingMoves.{IsUnasked}
@@ -43,7 +43,7 @@ module _ (c : goal.After-ask_next-arg-2-1) where
 
 pub ask_next-requires-clause-unasked : goal.ask_next-requires-clause-unasked
 ask_next-requires-clause-unasked c =
-    subst (λ (o : Opening). IsUnasked c.take_up.new.self c.args.holding (next_place o) (next_length o)) (sym c.start.ensures)
+    subst (λ (o : Opening). IsUnasked c.take_up.new.self c.args.holding (next_offset o) (next_length o)) (sym c.start.ensures)
     (taken_unasked (s0 c) (t0 c) c.args.holding (h0 c) (known0 c) (opening0 c) (is0 c) (free0 c) c.take_up.ensures.takes c.take_up.ensures.others c.take_up.ensures.right refl)
 
 module _ (c : goal.After-ask_next) where

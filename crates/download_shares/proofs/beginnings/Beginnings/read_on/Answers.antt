@@ -7,5 +7,5 @@ use Rattle.download_shares.proofs.beginnings.Beginnings.read_on.Goals as goal
 pub unreachable-requires : goal.unreachable-requires
 unreachable-requires c =
     c.in_default.ensures.none c.requires.answered.0
-    (subst (λ (r : RequestsState). IsAnsweredBy r.entries c.args.place c.requires.answered.0) (sym c.requests.ensures.value)
-    (subst (λ (s : BeginningsState). IsAnsweredBy s.holdings.requests.entries c.args.place c.requires.answered.0) (sym c.self.view_is) c.requires.answered.1))
+    (subst (λ (r : RequestsState). IsAnsweredBy r.entries c.args.position c.requires.answered.0) (sym c.requests.ensures.value)
+    (subst (λ (s : BeginningsState). IsAnsweredBy s.holdings.requests.entries c.args.position c.requires.answered.0) (sym c.self.view_is) c.requires.answered.1))

@@ -10,4 +10,4 @@ returns-clause-none c = subst (λ (s : HoldingsState). IfNone c.choose.result (N
 
 pub returns-clause-lowest : goal.returns-clause-lowest
 returns-clause-lowest c =
-    subst (λ (s : HoldingsState). IfSome c.choose.result (λ (place : ℕ). (h : Holding) → IsHolding s.table place h → NoneIsFreeBefore s.table h.share)) c.self.view_is c.choose.ensures.lowest
+    subst (λ (s : HoldingsState). IfSome c.choose.result (λ (position : ℕ). (h : Holding) → IsHolding s.table position h → NoneIsFreeBefore s.table h.share)) c.self.view_is c.choose.ensures.lowest

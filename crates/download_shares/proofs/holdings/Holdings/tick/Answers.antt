@@ -10,8 +10,8 @@ use Rattle.download_shares.proofs.holdings.Holdings.tick.Goals as goal
 
 pub retire_owners-requires-clause-asked : goal.retire_owners-requires-clause-asked
 retire_owners-requires-clause-asked c =
-    subst (λ (l : List ℕ). All (λ (place : ℕ). place < c.self.inside.servers + length c.deref.result.now) l) (sym (c.deref-2.ensures.value ∙ c.in_ok-lost.ensures.lost))
-    (subst (λ (l : List ℕ). All (λ (place : ℕ). place < c.self.inside.servers + length l) (lost_by_tick c.args.now c.self.inside.requests)) (sym c.deref.ensures.value)
+    subst (λ (l : List ℕ). All (λ (position : ℕ). position < c.self.inside.servers + length c.deref.result.now) l) (sym (c.deref-2.ensures.value ∙ c.in_ok-lost.ensures.lost))
+    (subst (λ (l : List ℕ). All (λ (position : ℕ). position < c.self.inside.servers + length l) (lost_by_tick c.args.now c.self.inside.requests)) (sym c.deref.ensures.value)
     (lost_within (seen_holdings c.self.inside) c.self.invariant c.args.now))
 
 pub retire_owners-requires-clause-held : goal.retire_owners-requires-clause-held

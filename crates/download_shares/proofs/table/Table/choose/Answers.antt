@@ -1,6 +1,6 @@
 use Rattle.std.proofs.Common.{rules, ◌≡◌, ℕ, ◌<◌, ◌≤◌, length, Some, None, true, false, is_some, Option, IfSome, refl, sym, subst, ◌∙◌, arith, All}
 use Rattle.std.specs.Prelude.{slice_index_or}
-use Rattle.lemmas.proofs.Places.{got}
+use Rattle.lemmas.proofs.Positions.{got}
 use Rattle.download_shares.specs.Choice.{Chooses}
 use Rattle.download_shares.specs.Table.{IsFree, IsHolding, IsNumber, IsTable}
 use Rattle.download_shares.specs.declared.holding.Holding.{Holding}
@@ -13,14 +13,14 @@ none_of {o = None} e = refl
 none_of {o = Some p} e = absurd cc
 
 pub loop-number-init : goal.loop-number-init
-loop-number-init c = λ place h is free lt. omega (arith, lt)
+loop-number-init c = λ position h is free lt. omega (arith, lt)
 
 pub choose_among-chosen-requires : goal.choose_among-chosen-requires
 choose_among-chosen-requires c =
     let right : IsTable c.args.self.now = subst IsTable c.self.view_is c.self.invariant.0 in
     let lt : c.loop-number.number-index < length c.args.self.now.numbers = search rules in
     let e : c.number-item.result ≡ slice_index_or c.args.self.now.numbers c.loop-number.number-index c.number-item.result = search rules in
-    subst (λ l. All (λ (place : ℕ). place < length c.args.self.now.holdings) l) (sym c.left.ensures) (left_inside c.args.self.now c.loop-number.number-index c.number-item.result right lt e)
+    subst (λ l. All (λ (position : ℕ). position < length c.args.self.now.holdings) l) (sym c.left.ensures) (left_inside c.args.self.now c.loop-number.number-index c.number-item.result right lt e)
 
 pub returns-then-is_some-clause-free : goal.returns-then-is_some-clause-free
 returns-then-is_some-clause-free c =
@@ -31,7 +31,7 @@ returns-then-is_some-clause-free c =
     let unread : c.number-item.result.reading ≡ None = none_of (sym c.is_read.ensures ∙ c.if-not-is_read.true) in
     by c right there unread c.choose_among-chosen.result (subst (λ l. Chooses c.args.self.now l c.choose_among-chosen.result) c.left.ensures c.choose_among-chosen.ensures)
   where
-    by : (c : goal.Then-is_some) → IsTable c.args.self.now → IsNumber c.args.self.now c.loop-number.number-index c.number-item.result → c.number-item.result.reading ≡ None → (o : Option ℕ) → Chooses c.args.self.now c.number-item.result.left o → IfSome o (λ (place : ℕ). (h : Holding) × IsHolding c.args.self.now place h × IsFree c.args.self.now h)
+    by : (c : goal.Then-is_some) → IsTable c.args.self.now → IsNumber c.args.self.now c.loop-number.number-index c.number-item.result → c.number-item.result.reading ≡ None → (o : Option ℕ) → Chooses c.args.self.now c.number-item.result.left o → IfSome o (λ (position : ℕ). (h : Holding) × IsHolding c.args.self.now position h × IsFree c.args.self.now h)
     by c right there unread None k = tt
     by c right there unread (Some p) k = free_here c.args.self.now c.loop-number.number-index p c.number-item.result right there unread k
 

@@ -9,23 +9,23 @@ use Rattle.download_shares.proofs.table.Table.release.Goals as goal
 
 pub overflow_sub-self : goal.overflow_sub-self
 overflow_sub-self c =
-    let lt : c.args.place < length c.self.inside.holdings.items = subst (λ (t : TableState). c.args.place < length t.holdings) (sym c.self.view_is) c.requires in
-    let k = count_bound (seen_table c.self.inside) c.args.place c.from.result _ _ c.self.invariant.0 lt c.index-holding.ensures c.from.ensures c.index_mut-number.ensures.value in
+    let lt : c.args.position < length c.self.inside.holdings.items = subst (λ (t : TableState). c.args.position < length t.holdings) (sym c.self.view_is) c.requires in
+    let k = count_bound (seen_table c.self.inside) c.args.position c.from.result _ _ c.self.invariant.0 lt c.index-holding.ensures c.from.ensures c.index_mut-number.ensures.value in
     rw (c.from-ended.ensures, c.reads.ensures, c.self.invariant.1) k
 
 pub invariant_of-self : goal.invariant_of-self
 invariant_of-self c =
-    let lt : c.args.place < length c.self.inside.holdings.items = subst (λ (t : TableState). c.args.place < length t.holdings) (sym c.self.view_is) c.requires in
-    let k = count_by_index (seen_table c.self.inside) c.args.place c.from.result _ _ c.release.new.self c.self.invariant.0 lt c.index-holding.ensures c.from.ensures c.index_mut-number.ensures.value (rw c.release.ensures refl) in
+    let lt : c.args.position < length c.self.inside.holdings.items = subst (λ (t : TableState). c.args.position < length t.holdings) (sym c.self.view_is) c.requires in
+    let k = count_by_index (seen_table c.self.inside) c.args.position c.from.result _ _ c.release.new.self c.self.invariant.0 lt c.index-holding.ensures c.from.ensures c.index_mut-number.ensures.value (rw c.release.ensures refl) in
     let b = c.from-ended.ensures ∙ ap bool_byte c.reads.ensures in
     let v = c.self.invariant.1 in
-    (released_by (seen_table c.self.inside) c.args.place c.from.result _ _ c.release.new.self c.self.invariant.0 lt c.index-holding.ensures c.from.ensures c.index_mut-number.ensures.value c.release.ensures, omega (arith, k, b, v))
+    (released_by (seen_table c.self.inside) c.args.position c.from.result _ _ c.release.new.self c.self.invariant.0 lt c.index-holding.ensures c.from.ensures c.index_mut-number.ensures.value c.release.ensures, omega (arith, k, b, v))
 
 pub returns-clause-releases : goal.returns-clause-releases
 returns-clause-releases c =
-    let lt : c.args.place < length c.self.inside.holdings.items = subst (λ (t : TableState). c.args.place < length t.holdings) (sym c.self.view_is) c.requires in
-    subst (λ (t : TableState). Releases c.args.place t (table_state c.self.inside.holdings.items (slice_set c.self.inside.numbers.items c.from.result c.release.new.self))) c.self.view_is
-    (releases_by (seen_table c.self.inside) c.args.place c.from.result _ _ c.release.new.self c.self.invariant.0 lt c.index-holding.ensures c.from.ensures c.index_mut-number.ensures.value c.release.ensures)
+    let lt : c.args.position < length c.self.inside.holdings.items = subst (λ (t : TableState). c.args.position < length t.holdings) (sym c.self.view_is) c.requires in
+    subst (λ (t : TableState). Releases c.args.position t (table_state c.self.inside.holdings.items (slice_set c.self.inside.numbers.items c.from.result c.release.new.self))) c.self.view_is
+    (releases_by (seen_table c.self.inside) c.args.position c.from.result _ _ c.release.new.self c.self.invariant.0 lt c.index-holding.ensures c.from.ensures c.index_mut-number.ensures.value c.release.ensures)
 
 pub returns-clause-right : goal.returns-clause-right
 returns-clause-right c = (invariant_of-self c).0

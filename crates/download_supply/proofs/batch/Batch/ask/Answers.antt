@@ -14,7 +14,7 @@ invariant_of-self-2 c =
     batch_more _ (record { part = c.args.part; read = c.read-read.result }) c.pass.new.self c.push.new.self.items c.self.invariant
     (record {
       part = part;
-      place = c.read-read.ensures.place;
+      offset = c.read-read.ensures.offset;
       length = c.read-read.ensures.length;
       some = c.read-read.ensures.range.0;
       few = c.read-read.ensures.range.1;

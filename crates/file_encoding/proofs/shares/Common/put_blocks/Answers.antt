@@ -9,7 +9,7 @@ use Rattle.tagged_hash.specs.TaggedHash.{tagged_hash}
 use Rattle.tagged_hash.specs.declared.tag.Tag.TheVariants.{Block}
 use Rattle.ueb.specs.Shape.{rounded_up}
 use Rattle.share_layout.specs.Geometry.{Geometry, IsGeometry, block_size, segment_count, share_data_size}
-use Rattle.share_layout.specs.Layout.{header_size, layout_of, places_of}
+use Rattle.share_layout.specs.Layout.{header_size, layout_of, offsets_of}
 use Rattle.share_verify.specs.Pieces.{block_hashes, joined, pieces}
 use Rattle.file_encoding.specs.Blocks.{padded_block, padded_blocks}
 use Rattle.file_encoding.specs.Drafts.{DraftState}
@@ -38,7 +38,7 @@ rest_none g i text number over =
 record Done (g : Geometry) (text : List ℕ) (before now : DraftState) : Type 0 where
   draft : now ≡ record before { bytes = before.bytes ++ joined (padded_blocks g before.number text) }
   bytes : now.bytes ≡ before.bytes ++ joined (padded_blocks g before.number text)
-  size : length now.bytes ≡ (places_of g).unused
+  size : length now.bytes ≡ (offsets_of g).unused
 
 done : (g : Geometry) (text : List ℕ) (before now : DraftState) (number : ℕ) → IsGeometry g
     → length text ≡ rounded_up g.size g.needed → length before.bytes ≡ header_size (layout_of g)
@@ -76,7 +76,7 @@ one_more g text before now after number segment have below is put =
 room_more : (g : Geometry) (text : List ℕ) (before now : DraftState) (number : ℕ) (segment : List ℕ)
     → Written g text before now number → number < segment_count g → segment ≡ this g text number
     → length (joined (padded_blocks g before.number text)) ≡ share_data_size g → length before.bytes ≡ header_size (layout_of g) → before.geometry ≡ g
-    → length now.bytes + length segment / g.needed ≤ (places_of now.geometry).extension_block
+    → length now.bytes + length segment / g.needed ≤ (offsets_of now.geometry).extension_block
 room_more g text before now number segment have below is all front same =
     let i : ℕ = before.number in
     let block : List ℕ = padded_block g.needed i (this g text number) in
@@ -87,7 +87,7 @@ room_more g text before now number segment have below is all front same =
     sym (length-append before.bytes (joined (padded_blocks g i text)))
     ∙ ap length (have.blocks ∙ ap (λ bs. now.bytes ++ joined bs) (rest_more g i text number below))
     ∙ length-append now.bytes (block ++ joined rest) ∙ ap (λ n. length now.bytes + n) (length-append block (joined rest)) in
-    let ends : (places_of now.geometry).extension_block ≡ (places_of g).extension_block = ap (λ (h : Geometry). (places_of h).extension_block) (have.geometry ∙ same) in
+    let ends : (offsets_of now.geometry).extension_block ≡ (offsets_of g).extension_block = ap (λ (h : Geometry). (offsets_of h).extension_block) (have.geometry ∙ same) in
     omega (arith, long, sum, all, front, ends)
 
 pub put_block-requires-clause-in_range : goal.put_block-requires-clause-in_range

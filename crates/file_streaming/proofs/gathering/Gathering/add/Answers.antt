@@ -16,47 +16,47 @@ use Rattle.file_streaming.specs.Wholes.{AreGiven}
 use Rattle.file_streaming.specs.declared.groups.Group.{Group}
 use Rattle.file_streaming.specs.declared.shares.ShareSoFar.{ShareSoFar}
 use Rattle.file_streaming.specs.declared.wholes.WholeHashers.{WholeHashers}
-use Rattle.file_streaming.proofs.GroupSteps.{has_first, has_place}
+use Rattle.file_streaming.proofs.GroupSteps.{has_first, has_offset}
 use Rattle.file_streaming.proofs.Rows.{row-room}
 use Rattle.file_streaming.proofs.SecondPass.{gathered-parts}
 use Rattle.file_streaming.proofs.gathering.Gathering.add.Goals as goal
 
 pub slice_bounds-text-end : goal.slice_bounds-text-end
 slice_bounds-text-end c =
-    let at = has_place c.args.geometry.now c.args.group 0 c.requires.group (has_first c.args.geometry.now c.args.group c.requires.group) in
+    let at = has_offset c.args.geometry.now c.args.group 0 c.requires.group (has_first c.args.geometry.now c.args.group c.requires.group) in
     omega (arith, at.fits, c.requires.segments)
 
 pub slice_bounds-text-end-2 : goal.slice_bounds-text-end-2
 slice_bounds-text-end-2 c =
-    let at = has_place c.args.geometry.now c.args.group 0 c.requires.group (has_first c.args.geometry.now c.args.group c.requires.group) in
+    let at = has_offset c.args.geometry.now c.args.group 0 c.requires.group (has_first c.args.geometry.now c.args.group c.requires.group) in
     sym (length-take-le c.args.group.len c.args.segments.now (omega (arith, at.fits, c.requires.segments)))
 
 pub slice_bounds-fill-count : goal.slice_bounds-fill-count
 slice_bounds-fill-count c =
     let len : ℕ = c.args.group.len in
-    let at = has_place c.args.geometry.now c.args.group 0 c.requires.group (has_first c.args.geometry.now c.args.group c.requires.group) in
+    let at = has_offset c.args.geometry.now c.args.group 0 c.requires.group (has_first c.args.geometry.now c.args.group c.requires.group) in
     omega (
       arith,
       length-append c.xor_at.new.text (drop len c.args.segments.now),
       ap length c.xor_at.ensures,
-      length-xored_from c.args.encoder.now.cipher c.args.group.place (take len c.args.segments.now),
+      length-xored_from c.args.encoder.now.cipher c.args.group.offset (take len c.args.segments.now),
       length-take-le len c.args.segments.now (omega (arith, at.fits, c.requires.segments)),
     )
 
 pub slice_bounds-fill-start : goal.slice_bounds-fill-start
 slice_bounds-fill-start c =
     let len : ℕ = c.args.group.len in
-    let at = has_place c.args.geometry.now c.args.group 0 c.requires.group (has_first c.args.geometry.now c.args.group c.requires.group) in
+    let at = has_offset c.args.geometry.now c.args.group 0 c.requires.group (has_first c.args.geometry.now c.args.group c.requires.group) in
     omega (
       arith,
       length-append c.xor_at.new.text (drop len c.args.segments.now),
       ap length c.xor_at.ensures,
-      length-xored_from c.args.encoder.now.cipher c.args.group.place (take len c.args.segments.now),
+      length-xored_from c.args.encoder.now.cipher c.args.group.offset (take len c.args.segments.now),
       length-take-le len c.args.segments.now (omega (arith, at.fits, c.requires.segments)),
     )
 
 pub add_leaves-requires : goal.add_leaves-requires
-add_leaves-requires c = (has_place c.args.geometry.now c.args.group 0 c.requires.group (has_first c.args.geometry.now c.args.group c.requires.group)).few
+add_leaves-requires c = (has_offset c.args.geometry.now c.args.group 0 c.requires.group (has_first c.args.geometry.now c.args.group c.requires.group)).few
 
 pub add_segments-requires-clause-room : goal.add_segments-requires-clause-room
 add_segments-requires-clause-room c = omega (arith, row-room c.args.geometry.now c.args.group c.requires.group, c.requires.lanes)
@@ -68,13 +68,13 @@ returns-clause-gathered c = λ s secret file has.
     let len : ℕ = group.len in
     let key : List ℕ = c.args.encoder.now.cipher in
     let text : List ℕ = take len c.args.segments.now in
-    let encrypted : List ℕ = xored_from key group.place text in
-    let at = has_place g group 0 c.requires.group (has_first c.args.geometry.now c.args.group c.requires.group) in
+    let encrypted : List ℕ = xored_from key group.offset text in
+    let at = has_offset g group 0 c.requires.group (has_first c.args.geometry.now c.args.group c.requires.group) in
     let written : List ℕ = c.xor_at.new.text in
     let all : List ℕ = written ++ drop len c.args.segments.now in
     let same : written ≡ encrypted = c.xor_at.ensures in
     let text_long : length text ≡ len = length-take-le len c.args.segments.now (omega (arith, at.fits, c.requires.segments)) in
-    let long : length encrypted ≡ len = length-xored_from key group.place text ∙ text_long in
+    let long : length encrypted ≡ len = length-xored_from key group.offset text ∙ text_long in
     let buffer : List ℕ = put_mid len (length all - len) all c.fill.new.self in
     let front : take len all ≡ written = take_at written (drop len c.args.segments.now) len (ap length same ∙ long) in
     let kept : take len buffer ≡ encrypted =

@@ -3,7 +3,7 @@ use Rattle.std.proofs.lemmas.List.{get_or-map, get_or_default, length-map}
 use Rattle.merkle.specs.Tree.{tree_nodes, tree_root}
 use Rattle.file_encoding.specs.Encoding.{share_hashes}
 use Rattle.file_streaming.specs.Piece.{leaves_of}
-use Rattle.share_layout.specs.Layout.{header, places_of, spelled}
+use Rattle.share_layout.specs.Layout.{header, offsets_of, spelled}
 use Rattle.share_verify.specs.Pieces.{joined}
 use Rattle.file_streaming.specs.Kept.{IsKept}
 use Rattle.block_making.specs.Making.{put_at}
@@ -53,7 +53,7 @@ returns c =
     let hashes : List (List ℕ) = texts_of c.self.inside.share_hashes.items in
     let kept : IsKept p hashes c.self.inside.encoder c.self.inside.buffers = subst (λ (p : PreparedFile). IsKept p hashes c.self.inside.encoder c.self.inside.buffers) c.self.view_is c.self.invariant.kept in
     let low : share < p.geometry.total = omega (arith, c.requires.number, kept_digests p hashes c.self.inside.encoder c.self.inside.buffers kept) in
-    let places = c.of-places.ensures.places ∙ ap (λ (p : PreparedFile). places_of p.geometry) c.self.view_is in
+    let offsets = c.of-offsets.ensures.offsets ∙ ap (λ (p : PreparedFile). offsets_of p.geometry) c.self.view_is in
     let number : c.from-share.result ≡ share = c.from-share.ensures in
     let trees : c.from-share.result < length c.self.inside.block_trees.items =
     omega (arith, number, low, tree_count p hashes c.self.inside.encoder c.self.inside.buffers kept, ap (λ (p : PreparedFile). length p.block_leaves) c.self.view_is) in
@@ -71,8 +71,8 @@ returns c =
     c.put_header.new.out c.put_tree.new.out c.put_tree-2.new.out c.put_part.new.out c.put_ending.new.out c.requires.inside
     (c.put_header.ensures ∙ ap (λ (p : PreparedFile). put_at 0 (header p.geometry) c.args.offset c.args.out.now) c.self.view_is) c.put_header.auto.out
     (c.put_tree.ensures
-    ∙ (λ q. put_at (places q).ciphertext_tree (joined (tree_nodes (ap (λ (p : PreparedFile). p.leaves) c.self.view_is q))) c.args.offset c.put_header.new.out)) c.put_tree.auto.out
-    (c.put_tree-2.ensures ∙ (λ q. put_at (places q).block_tree (joined (tree_nodes (tree q))) c.args.offset c.put_tree.new.out)) c.put_tree-2.auto.out
-    (c.put_part.ensures ∙ (λ q. put_at (places q).share_hashes (own q) c.args.offset c.put_tree-2.new.out)) c.put_part.auto.out
+    ∙ (λ q. put_at (offsets q).ciphertext_tree (joined (tree_nodes (ap (λ (p : PreparedFile). p.leaves) c.self.view_is q))) c.args.offset c.put_header.new.out)) c.put_tree.auto.out
+    (c.put_tree-2.ensures ∙ (λ q. put_at (offsets q).block_tree (joined (tree_nodes (tree q))) c.args.offset c.put_tree.new.out)) c.put_tree-2.auto.out
+    (c.put_part.ensures ∙ (λ q. put_at (offsets q).share_hashes (own q) c.args.offset c.put_tree-2.new.out)) c.put_part.auto.out
     (c.put_ending.ensures
-    ∙ (λ q. put_at (places q).extension_block (spelled (places q).layout (length (block q)) ++ block q) c.args.offset c.put_part.new.out)) c.put_ending.auto.out
+    ∙ (λ q. put_at (offsets q).extension_block (spelled (offsets q).layout (length (block q)) ++ block q) c.args.offset c.put_part.new.out)) c.put_ending.auto.out

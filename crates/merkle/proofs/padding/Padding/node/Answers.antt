@@ -13,8 +13,8 @@ overflow_add-number c =
     let inside = is_padding-inside c.self.inside.leaf_count c.args.number (sym c.is_padding.ensures ∙ c.if-not-is_padding.false) in
     omega (arith, inside, next_power (height c.self.inside.leaf_count), pow-le-pow_right {n = 2} (omega arith) {i = height c.self.inside.leaf_count + 1} {j = 21} (omega (arith, low)))
 
-pub overflow_sub-place : goal.overflow_sub-place
-overflow_sub-place c =
+pub overflow_sub-position : goal.overflow_sub-position
+overflow_sub-position c =
     let h = c.height-height in
     let r = c.height-row in
     let low = height_low _ h.result 20 c.self.invariant.1 h.ensures.least in

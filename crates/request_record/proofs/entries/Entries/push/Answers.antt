@@ -13,8 +13,8 @@ invariant_of-self-2 c =
     record {
       counts = omega (arith, c.self.invariant.counts, ap length c.asked.ensures, length-append rs (r ∷ []));
       kept = c.push_reserved.ensures.items
-          ∙ ap (λ (es : List Entry). es ++ record { place = c.self.inside.len; request = r } ∷ []) (c.reserve.ensures.items ∙ c.self.invariant.kept)
-          ∙ ap (λ n. entries_from 0 rs ++ record { place = n; request = r } ∷ []) c.self.invariant.counts
+          ∙ ap (λ (es : List Entry). es ++ record { position = c.self.inside.len; request = r } ∷ []) (c.reserve.ensures.items ∙ c.self.invariant.kept)
+          ∙ ap (λ n. entries_from 0 rs ++ record { position = n; request = r } ∷ []) c.self.invariant.counts
           ∙ sym (pushed_entries rs r c.requires)
           ∙ ap (entries_from 0) (sym c.asked.ensures);
     }

@@ -6,14 +6,14 @@ use Rattle.std.proofs.lemmas.List.{length-map}
 use Rattle.std.proofs.lemmas.List.Elements.{All-same}
 use Rattle.request_record.specs.Entries.{IsCut, entries_from, ticked_entry}
 use Rattle.request_record.specs.Record.{AreSettled, IsSentFew, ticked_one}
-use Rattle.request_record.proofs.EntryLaws.{all_entries, places_rise}
+use Rattle.request_record.proofs.EntryLaws.{all_entries, positions_rise}
 use Rattle.request_record.proofs.EntrySteps.{ticked_parts}
 use Rattle.request_record.proofs.RecordLaws.{lent_whole}
 use Rattle.request_record.proofs.entries.Entries.tick.Goals as goal
 
 pub index_of-at-requires : goal.index_of-at-requires
 index_of-at-requires c =
-    subst (IsNonDecreasingBy (λ (e : Entry). e.place)) (sym (c.as_slice.ensures.value ∙ c.self.invariant.kept)) (places_rise 0 c.self.inside.past.requests)
+    subst (IsNonDecreasingBy (λ (e : Entry). e.position)) (sym (c.as_slice.ensures.value ∙ c.self.invariant.kept)) (positions_rise 0 c.self.inside.past.requests)
 
 pub tick_from-requires-clause-few : goal.tick_from-requires-clause-few
 tick_from-requires-clause-few c =

@@ -34,9 +34,9 @@ invariant_of-self-2 c =
     let state : RequestsState = requests_state c.self.inside.session entries c.self.inside.outgoing.items c.self.inside.clock in
     let request : Request = first_request c.args.server c.args.asked c.self.inside.clock in
     let all : c.push.new.self ≡ entries ++ request ∷ [] = c.in_ok-push.ensures.ok ∙ ap (λ (r : Request). entries ++ r ∷ []) c.new-request.ensures in
-    let places : c.push_back_reserved.new.self.items ≡ c.self.inside.outgoing.items ++ length entries ∷ [] = rw (c.push_back_reserved.ensures.items, c.in_ok-reserve.ensures.items, c.len-place.ensures) refl in
+    let positions : c.push_back_reserved.new.self.items ≡ c.self.inside.outgoing.items ++ length entries ∷ [] = rw (c.push_back_reserved.ensures.items, c.in_ok-reserve.ensures.items, c.len-position.ensures) refl in
     let byte : c.from-waiting.result ≡ cond (is_outstanding request.outcome) 1 0 = rw (c.from-waiting.ensures, c.is_outstanding.ensures, c.new-request.ensures) (byte_of (is_outstanding request.outcome)) in
-    rw (all, places) (
+    rw (all, positions) (
       asked_right c.args.server c.args.asked state c.self.invariant.0,
       asked_indexed c.self.inside.outstanding c.from-waiting.result c.self.inside.settled c.self.inside.sent entries request state.outgoing (state.outgoing ++ length entries ∷ []) c.self.invariant.1 byte (asked_order c.self.inside.sent entries request state.outgoing c.self.invariant.1.within c.self.invariant.0.there c.self.invariant.1.order),
     )

@@ -40,10 +40,10 @@ returns c = λ cap u taken block has own.
     omega (arith, c.requires.whole, has.begins.whole, ap length has.begins.behind, length-drop n taken) in
     let front : c.split_at.result.0.now ≡ take (d - n) kept =
     c.split_at.ensures.front ∙ (λ i. take (left i) (c.deref.ensures.value i)) in
-    let place : n + (d - n) ≡ d = omega (arith, has.within) in
+    let offset : n + (d - n) ≡ d = omega (arith, has.within) in
     let back : behind ≡ drop d taken =
     c.split_at.ensures.back ∙ (λ i. drop (left i) (c.deref.ensures.value i)) ∙ ap (drop (d - n)) has.begins.behind
-    ∙ drop-drop (d - n) n taken ∙ ap (λ (k : ℕ). drop k taken) place in
+    ∙ drop-drop (d - n) n taken ∙ ap (λ (k : ℕ). drop k taken) offset in
     let part = begins_part bs taken kept hashes has.begins d has.within long in
     let begins : BeginsWith bs text c.deref-2.result.now c.split_at.result.0.now =
     subst (λ (l : List (List ℕ)). BeginsWith bs text l c.split_at.result.0.now) (sym c.deref-2.ensures.value)

@@ -9,7 +9,7 @@ use Rattle.placement.specs.Matching.{IsLargestMatching, Pair}
 use Rattle.upload_core.specs.State.{UploadState}
 use Rattle.upload_core.specs.Acknowledged.{acked_pairs}
 use Rattle.upload_core.specs.Rounds.{IsOver, IsToPlace, Placing, transfers_of}
-use Rattle.upload_core.specs.Moves.{ends, places}
+use Rattle.upload_core.specs.Moves.{ends, positions}
 use Rattle.upload_core.specs.Course.{transfers}
 use Rattle.upload_core.proofs.Goes.{nil_of, not_to_place, to_place}
 use Rattle.upload_core.proofs.state.Course.place_or_end.Goals as goal
@@ -42,7 +42,7 @@ returns-then-not-is_empty-clause-ok c =
     let z : length (map ask (p.m3 ++ p.leftovers)) ≡ 0 = ap length e in
     let zero : c.in_ok-transfers.transfers.len ≡ 0 = omega (arith, n, z, ap length t.2, c.in_ok-transfers.transfers.ok.0) in
     true≢false (sym (c.is_empty.ensures ∙ eq-eqb c.in_ok-transfers.transfers.len 0 zero) ∙ c.if-not-is_empty.true) in
-    on_ok c.begin_round.result _ _ (λ e. places p c.requires.settled to t.1 some (e ∙ ap (λ (ps : List Pair). record v { requests = asked_all (transfers v.goal ps) v.requests; round = length v.requests.entries }) (c.deref.ensures.value ∙ t.2))) c.begin_round.ensures.ok
+    on_ok c.begin_round.result _ _ (λ e. positions p c.requires.settled to t.1 some (e ∙ ap (λ (ps : List Pair). record v { requests = asked_all (transfers v.goal ps) v.requests; round = length v.requests.entries }) (c.deref.ensures.value ∙ t.2))) c.begin_round.ensures.ok
 
 pub returns-clause-ok : goal.returns-clause-ok
 returns-clause-ok c =

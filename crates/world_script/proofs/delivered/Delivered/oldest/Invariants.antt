@@ -2,8 +2,8 @@ use Rattle.std.proofs.Common.{◌≡◌, ℕ, ◌<◌}
 use Rattle.world_script.specs.Plans.{IsMarked}
 use Rattle.world_script.proofs.delivered.Delivered.oldest.Given as goal
 
-abbrev pub invariant-loop-place : goal.invariant-loop-place
-invariant-loop-place l = record {
+abbrev pub invariant-loop-position : goal.invariant-loop-position
+invariant-loop-position l = record {
   same : l.self ≡ l.initial.self;
-  older : (p : ℕ) → p < l.place → IsMarked l.initial.self p;
+  older : (p : ℕ) → p < l.position → IsMarked l.initial.self p;
 }

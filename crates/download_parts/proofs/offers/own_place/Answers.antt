@@ -1,6 +1,0 @@
-use Rattle.std.proofs.Common.{rules}
-use Rattle.download_parts.proofs.OfferLemmas.{own_at}
-use Rattle.download_parts.proofs.offers.own_place.Goals as goal
-
-pub returns-clause-own : goal.returns-clause-own
-returns-clause-own c = own_at c.args.height c.args.leaf c.saturating_sub.result c.requires.inside (search rules)

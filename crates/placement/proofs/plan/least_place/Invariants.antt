@@ -1,9 +1,0 @@
-use Rattle.std.proofs.Common.{ℕ, ◌<◌, ◌≤◌, length, get_or}
-use Rattle.placement.proofs.plan.least_place.Given as goal
-
-abbrev pub invariant-loop-place : goal.invariant-loop-place
-invariant-loop-place l = record {
-  within : l.least < length l.loads;
-  least : (i : ℕ) → i < l.place → get_or l.loads l.least 0 ≤ get_or l.loads i 0;
-  first : (i : ℕ) → i < l.least → get_or l.loads l.least 0 < get_or l.loads i 0;
-}
