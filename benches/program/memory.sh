@@ -83,17 +83,17 @@ head -c $((large << 20)) /dev/urandom > file
 rm -rf grid
 "$program" put file --grid grid > cap
 cap=$(head -n 1 cap)
-place=$((large << 19))
+offset=$((large << 19))
 TIMEFORMAT='%3U %3S'
 for _ in 1 2 3 4 5 6; do
-    { time "$program" get "$cap" --grid grid --from $place --to $((place + 1)) > out; } 2>> times
+    { time "$program" get "$cap" --grid grid --from $offset --to $((offset + 1)) > out; } 2>> times
 done
-cmp -s out <(tail -c +$((place + 1)) file | head -c 1) || { echo "another byte came back"; exit 1; }
+cmp -s out <(tail -c +$((offset + 1)) file | head -c 1) || { echo "another byte came back"; exit 1; }
 told "get of $large MiB" "$(peak "$program" get "$cap" --grid grid)" $((large << 20))
 cmp -s out file || { echo "the file that came back is another"; exit 1; }
 # The kernel counts what a shell and the commands that it waited for read.
 read_by() { bash -c '"$@" > out; awk "/rchar/ { print \$2 }" /proc/$$/io' read "$@"; }
-with=$(read_by "$program" get "$cap" --grid grid --from $place --to $((place + 1)))
+with=$(read_by "$program" get "$cap" --grid grid --from $offset --to $((offset + 1)))
 without=$(read_by "$program" cap "$cap")
 awk 'NR == 1 || $1 + $2 < least { least = $1 + $2 } END {
     printf "get of one byte: %.0f ms\n", least * 1000 }' times
