@@ -101,16 +101,22 @@ impl<R: Files + AllocGlobal + Clone + Drop> Scrub<R> {
             left: Vec::new(alloc),
             total: 0,
         };
-        for entry in fs::read_dir(rt, folder)? {
+        scrub.list(index)?;
+        scrub.left.sort_unstable();
+        scrub.left.reverse();
+        Ok(scrub)
+    }
+
+    // Takes note of the folder's share files that are asked for.
+    fn list(&mut self, index: Option<&StorageIndex>) -> io::Result<()> {
+        for entry in fs::read_dir(&self.rt, &self.folder)? {
             match entry {
-                Ok(entry) => scrub.note(&entry, index)?,
+                Ok(entry) => self.note(&entry, index)?,
                 Err(error) if error.kind() == ErrorKind::InvalidFilename => {}
                 Err(error) => return Err(error),
             }
         }
-        scrub.left.sort_unstable();
-        scrub.left.reverse();
-        Ok(scrub)
+        Ok(())
     }
 
     // Takes note of a share's file, where it is asked for.
