@@ -17,7 +17,7 @@ pub(crate) fn append<R: Files + AllocGlobal + Clone + Drop>(
     fs::write(rt, path.as_str(), bytes.as_slice())
 }
 
-/// `flip FILE PLACE`.
+/// `flip FILE OFFSET`.
 pub(crate) fn flip<R: Files + AllocGlobal + Clone + Drop>(
     rt: &R,
     words: &[&str],

@@ -19,7 +19,7 @@
 //! - `zeros FILE SIZE`, `write FILE TEXT`, `lines FILE LINE..`: makes a file of zeros, of a text,
 //!   of lines with no line end behind the last.
 //! - `append FILE TEXT`: puts a text behind the file's end.
-//! - `flip FILE PLACE`: changes the lowest bit of the byte there.
+//! - `flip FILE OFFSET`: changes the lowest bit of the byte there.
 //! - `cut FILE SIZE`: ends the file there.
 //! - `splice FILE FROM TO HEX`: puts these bytes in the place of those from one offset to another.
 //! - `folder FOLDER..`: makes folders.

@@ -137,7 +137,7 @@ fn number<'a>(alloc: Global, name: &'a str, default: &'a str, help: &'a str) -> 
 pub(crate) fn offset<'a>(alloc: Global, name: &'a str, help: &'a str) -> Arg<'a>
     ensures { HasRule (number name.entry.now) result }
 {
-    option(alloc, name, "PLACE", help).value_parser(value_parser!(u64))
+    option(alloc, name, "OFFSET", help).value_parser(value_parser!(u64))
 }
 
 /// The secret that a key depends on, as a text.

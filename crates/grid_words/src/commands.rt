@@ -1,12 +1,12 @@
 //! The commands, and what their help says.
 
-ghost use Rattle.std.specs.Prelude.{IfOk, List};
+ghost use Rattle.std.specs.Prelude.{IfOk, List, drop, take};
 ghost use Rattle.clap.specs.Walk.{Rule};
 ghost use Rattle.grid_words.specs.Builds.{HasShape, HaveRules, IsApp, shape_named};
-ghost use Rattle.grid_words.specs.CommandLine.{bare_app, cap_shape, check_shape, get_shape};
-ghost use Rattle.grid_words.specs.CommandLine.{grid_app, init_shape};
-ghost use Rattle.grid_words.specs.CommandLine.{put_rules, put_shape, repair_shape, scrub_shape};
-ghost use Rattle.grid_words.specs.CommandLine.{shape, world_shape};
+ghost use Rattle.grid_words.specs.CommandLine.{bare_app, cap_shape, check_rules, check_shape};
+ghost use Rattle.grid_words.specs.CommandLine.{get_rules, get_shape, grid_app, init_shape};
+ghost use Rattle.grid_words.specs.CommandLine.{put_rules, put_shape, repair_rules, repair_shape};
+ghost use Rattle.grid_words.specs.CommandLine.{scrub_rules, scrub_shape, shape, world_shape};
 
 use crate::arguments::{
     file, flag, grid_folder, happy, json, max_segment, mend, needed, net, new_grid, no_sync,
@@ -109,17 +109,19 @@ server.",
 fn put_command<'a>(alloc: Global) -> Result<Command<'a>, AllocError>
     ensures { IfOk result (HasShape put_shape) }
 {
-    command(
+    let command = command(
         alloc,
         "put",
         "Stores a file and prints its cap, which gives it back, and how many servers hold shares \
 of their own.",
-        put_arguments(alloc)?,
-    )
+        coding_arguments(alloc)?,
+    )?;
+    command.args(storing_arguments(alloc)?)
 }
 
-fn put_arguments<'a>(alloc: Global) -> Result<Vec<Arg<'a>>, AllocError>
-    ensures { IfOk result (λ arguments. HaveRules put_rules arguments.items) }
+// What `put` stores, and the numbers by which it is cut and placed.
+fn coding_arguments<'a>(alloc: Global) -> Result<Vec<Arg<'a>>, AllocError>
+    ensures { IfOk result (λ arguments. HaveRules (take 7 put_rules) arguments.items) }
 {
     Ok(vec![in alloc;
         file(alloc),
@@ -129,6 +131,14 @@ fn put_arguments<'a>(alloc: Global) -> Result<Vec<Arg<'a>>, AllocError>
         total(alloc),
         max_segment(alloc),
         servers(alloc),
+    ]?)
+}
+
+// How `put` keys, stores and tells.
+fn storing_arguments<'a>(alloc: Global) -> Result<Vec<Arg<'a>>, AllocError>
+    ensures { IfOk result (λ arguments. HaveRules (drop 7 put_rules) arguments.items) }
+{
+    Ok(vec![in alloc;
         secret(alloc),
         secret_file(alloc)?,
         net(alloc),
@@ -142,31 +152,48 @@ fn put_arguments<'a>(alloc: Global) -> Result<Vec<Arg<'a>>, AllocError>
 fn get_command<'a>(alloc: Global) -> Result<Command<'a>, AllocError>
     ensures { IfOk result (HasShape get_shape) }
 {
-    let arguments = vec![in alloc;
-        read_cap(alloc),
-        grid_folder(alloc),
-        offset(alloc, "from", "The place of the first byte").default_value("0"),
-        offset(
-            alloc,
-            "to",
-            "The place behind the last byte [default: the file's size]",
-        ),
-        output(alloc),
-        net(alloc),
-        verbose(alloc),
-    ]?;
     command(
         alloc,
         "get",
         "Writes the file of a cap, or a range of its bytes, to standard output or to a file.",
-        arguments,
+        get_arguments(alloc)?,
     )
+}
+
+fn get_arguments<'a>(alloc: Global) -> Result<Vec<Arg<'a>>, AllocError>
+    ensures { IfOk result (λ arguments. HaveRules get_rules arguments.items) }
+{
+    Ok(vec![in alloc;
+        read_cap(alloc),
+        grid_folder(alloc),
+        offset(alloc, "from", "The offset of the first byte").default_value("0"),
+        offset(
+            alloc,
+            "to",
+            "The offset behind the last byte [default: the file's size]",
+        ),
+        output(alloc),
+        net(alloc),
+        verbose(alloc),
+    ]?)
 }
 
 fn check_command<'a>(alloc: Global) -> Result<Command<'a>, AllocError>
     ensures { IfOk result (HasShape check_shape) }
 {
-    let arguments = vec![in alloc;
+    command(
+        alloc,
+        "check",
+        "Reads each share of a cap's file that a server offers, and prints a verdict on each and \
+on the file.",
+        check_arguments(alloc)?,
+    )
+}
+
+fn check_arguments<'a>(alloc: Global) -> Result<Vec<Arg<'a>>, AllocError>
+    ensures { IfOk result (λ arguments. HaveRules check_rules arguments.items) }
+{
+    Ok(vec![in alloc;
         verify_cap(alloc),
         grid_folder(alloc),
         net(alloc),
@@ -177,20 +204,25 @@ fn check_command<'a>(alloc: Global) -> Result<Command<'a>, AllocError>
             "End with status 5 where the file is not healthy",
         ),
         verbose(alloc),
-    ]?;
-    command(
-        alloc,
-        "check",
-        "Reads each share of a cap's file that a server offers, and prints a verdict on each and \
-on the file.",
-        arguments,
-    )
+    ]?)
 }
 
 fn repair_command<'a>(alloc: Global) -> Result<Command<'a>, AllocError>
     ensures { IfOk result (HasShape repair_shape) }
 {
-    let arguments = vec![in alloc;
+    command(
+        alloc,
+        "repair",
+        "Makes the missing shares of a cap's file again, stores them, and prints how many servers \
+hold shares of their own.",
+        repair_arguments(alloc)?,
+    )
+}
+
+fn repair_arguments<'a>(alloc: Global) -> Result<Vec<Arg<'a>>, AllocError>
+    ensures { IfOk result (λ arguments. HaveRules repair_rules arguments.items) }
+{
+    Ok(vec![in alloc;
         verify_cap(alloc),
         grid_folder(alloc),
         happy(alloc),
@@ -198,20 +230,25 @@ fn repair_command<'a>(alloc: Global) -> Result<Command<'a>, AllocError>
         no_sync(alloc),
         mend(alloc),
         verbose(alloc),
-    ]?;
-    command(
-        alloc,
-        "repair",
-        "Makes the missing shares of a cap's file again, stores them, and prints how many servers \
-hold shares of their own.",
-        arguments,
-    )
+    ]?)
 }
 
 fn scrub_command<'a>(alloc: Global) -> Result<Command<'a>, AllocError>
     ensures { IfOk result (HasShape scrub_shape) }
 {
-    let arguments = vec![in alloc;
+    command(
+        alloc,
+        "scrub",
+        "Reads every closed share of every server folder and compares it with the digest in its \
+name. Prints those that are damaged, and open files that nobody wrote to for 600 seconds.",
+        scrub_arguments(alloc)?,
+    )
+}
+
+fn scrub_arguments<'a>(alloc: Global) -> Result<Vec<Arg<'a>>, AllocError>
+    ensures { IfOk result (λ arguments. HaveRules scrub_rules arguments.items) }
+{
+    Ok(vec![in alloc;
         grid_folder(alloc),
         flag(
             alloc,
@@ -225,14 +262,7 @@ fn scrub_command<'a>(alloc: Global) -> Result<Command<'a>, AllocError>
         ),
         json(alloc),
         verbose(alloc),
-    ]?;
-    command(
-        alloc,
-        "scrub",
-        "Reads every closed share of every server folder and compares it with the digest in its \
-name. Prints those that are damaged, and open files that nobody wrote to for 600 seconds.",
-        arguments,
-    )
+    ]?)
 }
 
 fn world_command<'a>(alloc: Global) -> Result<Command<'a>, AllocError>

@@ -1,0 +1,14 @@
+use Rattle.std.proofs.Common.{List, codes, drop, take}
+use Rattle.std.proofs.lemmas.Result.{IfOk-weaker}
+use Rattle.clap.specs.Walk.{Rule}
+use Rattle.grid_words.specs.Builds.{HasShape}
+use Rattle.grid_words.specs.CommandLine.{put_rules, shape}
+use Rattle.grid_words.proofs.Added.{added_all}
+use Rattle.grid_words.proofs.commands.put_command.Goals as goal
+
+pub returns : goal.returns
+returns c =
+    let first : List Rule = take 7 put_rules in
+    let is : HasShape (shape (codes "put") first) c.in_ok-command.command =
+    c.in_ok-command.ensures first c.in_ok-coding_arguments.ensures in
+    IfOk-weaker c.args-2.result _ _ (λ r adds. added_all _ r _ (drop 7 put_rules) (shape (codes "put") first) adds c.in_ok-storing_arguments.ensures is) c.args-2.ensures
