@@ -5,6 +5,7 @@ ghost use Rattle.std.specs.Prelude.{◌≤◌};
 
 use download_parts::Nodes;
 use download_segments::Handout;
+use proved_parts::EvidencePart;
 use share_verify::geometry_of;
 use std::alloc::{AllocError, Global};
 use std::test::Fail;
@@ -92,45 +93,74 @@ pub(crate) fn hand_out(
 
 #[test]
 fn pieces_are_decrypted(rt: HostRuntime) -> Result<(), Fail> {
-    let mut handout = handout(rt.alloc(), 50, 250)?;
-    assert!(rt; hand_out(rt.alloc(), &mut handout, 200)? == None);
+    let alloc = rt.alloc();
+    let mut handout = handout(alloc, 50, 250)?;
+    assert!(rt; hand_out(alloc, &mut handout, 200)? == None);
     assert!(rt; handout.take_nodes(&LEAVES, &CIPHERTEXT_LEAVES) == Ok(()));
-    assert!(rt; hand_out(rt.alloc(), &mut handout, 201)? == Some(false));
-    for byte in 200..203u8 {
-        assert!(rt; !handout.is_complete());
-        assert!(rt;
-            hand_out(rt.alloc(), &mut handout, byte)? == Some(true),
-            "{byte}"
-        );
-    }
-    assert!(rt; handout.is_complete() && handout.next() == None);
-    let mut made = Vec::new(rt.alloc());
-    for offset in [50, 100, 200] {
-        let Some(piece) = handout.take() else {
-            panic!(rt; "piece");
-        };
-        assert!(rt; piece.offset == offset);
-        made.extend_from_slice(piece.bytes.as_slice())?;
-    }
+    assert!(rt; hand_out(alloc, &mut handout, 201)? == Some(false));
+    assert!(rt; hands_out_all(alloc, &mut handout)?);
+    let made = pieces_at(alloc, &mut handout, &[50, 100, 200])?;
+    assert!(rt; made.is_some_and(|made| made.as_slice() == PLAIN.as_slice()));
     assert!(rt; handout.take().is_none());
-    assert!(rt; made.as_slice() == PLAIN.as_slice());
     Ok(())
+}
+
+// Whether it hands out the three segments, and is complete with the last.
+fn hands_out_all(alloc: Global, handout: &mut Handout) -> Result<bool, AllocError> {
+    for byte in 200..203u8 {
+        if handout.is_complete() || hand_out(alloc, handout, byte)? != Some(true) {
+            return Ok(false);
+        }
+    }
+    Ok(handout.is_complete() && handout.next() == None)
+}
+
+// The bytes of its pieces, where they begin at these offsets.
+fn pieces_at(
+    alloc: Global,
+    handout: &mut Handout,
+    offsets: &[u64],
+) -> Result<Option<Vec<u8>>, AllocError> {
+    let mut made = Vec::new(alloc);
+    for offset in offsets {
+        match handout.take() {
+            Some(piece) if piece.offset == *offset => {
+                made.extend_from_slice(piece.bytes.as_slice())?;
+            }
+            _ => return Ok(None),
+        }
+    }
+    Ok(Some(made))
 }
 
 #[test]
 fn a_segment_has_its_path(rt: HostRuntime) -> Result<(), Fail> {
-    let mut handout = handout(rt.alloc(), 0, 0)?;
+    let alloc = rt.alloc();
+    let mut handout = handout(alloc, 0, 0)?;
     assert!(rt; handout.is_complete() && handout.next() == None);
     assert!(rt; handout.take_nodes(&LEAVES, &CIPHERTEXT_LEAVES) == Ok(()));
-    assert!(rt; handout.geometry().segment_count() == 3);
-    let other = vec![in rt.alloc(); 201u8; 100]?;
-    assert!(rt; handout.part_of(2, other)?.is_none());
-    let segment = vec![in rt.alloc(); 202u8; 100]?;
-    let Some(part) = handout.part_of(2, segment)? else {
-        panic!(rt; "part");
-    };
-    let path = part.path.as_slice();
-    assert!(rt; part.number == 2 && path.len() == 2);
-    assert!(rt; path[0].as_slice() == &PATH[..32] && path[1].as_slice() == &PATH[32..]);
+    assert!(rt; last_part(alloc, &handout, 201)?.is_none());
+    assert!(rt; last_part(alloc, &handout, 202)?.is_some_and(|part| has_last_path(&part)));
     Ok(())
+}
+
+// What segment 2 is proved by, where each byte of it is this one. `None` where it is not proved.
+fn last_part(
+    alloc: Global,
+    handout: &Handout,
+    byte: u8,
+) -> Result<Option<EvidencePart>, AllocError> {
+    if handout.geometry().segment_count() != 3 {
+        return Ok(None);
+    }
+    handout.part_of(2, vec![in alloc; byte; 100]?)
+}
+
+// Whether a part is segment 2 with its path.
+fn has_last_path(part: &EvidencePart) -> bool {
+    let path = part.path.as_slice();
+    part.number == 2
+        && path.len() == 2
+        && path[0].as_slice() == &PATH[..32]
+        && path[1].as_slice() == &PATH[32..]
 }

@@ -114,16 +114,18 @@ fn segments_lead_to_the_root(rt: HostRuntime) -> Result<(), Fail> {
     assert!(rt; trees.path(2)?.is_none());
     let taken = take_ciphertext_nodes(rt.alloc(), &mut trees, &LEAVES, &CIPHERTEXT_LEAVES);
     assert!(rt; taken == Ok(()));
-    let Some(leaf) = trees.leaf(2) else {
-        panic!(rt; "leaf");
-    };
-    assert!(rt; leaf.as_slice() == &CIPHERTEXT_LEAVES[64..]);
-    let Some(path) = trees.path(2)? else {
-        panic!(rt; "path");
-    };
-    assert!(rt; path.len() == 2);
-    assert!(rt; path[0].as_slice() == &PATH[..32] && path[1].as_slice() == &PATH[32..]);
+    assert!(rt;
+        trees
+            .leaf(2)
+            .is_some_and(|leaf| leaf.as_slice() == &CIPHERTEXT_LEAVES[64..])
+    );
+    assert!(rt; trees.path(2)?.is_some_and(|path| is_last_path(&path)));
     Ok(())
+}
+
+// Whether this is the path of segment 2.
+fn is_last_path(path: &[[u8; 32]]) -> bool {
+    path.len() == 2 && path[0].as_slice() == &PATH[..32] && path[1].as_slice() == &PATH[32..]
 }
 
 // A tree refuses the nodes of the other, and share hashes of another share.

@@ -185,12 +185,23 @@ fn refuses_changed(alloc: Global, ueb: &Ueb, number: u16, share: &[u8]) -> Optio
     let mut trees = FileTrees::new(alloc, ueb, &geometry).ok()?;
     let hashes = part_of(share, plan.read(&Part::ShareHashes));
     let mut tree = take_hashes(alloc, &mut trees, &geometry, number, hashes).ok()?;
+    refuses_changed_pieces(alloc, &mut trees, &mut tree, &plan, share)
+}
+
+// The same of these trees and of each piece of the plan.
+fn refuses_changed_pieces(
+    alloc: Global,
+    trees: &mut FileTrees,
+    tree: &mut BlockTree,
+    plan: &Plan,
+    share: &[u8],
+) -> Option<bool> {
     let mut right = true;
     for level in 0..plan.level_count() {
         for index in 0..plan.piece_count(level) {
             let piece = NodePiece { level, index };
-            right &= refuses_changed_block_nodes(alloc, &mut tree, &plan, &piece, share)?;
-            right &= refuses_changed_nodes(alloc, &mut trees, &plan, &piece, share)?;
+            right &= refuses_changed_block_nodes(alloc, tree, plan, &piece, share)?;
+            right &= refuses_changed_nodes(alloc, trees, plan, &piece, share)?;
         }
     }
     Some(right)

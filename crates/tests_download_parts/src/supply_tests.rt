@@ -1,5 +1,7 @@
 // What a supply is asked for.
 
+ghost use Rattle.download_supply.specs.Asking.{IsWithin};
+
 use crate::plan_tests::{COUNTS, Count};
 use download_parts::{Part, Plan};
 use download_supply::{Supply, Wanted};
@@ -69,18 +71,29 @@ fn a_later_supply_begins_with_its_own_block(rt: HostRuntime) -> Result<(), Fail>
     let geometry = Geometry::of(131_074, 3, 10, 131_072)?;
     assert!(rt; geometry.segment_count() == 2);
     let plan = Plan::of(&geometry, 0, 2);
-    let first = Supply::new(rt.alloc(), &plan, 0);
-    assert!(rt; first.block_offset(0) == 0);
-    assert!(rt; first.block_offset(1) == 0);
-    assert!(rt; !first.is_ready(1));
+    assert!(rt; begins_at_the_front(&Supply::new(rt.alloc(), &plan, 0)));
     let mut later = Supply::new(rt.alloc(), &plan, 1);
     assert!(rt; later.block_offset(1) == 0);
     assert!(rt; later.wanted(rt.alloc(), 0)?.is_empty());
-    let wanted = later.wanted(rt.alloc(), 1)?;
-    assert!(rt; wanted.len() == 3);
-    assert!(rt; wanted[0].part == Part::ShareHashes && wanted[0].read.length == 170);
-    assert!(rt; wanted[1].read.length == 64);
-    assert!(rt; wanted[2].part == Part::Data(0));
-    assert!(rt; wanted[2].read.offset == 43_727 && wanted[2].read.length == 1);
+    assert!(rt; are_for_the_last_block(&later.wanted(rt.alloc(), 1)?));
     Ok(())
+}
+
+// Whether no block of the supply is ready, and both begin at its front.
+fn begins_at_the_front(supply: &Supply) -> bool
+    requires first { IsWithin supply.now 0 }
+    requires second { IsWithin supply.now 1 }
+{
+    supply.block_offset(0) == 0 && supply.block_offset(1) == 0 && !supply.is_ready(1)
+}
+
+// Whether these are the share hashes, two nodes and the one byte of block 1.
+fn are_for_the_last_block(wanted: &[Wanted]) -> bool {
+    wanted.len() == 3
+        && wanted[0].part == Part::ShareHashes
+        && wanted[0].read.length == 170
+        && wanted[1].read.length == 64
+        && wanted[2].part == Part::Data(0)
+        && wanted[2].read.offset == 43_727
+        && wanted[2].read.length == 1
 }
