@@ -143,12 +143,27 @@ where
         let mut watched = Watched::new(download, Writing::new(&mut *progress, &count));
         let carried = self.nodes.run(&mut watched);
         let download = watched.into_operation();
+        let offset = span.from.saturating_add(count.get());
+        self.conclude(servers, &download, carried, offset, progress)
+    }
+
+    // How a download ended that was carried as far as it goes, and wrote the bytes up to this
+    // offset.
+    fn conclude<W, E>(
+        &mut self,
+        servers: &[NodeId],
+        download: &WritingDownload<W>,
+        carried: Result<(), LoopError>,
+        offset: u64,
+        progress: &mut Progress<'_, R, E>,
+    ) -> Result<Tried, Failure>
+    where
+        W: Write,
+        E: Write + IsTerminal,
+    {
         self.compare(download.extension_block())?;
         self.suspect(servers, download.blamed(), progress)?;
-        reached(
-            end_of(carried, &download),
-            span.from.saturating_add(count.get()),
-        )
+        reached(end_of(carried, download), offset)
     }
 
     // Compares the extension block of a span with that of the spans before. Both have the hash that
