@@ -1,5 +1,5 @@
 -- What proves the first part that waits of a reader is known.
-use Rattle.std.proofs.Common.{◌≡◌, ℕ, ◌-◌, ◌<◌, List, ◌∷◌, Some, refl, subst, sym, ◌∙◌}
+use Rattle.std.proofs.Common.{◌≡◌, ℕ, ◌-◌, ◌<◌, List, Some, refl, subst}
 use Rattle.std.specs.Prelude.{slice_get}
 use Rattle.share_layout.specs.Geometry.{Geometry}
 use Rattle.download_parts.specs.PlanLaws.{piece_over}
@@ -14,7 +14,7 @@ use Rattle.download_supply.specs.Upper.{HasOverPassed, UpperComeFirst}
 use Rattle.download_supply.proofs.UpperLemmas.{due_is_proved, over_proves}
 use Rattle.download_file.specs.Laws.{FirstPartsAreProved}
 use Rattle.download_file.specs.Right.{IsFile}
-use Rattle.download_file.specs.State.{FileState, IsLive, ReaderState, giver, waiting_parts}
+use Rattle.download_file.specs.State.{FileState, ReaderState, giver, waiting_parts}
 use Rattle.download_file.specs.Taking.{KnowsProof}
 use Rattle.download_file.specs.declared.reader.Waiting.{Waiting}
 use Rattle.download_file.proofs.TakeLemmas.{gives_if, is_due}

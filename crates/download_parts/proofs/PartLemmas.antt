@@ -21,7 +21,7 @@ use Rattle.download_parts.specs.declared.part.Nodes.{Nodes}
 use Rattle.download_parts.specs.declared.part.Part.{Part}
 use Rattle.download_parts.specs.declared.part.Part.TheVariants.{ShareHashes, BlockTree, CiphertextTree, Data}
 use Rattle.download_parts.proofs.RunLemmas.{piece_before, piece_begin, piece_from, piece_low, piece_of, piece_rest, piece_rises, piece_steps, pieces_few, reads_some, rise, rises, run_from, run_most, run_room, run_some, short}
-use Rattle.download_parts.proofs.NumberLemmas.{below_ceil, ceil_most, div_le, end_inside, end_multiple, first_below_end, first_multiple, group_begins, group_of, group_within, holds_group, piece_begins, pieces_below, reads_above, row_high, rows_rise}
+use Rattle.download_parts.proofs.NumberLemmas.{below_ceil, ceil_most, div_le, end_inside, end_multiple, first_below_end, first_multiple, group_begins, group_of, group_within, holds_group, piece_begins, reads_above, row_high, rows_rise}
 
 -- headers and shares are not long
 header_short : (l : Layout) → header_size l ≤ 68

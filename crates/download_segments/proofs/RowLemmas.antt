@@ -1,5 +1,5 @@
 -- Eight segments in a row, handed out one after another.
-use Rattle.std.proofs.Common.{◌≡◌, ℕ, zero, suc, ◌+◌, ◌-◌, ◌*◌, ◌/◌, ◌<◌, ◌≤◌, All, Bool, true, List, [], ◌∷◌, ◌++◌, map, Some, None, length, min, get_or, refl, ap, subst, sym, ◌∙◌, add-mul, arith}
+use Rattle.std.proofs.Common.{◌≡◌, ℕ, zero, suc, ◌+◌, ◌-◌, ◌*◌, ◌/◌, ◌<◌, ◌≤◌, All, Bool, true, List, [], ◌∷◌, ◌++◌, map, Some, None, length, get_or, refl, ap, subst, sym, ◌∙◌, add-mul, arith}
 use Rattle.std.specs.Prelude.{if◌then◌else◌, nat_lt}
 use Rattle.std.specs.Int.{div_ceil}
 use Rattle.std.proofs.lemmas.Bool.{lt-ltb}
@@ -10,7 +10,7 @@ use Rattle.share_layout.specs.Geometry.{Geometry, segment_count}
 use Rattle.share_layout.specs.Pieces.{segment_length}
 use Rattle.download_parts.proofs.NumberLemmas.{below_ceil}
 use Rattle.download_parts.specs.Trees.{FileTreesState, known_leaf}
-use Rattle.download_segments.specs.Handout.{IsRowWanted, ProvesRow, first_handed_out, handed_out, next_end, next_segment}
+use Rattle.download_segments.specs.Handout.{IsRowWanted, ProvesRow, first_handed_out, next_end, next_segment}
 use Rattle.download_segments.specs.State.{HandoutState, IsHandout, ProvesSegment}
 use Rattle.download_segments.proofs.HandoutLemmas.{next_follows, next_is, next_within, right_handed, valid_of}
 use Rattle.download_segments.proofs.KnownLemmas.{known_segment}

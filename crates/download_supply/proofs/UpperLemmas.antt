@@ -1,5 +1,5 @@
 -- The pieces of a tree come after the pieces over them, which prove them.
-use Rattle.std.proofs.Common.{◌≡◌, ℕ, ◌+◌, ◌-◌, ◌*◌, ◌/◌, ◌^◌, ◌<◌, ◌≤◌, min, List, [], ◌∷◌, ◌++◌, Option, Some, IfSome, is_some, true, ap, subst, sym, ◌∙◌, inl, inr, arith}
+use Rattle.std.proofs.Common.{◌≡◌, ℕ, ◌+◌, ◌-◌, ◌/◌, ◌^◌, ◌<◌, ◌≤◌, min, List, [], ◌∷◌, ◌++◌, Option, IfSome, is_some, true, ap, subst, sym, ◌∙◌, inl, inr, arith}
 use Rattle.std.specs.Prelude.{Contains, slice_set}
 use Rattle.std.proofs.Math.Nat.{div-eq_of_lt}
 use Rattle.std.proofs.lemmas.Bool.{cases_lt}
@@ -10,8 +10,8 @@ use Rattle.merkle.specs.Partial.{PartialState, known_at}
 use Rattle.merkle.specs.Tree.{node_number}
 use Rattle.share_layout.specs.Geometry.{Geometry, segment_count}
 use Rattle.download_parts.specs.PlanLaws.{piece_over}
-use Rattle.download_parts.specs.Level.{level_count, row_of, tree_height}
-use Rattle.download_parts.specs.Plan.{IsAmong, IsNodePiece, nodes_of}
+use Rattle.download_parts.specs.Level.{row_of, tree_height}
+use Rattle.download_parts.specs.Plan.{IsNodePiece, nodes_of}
 use Rattle.download_parts.specs.Range.{IsRange}
 use Rattle.download_parts.specs.declared.part.NodePiece.{NodePiece}
 use Rattle.download_parts.specs.declared.part.Part.{Part}

@@ -1,8 +1,8 @@
 -- A share that is judged as it is read.
-use Rattle.std.proofs.Common.{◌≡◌, ℕ, ◌+◌, ◌*◌, ◌<◌, ◌≤◌, List, [], ◌∷◌, ◌++◌, length, take, drop, get_or, Option, Some, None, Result, Ok, Err, OnOk, MatchResult, ap, refl, sym, subst, ◌∙◌, append_assoc, length-append, arith}
+use Rattle.std.proofs.Common.{◌≡◌, ℕ, ◌+◌, ◌*◌, ◌<◌, ◌≤◌, List, [], ◌∷◌, ◌++◌, length, get_or, Option, Some, None, Result, Ok, Err, OnOk, MatchResult, ap, refl, sym, subst, ◌∙◌, append_assoc, length-append, arith}
 use Rattle.std.proofs.lemmas.List.{append-nil, length-drop, take_all}
 use Rattle.std.proofs.lemmas.List.Concat.{flat_map-append}
-use Rattle.std.proofs.lemmas.Option.{none-some, same_Some}
+use Rattle.std.proofs.lemmas.Option.{none-some}
 use Rattle.cap_text.specs.Cap.{VerifyCapValue}
 use Rattle.ueb.specs.Shape.{Contents}
 use Rattle.share_layout.specs.Geometry.{Geometry, block_size}
@@ -12,7 +12,7 @@ use Rattle.share_layout.specs.Layout.{header, header_size, layout_of, number_in,
 use Rattle.share_layout.specs.Offsets.{number_at}
 use Rattle.share_layout.specs.Reading.{HasHeader}
 use Rattle.share_layout.proofs.LayoutLemmas.{length-header, spelled_again}
-use Rattle.share_verify.specs.CapBlock.{IsUebFor, geometry_by}
+use Rattle.share_verify.specs.CapBlock.{geometry_by}
 use Rattle.share_verify.specs.Checks.{check_of}
 use Rattle.share_verify.specs.Judging.{HasTaken, IsWhole, between_size, share_with}
 use Rattle.share_verify.specs.Verify.{IsFirstFault, IsSoundShare}

@@ -1,5 +1,5 @@
 -- What holds of a world goes on holding: where a server goes on, where more is sent, and where operations go on or begin.
-use Rattle.std.proofs.Common.{◌≡◌, ℕ, ◌+◌, ◌<◌, ◌≤◌, List, [], ◌∷◌, ◌++◌, true, false, length, Some, None, Contains, refl, sym, subst, ap, ◌∙◌, inl, inr, ◌⊎◌, arith}
+use Rattle.std.proofs.Common.{◌≡◌, ℕ, ◌+◌, ◌<◌, ◌≤◌, List, [], ◌∷◌, ◌++◌, true, false, length, Some, None, Contains, refl, sym, subst, ap, ◌∙◌, inl, inr, arith}
 use Rattle.std.specs.Prelude.{slice_get, slice_set, option_map}
 use Rattle.std.specs.List.{range_with_len}
 use Rattle.std.proofs.lemmas.List.{append_assoc, length-append}
@@ -20,7 +20,6 @@ use Rattle.share_store.specs.declared.shelf.ClosedShare.{ClosedShare}
 use Rattle.server_core.specs.ServerState.{ServerState}
 use Rattle.server_core.specs.Sound.{ClosedStay, IsAnswer, IsSound, Tells, is_request}
 use Rattle.world_operations.specs.declared.job.Job.{Job}
-use Rattle.world_operations.specs.declared.job.Job.TheVariants.{Upload, Changing, Download, Check, Repair, NoRepair}
 use Rattle.world_operations.specs.declared.message.Sent.{Sent}
 use Rattle.world_operations.specs.declared.operation.Operation.{Operation}
 use Rattle.world_operations.specs.declared.task.Task.{Task}
@@ -29,7 +28,7 @@ use Rattle.all_asked.specs.Asked.{AsksAll}
 use Rattle.enough_binding.specs.Servers.{TellsAll}
 use Rattle.world_operations.specs.Asked.{HasAsked}
 use Rattle.request_record.specs.Follow.{Said}
-use Rattle.world_operations.specs.Follow.{GoesOn, IsFrameOf, IsNewTask, IsRequestBy, IsSameOperation, Moves, SendsSome}
+use Rattle.world_operations.specs.Follow.{GoesOn, IsFrameOf, IsNewTask, IsRequestBy, IsSameOperation, Moves}
 use Rattle.world_operations.specs.Given.{AreGivenBy}
 use Rattle.world_operations.specs.Jobs.{IsFor}
 use Rattle.world_operations.specs.Moves.{sent_to}

@@ -15,7 +15,7 @@ use Rattle.server_core.specs.Sound.{is_request}
 use Rattle.upload_core.specs.Sending as upload_sends
 use Rattle.world_operations.specs.declared.message.Sent.{Sent}
 use Rattle.world_operations.specs.declared.task.Task.{Task}
-use Rattle.world_operations.specs.declared.task.Task.TheVariants.{Uploading, Downloading, Checking, Gone}
+use Rattle.world_operations.specs.declared.task.Task.TheVariants.{Uploading, Downloading, Checking}
 use Rattle.world_operations.specs.Tasks.{index_of, requests_of}
 use Rattle.world_operations.specs.Moves.{Takes, sent_to}
 use Rattle.world_operations.specs.UploadPieces.{fails, gives}

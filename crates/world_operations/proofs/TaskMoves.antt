@@ -1,5 +1,5 @@
 -- How a machine goes on: what it is for stays, its record goes on, and each frame that it sends is of one of its requests.
-use Rattle.std.proofs.Common.{◌≡◌, ◌≢◌, ℕ, List, [], ◌∷◌, Option, Some, None, Result, Ok, Err, OnOk, OnErr, IsOk, true≢false, refl, sym, subst, ap, ◌∙◌, inl, inr, ◌⊎◌}
+use Rattle.std.proofs.Common.{◌≡◌, ◌≢◌, ℕ, List, Option, Some, None, Result, Ok, Err, OnOk, OnErr, IsOk, true≢false, refl, sym, subst, ap, ◌∙◌, inl, inr, ◌⊎◌}
 use Rattle.cap_text.specs.Cap.{ReadCapValue, VerifyCapValue, verify_cap_of}
 use Rattle.placement.specs.Matching.{Pair}
 use Rattle.wire.specs.declared.message.Body.{Body}
@@ -32,7 +32,7 @@ use Rattle.world_operations.specs.declared.job.Job.{Job}
 use Rattle.world_operations.specs.declared.job.Job.TheVariants as jobs
 use Rattle.world_operations.specs.declared.task.Task.{Task}
 use Rattle.world_operations.specs.declared.task.Task.TheVariants.{Uploading, Downloading, Checking, Gone}
-use Rattle.world_operations.specs.Tasks.{IsHappyTask, requests_of}
+use Rattle.world_operations.specs.Tasks.{requests_of}
 use Rattle.world_operations.specs.Jobs.{IsFor}
 use Rattle.world_operations.specs.Moves.{Calls, Takes, TakesPiece}
 use Rattle.world_operations.specs.UploadPieces.{fails, gives}

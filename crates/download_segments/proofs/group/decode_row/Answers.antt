@@ -1,4 +1,4 @@
-use Rattle.std.proofs.Common.{◌≡◌, ◌+◌, ◌*◌, ◌<◌, ◌++◌, ◌∷◌, [], ℕ, List, Vec, Global, length, length-append, map, ap, subst, sym, ◌∙◌, arith}
+use Rattle.std.proofs.Common.{◌≡◌, ◌+◌, ◌++◌, ◌∷◌, [], ℕ, List, Vec, Global, length, length-append, map, ap, subst, sym, ◌∙◌, arith}
 use Rattle.proved_parts.specs.Decoding.{DecodesBlocks}
 use Rattle.download_segments.specs.Decoding.{DecodingState, blocks_in}
 use Rattle.download_segments.proofs.group.decode_row.Goals as goal

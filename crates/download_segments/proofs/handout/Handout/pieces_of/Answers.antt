@@ -1,4 +1,4 @@
-use Rattle.std.proofs.Common.{◌≡◌, ◌++◌, ◌+◌, ◌-◌, ◌%◌, ◌<◌, ◌≤◌, ℕ, suc, List, [], ◌∷◌, Some, Vec, Global, length, map, take, drop, get_or, ap, subst, sym, ◌∙◌, arith, append_assoc, length-append, rules}
+use Rattle.std.proofs.Common.{◌≡◌, ◌++◌, ◌+◌, ◌-◌, ◌%◌, ◌<◌, ◌≤◌, ℕ, suc, List, [], ◌∷◌, Some, Vec, Global, length, map, take, drop, get_or, ap, subst, sym, ◌∙◌, arith, append_assoc, length-append}
 use Rattle.std.proofs.lemmas.List.{append-nil}
 use Rattle.aes_ctr.specs.CounterMode.{xored_from}
 use Rattle.download_segments.specs.Handout.{IsRowWanted, ProvesRow, first_handed_out, handed_out, next_end, next_piece, next_segment}

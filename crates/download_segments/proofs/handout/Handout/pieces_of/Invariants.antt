@@ -1,6 +1,5 @@
-use Rattle.std.proofs.Common.{◌≡◌, ◌++◌, ◌≤◌, ℕ, map, length}
+use Rattle.std.proofs.Common.{◌≡◌, ◌++◌, map, length}
 use Rattle.download_segments.specs.Handout.{first_handed_out}
-use Rattle.download_segments.specs.State.{HandoutState}
 use Rattle.download_segments.proofs.handout.Handout.pieces_of.Given as goal
 
 abbrev pub invariant-loop-segment : goal.invariant-loop-segment

@@ -2,9 +2,9 @@ use Rattle.std.proofs.Common.{◌≡◌, ◌+◌, ◌<◌, ℕ, inl, inr, List, 
 use Rattle.std.proofs.lemmas.Bool.{cases_lt, true≢false}
 use Rattle.tagged_hash.specs.TaggedHash.{tagged_hash}
 use Rattle.tagged_hash.specs.declared.tag.Tag.TheVariants.{CiphertextSegment}
-use Rattle.share_layout.specs.Geometry.{Geometry, segment_count}
+use Rattle.share_layout.specs.Geometry.{segment_count}
 use Rattle.download_parts.specs.Trees.{known_leaf}
-use Rattle.download_segments.specs.State.{HandoutState, IsHandout, ProvesSegment}
+use Rattle.download_segments.specs.State.{IsHandout, ProvesSegment}
 use Rattle.download_segments.proofs.HandoutLemmas.{valid_of}
 use Rattle.download_segments.proofs.RowLemmas.{nth_map, row_length, row_there}
 use Rattle.download_segments.proofs.handout.Handout.proves_row.Goals as goal

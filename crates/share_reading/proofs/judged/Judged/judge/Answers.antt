@@ -1,6 +1,5 @@
-use Rattle.std.proofs.Common.{◌≡◌, ◌∙◌, List, ℕ, ◌++◌, Some, ap, sym, subst}
+use Rattle.std.proofs.Common.{◌≡◌, ◌∙◌, List, ℕ, ◌++◌, sym, subst}
 use Rattle.std.proofs.lemmas.Option.{same_Some}
-use Rattle.ueb.specs.Shape.{Contents}
 use Rattle.share_verify.specs.Judging.{HasTaken, share_with}
 use Rattle.share_verify.specs.declared.judging.Judging.{Judging}
 use Rattle.share_reading.proofs.JudgedLemmas.{judged_by, whole_of}
