@@ -109,6 +109,29 @@ fn listed(rt: &HostRuntime, store: &mut FolderStore<HostRuntime>) -> Result<usiz
     Ok(store.list(rt.alloc(), &INDEX)?.as_slice().len())
 }
 
+// Whether the shares are read, and the folder under the name of a share is passed over once all are
+// listed.
+fn reads_and_lists(
+    rt: &HostRuntime,
+    store: &mut FolderStore<HostRuntime>,
+) -> Result<bool, StoreError> {
+    for call in PARTS {
+        if !gives(rt.alloc(), store, call)? {
+            return Ok(false);
+        }
+    }
+    let was_told = store.closed(&share(INDEX, 6)).is_some();
+    let count = listed(rt, store)?;
+    Ok(was_told && count == 2 && store.closed(&share(INDEX, 6)).is_none() && store.failures() == 0)
+}
+
+// Whether another store fails where it is to read that folder.
+fn fails_at_the_folder(rt: &HostRuntime) -> Result<bool, StoreError> {
+    let mut store = open_for(rt, Purpose::Reading)?;
+    let read = gives(rt.alloc(), &mut store, Call::Read(INDEX, 6, 0, 9, b""));
+    Ok(read == Err(StoreError::StoreFault) && store.failures() == 1)
+}
+
 // A store that is opened for reading looks at no file before its share is asked for: then a folder
 // under the name of a share is passed over. It has no room.
 #[test]
@@ -118,16 +141,8 @@ fn a_store_for_reading(rt: HostRuntime) -> Result<(), Fail> {
     fill(&rt)?;
     let mut store = open_for(&rt, Purpose::Reading)?;
     assert_eq!(rt; store.used(), u64::MAX);
-    for call in PARTS {
-        assert!(rt; gives(rt.alloc(), &mut store, call) == Ok(true));
-    }
-    assert!(rt; store.closed(&share(INDEX, 6)).is_some());
-    assert_eq!(rt; listed(&rt, &mut store)?, 2);
-    assert!(rt; store.closed(&share(INDEX, 6)).is_none());
-    assert_eq!(rt; store.failures(), 0);
-    let mut other = open_for(&rt, Purpose::Reading)?;
-    let read = gives(rt.alloc(), &mut other, Call::Read(INDEX, 6, 0, 9, b""));
-    assert!(rt; read == Err(StoreError::StoreFault) && other.failures() == 1);
+    assert!(rt; reads_and_lists(&rt, &mut store)?);
+    assert!(rt; fails_at_the_folder(&rt)?);
     remove(&rt)?;
     Ok(())
 }

@@ -414,6 +414,18 @@ fn fails(rt: &HostRuntime, store: &mut FolderStore<HostRuntime>, call: Call, num
     gives(rt.alloc(), store, call) == Err(StoreError::StoreFault) && store.failures() == number
 }
 
+// Whether a read fails where the file at this path is gone, and where it is too short.
+fn fails_to_read(
+    rt: &HostRuntime,
+    store: &mut FolderStore<HostRuntime>,
+    closed: &str,
+) -> io::Result<bool> {
+    fs::remove_file(rt, closed)?;
+    let gone = fails(rt, store, Call::Read(INDEX, 0, 0, 9, b"\x01\x02"), 1);
+    fs::write(rt, closed, [1u8].as_slice())?;
+    Ok(gone && fails(rt, store, Call::Read(INDEX, 0, 0, 9, b"\x01\x02"), 2))
+}
+
 // A closed file that is gone, one that is too short, a path that is no folder, and a folder that is
 // gone.
 #[test]
@@ -422,10 +434,7 @@ fn folder_fails(rt: HostRuntime) -> Result<(), Fail> {
     let mut store = open(&rt)?;
     assert_eq!(rt; right_calls(rt.alloc(), &mut store, &ONE_SHARE), 2);
     let closed = file(&rt, ".0.", SEVENS)?;
-    fs::remove_file(&rt, closed.as_str())?;
-    assert!(rt; fails(&rt, &mut store, Call::Read(INDEX, 0, 0, 9, b"\x01\x02"), 1));
-    fs::write(&rt, closed.as_str(), [1u8].as_slice())?;
-    assert!(rt; fails(&rt, &mut store, Call::Read(INDEX, 0, 0, 9, b"\x01\x02"), 2));
+    assert!(rt; fails_to_read(&rt, &mut store, closed.as_str())?);
     let outcome = FolderStore::open(&rt, closed.as_str(), WRITING);
     assert!(rt; matches!(&outcome, Err(StoreError::StoreFault)));
     remove(&rt)?;

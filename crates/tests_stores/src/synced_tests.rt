@@ -208,6 +208,20 @@ fn closes_one<'a>(
 
 static CLOSE: [Step; 3] = [Step::SyncFile, Step::Rename, Step::SyncFolder];
 
+// Whether each step comes in its order where a share with bytes is closed, and one without.
+fn closes_in_order<'a>(
+    rt: &HostRuntime,
+    steps: &Steps,
+    store: &mut FolderStore<NotedFiles<'a>>,
+) -> Result<bool, StoreError> {
+    Ok(
+        closes_one(rt, store, 3)?
+            && steps.were(&CLOSE)
+            && gives(rt.alloc(), store, Call::Close(INDEX, 4, 7))?
+            && steps.were(&CLOSE),
+    )
+}
+
 // The name of the folder above is put on the disk before the folder is made, and then its own. Of a
 // share first the bytes are put there, and its name once it is renamed. What stands in the folder
 // counts once its name and those in it are there.
@@ -217,8 +231,7 @@ fn bytes_come_before_names(rt: HostRuntime) -> Result<(), Fail> {
     let steps = Steps::new(rt.alloc());
     let mut store = open_noted(&rt, &steps, Purpose::Writing(Durability::Synced))?;
     assert!(rt; steps.were(&[Step::SyncFolder, Step::SyncFolder]));
-    assert!(rt; closes_one(&rt, &mut store, 3)? && steps.were(&CLOSE));
-    assert!(rt; gives(rt.alloc(), &mut store, Call::Close(INDEX, 4, 7))? && steps.were(&CLOSE));
+    assert!(rt; closes_in_order(&rt, &steps, &mut store)?);
     drop(open_noted(&rt, &steps, Purpose::Writing(Durability::Synced))?);
     assert!(rt; steps.were(&[Step::SyncFolder, Step::SyncFolder]));
     remove(&rt)?;
@@ -306,20 +319,31 @@ static FAILURES: [(Step, bool, bool); 3] = [
 fn fails_and_closes(rt: &HostRuntime, failure: (Step, bool, bool)) -> Result<bool, Fail> {
     let (failing, stands, closes_again) = failure;
     remove(rt)?;
+    let closed = file(rt, ".3.", SEVENS)?;
     let steps = Steps::new(rt.alloc());
     let mut store = open_noted(rt, &steps, Purpose::Writing(Durability::Synced))?;
     steps.failing.set(Some(failing));
     let first = closes_one(rt, &mut store, 3);
-    let closed = file(rt, ".3.", SEVENS)?;
-    let has_name = fs::exists(rt, closed.as_str())?;
     steps.failing.set(None);
-    let again = gives(rt.alloc(), &mut store, Call::Close(INDEX, 3, 7));
-    if first != Err(StoreError::StoreFault) || has_name != stands || again.is_ok() != closes_again {
-        return Ok(false);
-    }
     Ok(
-        (closes_again || closes_one(rt, &mut store, 3)?)
-            && fs::read(rt, closed.as_str())?.as_slice() == b"\x01\x02\x03".as_slice(),
+        first == Err(StoreError::StoreFault)
+            && fs::exists(rt, closed.as_str())? == stands
+            && closes_later(rt, &mut store, closes_again, closed.as_str())?,
+    )
+}
+
+// Whether the share is closed now, or not before it is begun anew, and has its bytes.
+fn closes_later<'a>(
+    rt: &HostRuntime,
+    store: &mut FolderStore<NotedFiles<'a>>,
+    closes_again: bool,
+    closed: &str,
+) -> Result<bool, Fail> {
+    let again = gives(rt.alloc(), store, Call::Close(INDEX, 3, 7));
+    Ok(
+        again.is_ok() == closes_again
+            && (closes_again || closes_one(rt, store, 3)?)
+            && fs::read(rt, closed)?.as_slice() == b"\x01\x02\x03".as_slice(),
     )
 }
 
