@@ -418,19 +418,22 @@ fn good_shares_are_handed_out(rt: HostRuntime) {
             };
             assert!(rt; is_expected, "check {i}");
         }
-        assert!(rt; hands_nothing_out(rt.alloc(), encoded) == Some(true));
+        assert!(rt; hands_nothing_out_at_first(rt.alloc(), encoded) == Some(true));
+        assert!(rt; hands_nothing_out_unkept(rt.alloc(), encoded) == Some(true));
     }
 }
 
-// Whether a check that runs hands nothing out, nor one that is done and keeps no bytes of shares.
-fn hands_nothing_out(alloc: Global, encoded: &Encoded) -> Option<bool> {
+// Whether a check that runs hands nothing out.
+fn hands_nothing_out_at_first(alloc: Global, encoded: &Encoded) -> Option<bool> {
     let running = begun(alloc, encoded, true)?;
+    Some(running.good_shares(alloc).ok()?.is_none())
+}
+
+// Whether a check that is done and keeps no bytes of shares hands nothing out.
+fn hands_nothing_out_unkept(alloc: Global, encoded: &Encoded) -> Option<bool> {
     let done = ended(alloc, encoded, Wrong::Nothing, false)?;
-    Some(
-        running.good_shares(alloc).ok()?.is_none()
-            && done.status() == CheckStatus::Done
-            && done.good_shares(alloc).ok()?.is_none(),
-    )
+    let is_none = done.good_shares(alloc).ok()?.is_none();
+    Some(done.status() == CheckStatus::Done && is_none)
 }
 
 // How many shares are read at once, at first and once the extension block of one is read.
@@ -451,12 +454,18 @@ fn shares_are_read_at_once(rt: HostRuntime) {
 fn sent_in_round(alloc: Global, encoded: &Encoded, rounds: usize) -> Option<usize> {
     let mut check = begun(alloc, encoded, false)?;
     for _ in 0..rounds {
-        for (node, request) in &taken(alloc, &mut check)? {
-            let message = answer(alloc, encoded, Wrong::Nothing, *node, request)??;
-            check.on_message(*node, message, 0).ok()?;
-        }
+        answer_all(alloc, encoded, &mut check)?;
     }
     Some(taken(alloc, &mut check)?.len())
+}
+
+// Each request that the check has to send is answered.
+fn answer_all(alloc: Global, encoded: &Encoded, check: &mut Check) -> Option<()> {
+    for (node, request) in &taken(alloc, check)? {
+        let message = answer(alloc, encoded, Wrong::Nothing, *node, request)??;
+        check.on_message(*node, message, 0).ok()?;
+    }
+    Some(())
 }
 
 // All requests that a check has to send.
@@ -483,14 +492,13 @@ fn a_check_without_servers_is_done(rt: HostRuntime) {
 fn without_servers(alloc: Global) -> Option<bool> {
     let cap = verify_cap(&encoded(alloc)?)?;
     let check = Check::start_keeping(alloc, cap, &[], 5, 0).ok()?;
+    let tells_none = tells_none(alloc, &check)?;
+    Some(check.status() == CheckStatus::Done && !check.has_outgoing() && tells_none)
+}
+
+// Whether a check that is done found no share, and hands none out.
+fn tells_none(alloc: Global, check: &Check) -> Option<bool> {
     let report = check.report(alloc).ok()??;
-    let shares = check.good_shares(alloc).ok()??;
-    Some(
-        check.status() == CheckStatus::Done
-            && !check.has_outgoing()
-            && !report.healthy
-            && !report.recoverable
-            && report.happiness == 0
-            && shares.is_empty(),
-    )
+    let is_without = !report.healthy && !report.recoverable && report.happiness == 0;
+    Some(is_without && check.good_shares(alloc).ok()??.is_empty())
 }

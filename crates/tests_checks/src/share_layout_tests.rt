@@ -56,23 +56,32 @@ fn geometries_have_their_sizes(rt: HostRuntime) -> Result<(), Fail> {
         assert!(rt;
             (geometry.size(), geometry.needed(), geometry.total()) == (size, needed, total)
         );
-        let [segment, segments, tail, block, tail_block] = sizes;
-        assert!(rt; geometry.segment_size() == segment, "at {size}");
-        assert!(rt; geometry.segment_count() == segments, "at {size}");
-        assert!(rt; geometry.tail_length() == tail, "at {size}");
-        assert!(rt; geometry.block_size() == block, "at {size}");
-        assert!(rt; geometry.tail_block_size() == tail_block, "at {size}");
-        assert!(rt;
-            geometry.share_data_size() == u64::from(numbers[2]),
-            "at {size}"
-        );
-        let mut header = [0; 68];
-        assert!(rt; geometry.header(&mut header) == 36, "at {size}");
-        for i in 0..9 {
-            assert!(rt; header.get(4 * i..4 * i + 4) == Some(&numbers[i].to_be_bytes()[..]));
-        }
+        assert!(rt; has_sizes(&geometry, sizes), "at {size}");
+        assert!(rt; has_numbers(&geometry, &numbers), "at {size}");
     }
     Ok(())
+}
+
+// Whether these are the sizes of its segments, their count, and the sizes of its last segment, of
+// its blocks and of the last block.
+fn has_sizes(geometry: &Geometry, sizes: [u32; 5]) -> bool {
+    let [segment, segments, tail, block, tail_block] = sizes;
+    geometry.segment_size() == segment
+        && geometry.segment_count() == segments
+        && geometry.tail_length() == tail
+        && geometry.block_size() == block
+        && geometry.tail_block_size() == tail_block
+}
+
+// Whether the header of its shares has these numbers, the third of which is the data's size.
+fn has_numbers(geometry: &Geometry, numbers: &[u32; 9]) -> bool {
+    let mut header = [0; 68];
+    let length = geometry.header(&mut header);
+    length == 36
+        && geometry.share_data_size() == u64::from(numbers[2])
+        && (0..9usize).all(|i| {
+            header.get(4 * i..4 * i + 4) == Some(&numbers[i].to_be_bytes()[..])
+        })
 }
 
 #[test]
