@@ -10,20 +10,19 @@
 # there is one.
 cd "$(dirname "$0")/.." || exit 2
 
-# Lines that may: a sum or a place that does not fit 64 bits counts as one too many for the memory,
+# Lines that may: a sum or an offset that does not fit 64 bits counts as one too many for the memory,
 # a machine or a world that ended without memory is told so, and so is an error of the command line.
 allowed=$(cat <<'END'
 share_store/src/memory.rt:return Err(StoreError::OutOfMemory);
 request_record/src/entries.rt:return Err(AllocError);
 download_file/src/reader.rt:return Err(AllocError);
-grid_rules/src/ending.rt:UploadStatus::Failed(_) => Err(Fault::OutOfMemory),
 grid_rules/src/ending.rt:DownloadStatus::Failed => Err(Fault::OutOfMemory),
 grid_rules/src/fault.rt:return Fault::OutOfMemory;
-grid_commands/src/check.rt:client.report(rt.alloc())?.ok_or(Fault::OutOfMemory)
+grid_commands/src/check.rt:check.report(rt.alloc())?.ok_or(Fault::OutOfMemory)
 grid_commands/src/lib.rt:_ => report(alloc, err, &Fault::OutOfMemory, false),
-grid_commands/src/repair.rt:client.good_shares(alloc)?.ok_or(Fault::OutOfMemory)
+grid_commands/src/repair.rt:check.good_shares(alloc)?.ok_or(Fault::OutOfMemory)
 grid_commands/src/scrub.rt:return Err(Failure::Fault(Fault::OutOfMemory));
-upload_core/src/course.rt:*status = UploadStatus::Failed(PieceFault::OutOfMemory);
+upload_core/src/ending.rt:*status = UploadStatus::Failed(PieceFault::OutOfMemory);
 world/src/world.rt:Err(WorldError::OutOfMemory)
 END
 )
