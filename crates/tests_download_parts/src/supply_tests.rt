@@ -79,7 +79,7 @@ fn a_later_supply_begins_with_its_own_block(rt: HostRuntime) -> Result<(), Fail>
     Ok(())
 }
 
-// Whether no block of the supply is ready, and both begin at its front.
+// Whether both blocks begin at the front of what is read, and the second is not ready.
 fn begins_at_the_front(supply: &Supply) -> bool
     requires first { IsWithin supply.now 0 }
     requires second { IsWithin supply.now 1 }
