@@ -7,7 +7,7 @@
 use server_core::error::ServerFault;
 use server_core::keeping;
 use server_core::server::Server;
-use share_store::folder::{Durability, FolderStore, Purpose};
+use share_folders::folder::{Durability, FolderStore, Purpose};
 use share_store::memory::MemoryStore;
 use share_store::store::Store;
 use std::alloc::Global;
@@ -288,12 +288,12 @@ fn right_rows_in_folder(rt: &HostRuntime, folder: &str, rows: &[Row]) -> Option<
     Some(rows.len())
 }
 
-// What another server finds in that folder.
+// What another server finds in that folder, of whose room no closed share takes any.
 static FOUND: [Row; 4] = [
     (0, SECOND, Event::Ask, Said::Have(false, 1)),
     (0, SECOND, Event::Read(3, 8, 5), Said::Data(2)),
     (0, SECOND, Event::Allocate(3, 10), Said::Already(DIGEST)),
-    (0, SECOND, Event::Allocate(4, 91), Said::Full),
+    (0, SECOND, Event::Allocate(4, 101), Said::Full),
 ];
 
 #[test]

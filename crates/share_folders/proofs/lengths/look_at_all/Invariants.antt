@@ -1,0 +1,6 @@
+use Rattle.share_folders.specs.Table.{AreSeen, StayBeside, has_index}
+use Rattle.share_folders.proofs.lengths.look_at_all.Given as goal
+
+-- those before this one were looked at, and no others
+abbrev pub invariant-loop-held : goal.invariant-loop-held
+invariant-loop-held g l = AreSeen l.fn.closed.entries l.closed.entries × StayBeside (has_index l.index) l.fn.closed.entries l.closed.entries

@@ -1,0 +1,4 @@
+-- What public contracts rest on.
+pub mod Names
+pub mod Table
+pub mod Folder

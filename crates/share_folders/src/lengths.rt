@@ -1,0 +1,106 @@
+//! The lengths of closed shares, which are asked when a share is asked for.
+
+ghost use Rattle.std.specs.Prelude.{◌≡◌, None, Some, false, true, is_some, IfNone, IfSome};
+ghost use Rattle.std.specs.Prelude.{IsOkUnless, OnErr, OnOk};
+ghost use Rattle.share_store.specs.declared.error.StoreError.{StoreError};
+ghost use Rattle.share_store.specs.Shelf.{ShareKey, at, same_key};
+ghost use Rattle.share_folders.specs.Table.{AreSeen, StayBeside, has_index};
+
+use crate::files::regular_length;
+use crate::names::closed_path;
+use crate::table::KeptShare;
+use share_store::error::StoreError;
+use share_store::shelf::ShareKey;
+use std::collections::BTreeMap;
+use std::rt::Files;
+use wire::message::{Digest, HeldShare, StorageIndex};
+
+/// Asks the length of a closed share, where it is not known. A share whose file is no regular one
+/// is closed no longer.
+pub(crate) fn look_at<R: Files + AllocGlobal>(
+    rt: &R,
+    folder: &str,
+    closed: &mut BTreeMap<ShareKey, KeptShare>,
+    key: &ShareKey,
+) -> Result<(), StoreError>
+    ensures seen { AreSeen closed.old.entries closed.new.entries }
+    ensures others { StayBeside (same_key key.now) closed.old.entries closed.new.entries }
+    ensures known { OnOk result (IfSome (at key.now closed.new.entries)
+        (λ k. is_some k.length ≡ true)) }
+    ensures memory { IsOkUnless result StoreError.OutOfMemory }
+{
+    let Some(digest) = digest_to_look_at(closed, key) else {
+        return Ok(());
+    };
+    let path = closed_path(rt.alloc(), folder, key, &digest)?;
+    match regular_length(rt, path.as_str())? {
+        Some(length) => note_length(closed, key, length, &digest),
+        None => {
+            forget_closed(closed, key);
+            Ok(())
+        }
+    }
+}
+
+/// The same of these shares of one storage index.
+pub(crate) fn look_at_all<R: Files + AllocGlobal>(
+    rt: &R,
+    folder: &str,
+    closed: &mut BTreeMap<ShareKey, KeptShare>,
+    index: &StorageIndex,
+    shares: &[HeldShare],
+) -> Result<(), StoreError>
+    ensures seen { AreSeen closed.old.entries closed.new.entries }
+    ensures others { StayBeside (has_index index.now) closed.old.entries closed.new.entries }
+    ensures memory { IsOkUnless result StoreError.OutOfMemory }
+{
+    for held in shares {
+        look_at(rt, folder, closed, &(*index, held.share))?;
+    }
+    Ok(())
+}
+
+// The digest of a closed share whose length is not known.
+fn digest_to_look_at(closed: &BTreeMap<ShareKey, KeptShare>, key: &ShareKey) -> Option<Digest>
+    ensures known { IfNone result (IfSome (at key.now closed.now.entries)
+        (λ k. is_some k.length ≡ true)) }
+    ensures unknown { IfSome result (λ digest. at key.now closed.now.entries
+        ≡ Some (record { length = None; digest = digest })) }
+{
+    let share = closed.get(key)?;
+    if share.length.is_some() {
+        return None;
+    }
+    Some(share.digest)
+}
+
+// Notes the length of a closed share.
+fn note_length(
+    closed: &mut BTreeMap<ShareKey, KeptShare>,
+    key: &ShareKey,
+    length: u64,
+    digest: &Digest,
+) -> Result<(), StoreError>
+    ensures noted { OnOk result (at key.now closed.new.entries
+        ≡ Some (record { length = Some length; digest = digest.now })) }
+    ensures others { OnOk result ((other : ShareKey) → same_key key.now other ≡ false
+        → at other closed.new.entries ≡ at other closed.old.entries) }
+    ensures err { OnErr result (closed.new.entries ≡ closed.old.entries) }
+    ensures memory { IsOkUnless result StoreError.OutOfMemory }
+{
+    let share = KeptShare {
+        length: Some(length),
+        digest: *digest,
+    };
+    closed.insert(*key, share)?;
+    Ok(())
+}
+
+// Forgets a closed share.
+fn forget_closed(closed: &mut BTreeMap<ShareKey, KeptShare>, key: &ShareKey)
+    ensures gone { at key.now closed.new.entries ≡ None }
+    ensures others { (other : ShareKey) → same_key key.now other ≡ false
+        → at other closed.new.entries ≡ at other closed.old.entries }
+{
+    closed.remove(key);
+}
