@@ -2,10 +2,9 @@
 
 ghost use Rattle.std.specs.Prelude.{◌≡◌, IfOk};
 ghost use Rattle.std.specs.String.{string_bytes};
-ghost use Rattle.grid_rules.specs.ScrubLines.{aside_text, counted, finding_json, finding_line};
-ghost use Rattle.grid_rules.specs.ScrubLines.{finding_object};
-ghost use Rattle.grid_rules.specs.ScrubLines.{last_json, last_line, removed_text, scrub_status};
-ghost use Rattle.grid_rules.specs.ScrubLines.{state_text};
+ghost use Rattle.grid_rules.specs.ScrubLines.{aside_after, aside_text, counted, finding_json};
+ghost use Rattle.grid_rules.specs.ScrubLines.{finding_line, finding_object, last_json, last_line};
+ghost use Rattle.grid_rules.specs.ScrubLines.{removed_text, scrub_status, some_text, state_text};
 
 use crate::fault::Fault;
 use crate::servers::server_name;
@@ -14,12 +13,17 @@ use share_scrub::{Action, Finding, State};
 use std::alloc::{AllocError, Global};
 use wire::message::NodeId;
 
-/// How many closed shares were looked at, and how many of them were damaged or could not be read.
+/// What was found, by how many there are.
 #[derive(Clone, Copy, Debug, PartialEq, Eq)]
 pub struct Scrubbed {
+    /// Closed shares that were looked at, also those that are damaged or could not be read.
     pub shares: u64,
     pub damaged: u64,
     pub unreadable: u64,
+    /// Closed shares' names that are those of something else than a regular file.
+    pub odd: u64,
+    /// Files that were set aside, and still stand.
+    pub aside: u64,
 }
 
 impl Scrubbed {
@@ -28,6 +32,8 @@ impl Scrubbed {
         shares: 0,
         damaged: 0,
         unreadable: 0,
+        odd: 0,
+        aside: 0,
     };
 
     /// Counts a file as it was found.
@@ -44,19 +50,22 @@ impl Scrubbed {
                 self.shares = self.shares.saturating_add(1);
                 self.unreadable = self.unreadable.saturating_add(1);
             }
+            State::Odd => self.odd = self.odd.saturating_add(1),
             State::LeftOpen(..) => {}
+            State::Aside(_, action) => self.aside = aside_after(action, self.aside),
         }
     }
 
-    /// The line of all files. Those that could not be read are told where there are some.
+    /// The line of all files. Those that could not be read, are odd or were set aside are told
+    /// where there are some.
     pub fn line(&self, alloc: Global) -> Result<String, AllocError>
         ensures { IfOk result (λ line. string_bytes line ≡ last_line self.now) }
     {
-        let (shares, damaged, unreadable) = (self.shares, self.damaged, self.unreadable);
-        if unreadable == 0 {
-            return format!(in alloc; "shares {shares} damaged {damaged}\n");
-        }
-        format!(in alloc; "shares {shares} damaged {damaged} unreadable {unreadable}\n")
+        let (shares, damaged) = (self.shares, self.damaged);
+        let unreadable = some_text(alloc, "unreadable", self.unreadable)?;
+        let odd = some_text(alloc, "odd", self.odd)?;
+        let aside = some_text(alloc, "aside", self.aside)?;
+        format!(in alloc; "shares {shares} damaged {damaged}{unreadable}{odd}{aside}\n")
     }
 
     /// The JSON object of all files, in a line.
@@ -64,21 +73,43 @@ impl Scrubbed {
         ensures { IfOk result (λ line. string_bytes line ≡ last_json self.now) }
     {
         let (shares, damaged, unreadable) = (self.shares, self.damaged, self.unreadable);
+        let (odd, aside) = (self.odd, self.aside);
         format!(in alloc;
-            "{{\"shares\":{shares},\"damaged\":{damaged},\"unreadable\":{unreadable}}}\n"
+            "{{\"shares\":{shares},\"damaged\":{damaged},\"unreadable\":{unreadable},\
+             \"odd\":{odd},\"aside\":{aside}}}\n"
         )
     }
 
-    /// The exit status of a scrub: 0 where each share is whole, else 5.
+    /// The exit status of a scrub: 0 where each share is whole and none is odd, else 5.
     pub fn status(&self) -> u8
         ensures { result ≡ scrub_status self.now }
     {
-        if self.damaged == 0 && self.unreadable == 0 {
+        if self.damaged == 0 && self.unreadable == 0 && self.odd == 0 {
             0
         } else {
             5
         }
     }
+}
+
+// How many that were set aside there are with one more, where it still stands.
+fn aside_after(action: &Action, count: u64) -> u64
+    ensures { result ≡ aside_after action.now count }
+{
+    match action {
+        Action::Done => count,
+        Action::Left | Action::Failed(_) => count.saturating_add(1),
+    }
+}
+
+// A count and its word, where there are some.
+fn some_text(alloc: Global, word: &str, count: u64) -> Result<String, AllocError>
+    ensures { IfOk result (λ text. string_bytes text ≡ some_text word.now count) }
+{
+    if count == 0 {
+        return String::from_str(alloc, "");
+    }
+    format!(in alloc; " {word} {count}")
 }
 
 /// The line of a file that was found at a server.
@@ -125,8 +156,12 @@ fn state_text(alloc: Global, state: &State) -> Result<String, AllocError>
         State::Whole => String::from_str(alloc, "whole"),
         State::Damaged(action) => format!(in alloc; "damaged{}", aside_text(action)),
         State::Unreadable(_) => String::from_str(alloc, "unreadable"),
+        State::Odd => String::from_str(alloc, "odd"),
         State::LeftOpen(bytes, action) => {
             format!(in alloc; "open {bytes}{}", removed_text(action))
+        }
+        State::Aside(bytes, action) => {
+            format!(in alloc; "aside {bytes}{}", removed_text(action))
         }
     }
 }
@@ -142,7 +177,7 @@ fn aside_text(action: &Action) -> &'static str
     }
 }
 
-// What became of a file that was left open.
+// What became of a file that was left open or had been set aside.
 fn removed_text(action: &Action) -> &'static str
     ensures { result.now ≡ removed_text action.now }
 {

@@ -1,31 +1,25 @@
 //! The share files of a server's folder, one after the other.
 
-ghost use Rattle.std.specs.Prelude.{◌≡◌, ◌<◌, ◌++◌, ◌∷◌, [], List, length, IfNone, IfOk, IfSome};
-ghost use Rattle.std.specs.Prelude.{IsOkUnless, OnErr};
+ghost use Rattle.std.specs.Prelude.{◌≡◌, ◌++◌, ◌∷◌, [], List, Option, IfNone, IfOk, IfSome};
+ghost use Rattle.std.specs.Prelude.{IsOkUnless, OnErr, None, Some, true};
+ghost use Rattle.std.specs.Bool.{OnTrue};
 ghost use Rattle.share_store.specs.declared.error.StoreError.{StoreError};
+ghost use Rattle.share_store.specs.Shelf.{ShareKey};
 ghost use Rattle.share_scrub.specs.declared.name.ShareFile.{ShareFile};
+ghost use Rattle.share_scrub.specs.Scrub.{IsKeptUnless, whole_after};
 
-use crate::bytes::{Verdict, Watch, check_bytes};
-use crate::name::ShareFile;
+use crate::bytes::{Verdict, Watch};
+use crate::files::{Standing, check_file, is_left_over, set_aside, standing_at};
+use crate::name::{FileKind, ShareFile};
 use share_store::error::StoreError;
-use std::alloc::{AllocError, Global};
-use std::fs::{DirEntry, File, Metadata};
+use share_store::shelf::ShareKey;
+use std::fs::{DirEntry, Metadata};
 use std::io::ErrorKind;
 use std::marker::Model;
 use std::rt::Files;
-use std::time::{Duration, SystemTime};
+use std::time::SystemTime;
 use std::{fs, io};
-use wire::message::{Digest, StorageIndex};
-
-/// After so many seconds without a write an open share is left over: no server writes to it any
-/// more.
-pub const OPEN_SECONDS: u64 = 600;
-
-// How many bytes are read at once.
-const PIECE_SIZE: usize = 65_536;
-
-// The most damaged files of one name that are set aside.
-const MAX_ASIDE: u32 = 99;
+use wire::message::Digest;
 
 /// What is done about the files that are found.
 #[derive(Clone, Copy)]
@@ -35,6 +29,9 @@ pub struct Handling {
     pub set_aside: bool,
     /// Open files that are left over are removed.
     pub remove_open: bool,
+    /// Files that were set aside are removed, where the same share stands closed and whole beside
+    /// them.
+    pub remove_damaged: bool,
     /// The time now.
     pub now: SystemTime,
 }
@@ -42,7 +39,8 @@ pub struct Handling {
 /// What became of a file.
 #[derive(Debug, Drop)]
 pub enum Action {
-    /// Nothing was asked for.
+    /// Nothing was asked for. A file that was set aside is left too where no whole one of its share
+    /// stands beside it.
     Left,
     /// It was set aside, or removed.
     Done,
@@ -59,8 +57,13 @@ pub enum State {
     Damaged(Action),
     /// It could not be read to its end.
     Unreadable(io::Error),
+    /// It has the name of a closed share, and is no regular file: a folder, a link, a pipe. Its
+    /// server does not hold that share.
+    Odd,
     /// Of an open share: it has so many bytes, and nobody wrote to it for 600 seconds.
     LeftOpen(u64, Action),
+    /// Of a closed share, and it was set aside: it has so many bytes.
+    Aside(u64, Action),
 }
 
 /// A file that was looked at.
@@ -77,41 +80,47 @@ pub struct Scrub<R: Files> {
     folder: String,
     // the next one stands last
     left: Vec<ShareFile>,
+    // the share of the last closed file that was whole
+    whole: Option<ShareKey>,
     total: u64,
 }
 
 impl<R: Files> Model for Scrub<R> {
-    ghost use Rattle.std.specs.Prelude.{List};
-    ghost use Rattle.share_scrub.specs.declared.name.ShareFile.{ShareFile};
+    ghost use Rattle.share_scrub.specs.Scrub.{ScrubState};
 
-    ghost Value = { List ShareFile };
+    ghost Value = { ScrubState };
 
-    ghost view = { λ m. m.left.items };
+    ghost view = { λ m. record { left = m.left.items; whole = m.whole } };
 }
 
 impl<R: Files + AllocGlobal + Clone + Drop> Scrub<R> {
-    /// Lists the share files of a folder, or the closed ones of one storage index.
+    /// Lists the share files of a folder.
     ///
     /// An error where the folder cannot be read, or there is no memory.
-    pub fn begin(rt: &R, folder: &str, index: Option<&StorageIndex>) -> io::Result<Scrub<R>> {
+    pub fn begin(rt: &R, folder: &str) -> io::Result<Scrub<R>>
+        ensures { IfOk result (λ scrub. scrub.whole ≡ None) }
+    {
         let alloc = rt.alloc();
         let mut scrub = Scrub {
             rt: rt.clone()?,
             folder: String::from_str(alloc, folder)?,
             left: Vec::new(alloc),
+            whole: None,
             total: 0,
         };
-        scrub.list(index)?;
+        scrub.list()?;
         scrub.left.sort_unstable();
         scrub.left.reverse();
         Ok(scrub)
     }
 
-    // Takes note of the folder's share files that are asked for.
-    fn list(&mut self, index: Option<&StorageIndex>) -> io::Result<()> {
+    // Takes note of the folder's share files.
+    fn list(&mut self) -> io::Result<()>
+        ensures { self.new.whole ≡ self.old.whole }
+    {
         for entry in fs::read_dir(&self.rt, &self.folder)? {
             match entry {
-                Ok(entry) => self.note(&entry, index)?,
+                Ok(entry) => self.note(&entry)?,
                 Err(error) if error.kind() == ErrorKind::InvalidFilename => {}
                 Err(error) => return Err(error),
             }
@@ -119,15 +128,14 @@ impl<R: Files + AllocGlobal + Clone + Drop> Scrub<R> {
         Ok(())
     }
 
-    // Takes note of a share's file, where it is asked for.
-    fn note(&mut self, entry: &DirEntry<R>, index: Option<&StorageIndex>) -> io::Result<()> {
+    // Takes note of a share's file.
+    fn note(&mut self, entry: &DirEntry<R>) -> io::Result<()>
+        ensures { self.new.whole ≡ self.old.whole }
+    {
         let Some(file) = ShareFile::read(entry.file_name().as_bytes()) else {
             return Ok(());
         };
-        if index.is_some_and(|index| file.key.0 != *index || file.digest.is_none()) {
-            return Ok(());
-        }
-        if file.digest.is_some() {
+        if matches!(file.kind, FileKind::Closed(_)) {
             let length = entry.metadata().map_or(0, |found| found.len());
             self.total = self.total.saturating_add(length);
         }
@@ -140,9 +148,10 @@ impl<R: Files + AllocGlobal + Clone + Drop> Scrub<R> {
         self.total
     }
 
-    /// Looks at the next files, until there is something to tell of one: of each closed share, and
-    /// of open files that are left over. What is no regular file is passed over, and so is one that
-    /// is gone. `None` at the end.
+    /// Looks at the next files, until there is something to tell of one: of each closed share, of
+    /// each file that was set aside, and of open files that are left over. What is gone is passed
+    /// over, and so is what has the name of another than a closed share and is no regular file.
+    /// `None` at the end.
     ///
     /// An error leaves the file out at which it came.
     pub fn next<W: Watch>(
@@ -150,14 +159,22 @@ impl<R: Files + AllocGlobal + Clone + Drop> Scrub<R> {
         handling: &Handling,
         watch: &mut W,
     ) -> Result<Option<Finding>, StoreError>
-        ensures some { IfOk result (λ found. IfSome found (λ finding.
-            (passed : List ShareFile) × (self.old ≡ self.new ++ finding.file ∷ passed))) }
-        ensures none { IfOk result (λ found. IfNone found (self.new ≡ [])) }
-        ensures err { OnErr result ((passed : List ShareFile) × (self.old ≡ self.new ++ passed)) }
+        ensures some { IfOk result (λ found. IfSome found (λ finding. (passed : List ShareFile)
+            × (self.old.left ≡ self.new.left ++ finding.file ∷ passed))) }
+        ensures none { IfOk result (λ found. IfNone found (self.new.left ≡ [])) }
+        ensures err { OnErr result
+            ((passed : List ShareFile) × (self.old.left ≡ self.new.left ++ passed)) }
+        ensures whole { IfOk result (λ found. IfSome found (λ finding.
+            self.new.whole ≡ whole_after finding.file.key finding.state self.old.whole)) }
+        ensures kept { IfOk result (λ found. IfSome found (λ finding.
+            IsKeptUnless self.old.whole finding.file.key finding.state)) }
         ensures memory { IsOkUnless result StoreError.OutOfMemory }
     {
         while let Some(file) = self.left.pop() {
             if let Some(state) = self.state_of(&file, handling, watch)? {
+                if matches!(state, State::Whole) {
+                    self.whole = Some(file.key);
+                }
                 return Ok(Some(Finding { file, state }));
             }
         }
@@ -171,99 +188,81 @@ impl<R: Files + AllocGlobal + Clone + Drop> Scrub<R> {
         handling: &Handling,
         watch: &mut W,
     ) -> Result<Option<State>, StoreError>
+        ensures kept { IfOk result (λ found. IfSome found (λ state.
+            IsKeptUnless self.now.whole file.now.key state)) }
         ensures memory { IsOkUnless result StoreError.OutOfMemory }
     {
-        let alloc = self.rt.alloc();
-        let path = file.path(alloc, self.folder.as_str())?;
-        let found = match regular_file(&self.rt, path.as_str()) {
-            Ok(Some(found)) => found,
-            Ok(None) => return Ok(None),
+        let path = file.path(self.rt.alloc(), self.folder.as_str())?;
+        match &file.kind {
+            FileKind::Closed(digest) => {
+                self.closed_state(&file.key, digest, path.as_str(), handling, watch)
+            }
+            FileKind::Open(_) => Ok(open_state(&self.rt, path.as_str(), handling)),
+            FileKind::Aside(..) => {
+                let goes = handling.remove_damaged && self.is_whole(&file.key);
+                Ok(aside_state(&self.rt, path.as_str(), goes))
+            }
+        }
+    }
+
+    // Whether the closed file that was looked at last and was whole is of this share.
+    fn is_whole(&self, key: &ShareKey) -> bool
+        ensures { OnTrue result (self.now.whole ≡ Some key.now) }
+    {
+        match &self.whole {
+            Some(whole) => *whole == *key,
+            None => false,
+        }
+    }
+
+    // How the file of a closed share is found: a damaged one is set aside, where that is asked for.
+    fn closed_state<W: Watch>(
+        &self,
+        key: &ShareKey,
+        digest: &Digest,
+        path: &str,
+        handling: &Handling,
+        watch: &mut W,
+    ) -> Result<Option<State>, StoreError>
+        ensures kept { (whole : Option ShareKey) (key : ShareKey) → IfOk result
+            (λ found. IfSome found (λ state. IsKeptUnless whole key state)) }
+        ensures memory { IsOkUnless result StoreError.OutOfMemory }
+    {
+        match standing_at(&self.rt, path) {
+            Ok(Standing::File(_)) => {}
+            Ok(Standing::Odd) => return Ok(Some(State::Odd)),
+            Ok(Standing::Nothing) => return Ok(None),
             Err(error) => return Ok(Some(State::Unreadable(error))),
-        };
-        match &file.digest {
-            None => Ok(open_state(&self.rt, path.as_str(), &found, handling)),
-            Some(digest) => {
-                let mut buffer = vec![in alloc; 0u8; PIECE_SIZE]?;
-                let verdict = check_file(&self.rt, path.as_str(), digest, &mut buffer, watch);
-                Ok(Some(closed_state(&self.rt, alloc, path.as_str(), verdict, handling)?))
-            }
+        }
+        match check_file(&self.rt, self.rt.alloc(), path, digest, watch)? {
+            Ok(Verdict::Whole) => Ok(Some(State::Whole)),
+            Ok(Verdict::Damaged) if !handling.set_aside => Ok(Some(State::Damaged(Action::Left))),
+            Ok(Verdict::Damaged) => Ok(Some(State::Damaged(self.set_aside(key, digest)?))),
+            Err(error) => Ok(Some(State::Unreadable(error))),
         }
     }
-}
 
-// The regular file at a path; none for what else stands there, and where there is nothing.
-fn regular_file<R: Files>(rt: &R, path: &str) -> io::Result<Option<Metadata>> {
-    match fs::symlink_metadata(rt, path) {
-        Ok(found) => Ok(found.is_file().then_some(found)),
-        Err(error) if error.kind() == ErrorKind::NotFound => Ok(None),
-        Err(error) => Err(error),
+    // Sets the file of a closed share aside.
+    fn set_aside(&self, key: &ShareKey, digest: &Digest) -> Result<Action, StoreError>
+        ensures memory { IsOkUnless result StoreError.OutOfMemory }
+    {
+        let folder = self.folder.as_str();
+        let outcome = set_aside(&self.rt, self.rt.alloc(), folder, key, digest)?;
+        Ok(action_of(outcome))
     }
-}
-
-// Whether the bytes of the file at a path have this digest.
-fn check_file<R: Files, W: Watch>(
-    rt: &R,
-    path: &str,
-    digest: &Digest,
-    buffer: &mut [u8],
-    watch: &mut W,
-) -> io::Result<Verdict>
-    requires { 0 < length buffer.old }
-{
-    let mut file = File::open(rt, path)?;
-    check_bytes(&mut file, digest, buffer, watch)
-}
-
-// How a closed share is found by its verdict: a damaged one is set aside, where that is asked for.
-fn closed_state<R: Files>(
-    rt: &R,
-    alloc: Global,
-    path: &str,
-    verdict: io::Result<Verdict>,
-    handling: &Handling,
-) -> Result<State, StoreError>
-    ensures memory { IsOkUnless result StoreError.OutOfMemory }
-{
-    match verdict {
-        Ok(Verdict::Whole) => Ok(State::Whole),
-        Ok(Verdict::Damaged) if !handling.set_aside => Ok(State::Damaged(Action::Left)),
-        Ok(Verdict::Damaged) => Ok(State::Damaged(set_aside(rt, alloc, path)?)),
-        Err(error) => Ok(State::Unreadable(error)),
-    }
-}
-
-// Gives the file at a path the first name for damaged ones that is free.
-fn set_aside<R: Files>(rt: &R, alloc: Global, path: &str) -> Result<Action, StoreError>
-    ensures memory { IsOkUnless result StoreError.OutOfMemory }
-{
-    for number in 1..=MAX_ASIDE {
-        let aside = aside_path(alloc, path, number)?;
-        match fs::symlink_metadata(rt, aside.as_str()) {
-            Ok(_) => {}
-            Err(error) if error.kind() == ErrorKind::NotFound => {
-                return Ok(action_of(fs::rename(rt, path, aside.as_str())));
-            }
-            Err(error) => return Ok(Action::Failed(error)),
-        }
-    }
-    Ok(Action::Failed(io::Error::from(ErrorKind::AlreadyExists)))
-}
-
-fn aside_path(alloc: Global, path: &str, number: u32) -> Result<String, AllocError> {
-    if number == 1 {
-        return format!(in alloc; "{path}.damaged");
-    }
-    format!(in alloc; "{path}.damaged.{number}")
 }
 
 // How an open share's file is found, where nobody writes to it any more.
-fn open_state<R: Files>(
-    rt: &R,
-    path: &str,
-    found: &Metadata,
-    handling: &Handling,
-) -> Option<State> {
-    if !is_left_over(found, handling.now) {
+fn open_state<R: Files>(rt: &R, path: &str, handling: &Handling) -> Option<State>
+    ensures { (whole : Option ShareKey) (key : ShareKey) → IfSome result
+        (λ state. IsKeptUnless whole key state) }
+{
+    let found = match standing_at(rt, path) {
+        Ok(Standing::File(found)) => found,
+        Ok(Standing::Odd | Standing::Nothing) => return None,
+        Err(error) => return Some(State::Unreadable(error)),
+    };
+    if !is_left_over(&found, handling.now) {
         return None;
     }
     let action = if handling.remove_open {
@@ -274,15 +273,22 @@ fn open_state<R: Files>(
     Some(State::LeftOpen(found.len(), action))
 }
 
-// Whether nobody wrote to a file for so long that nobody will.
-fn is_left_over(found: &Metadata, now: SystemTime) -> bool {
-    let Ok(written) = found.modified() else {
-        return false;
+// How a file that was set aside is found, and it is removed where it is to go. It is no share, so
+// one that cannot be asked is passed over.
+fn aside_state<R: Files>(rt: &R, path: &str, goes: bool) -> Option<State>
+    ensures { (whole : Option ShareKey) (key : ShareKey) → (goes ≡ true → whole ≡ Some key)
+        → IfSome result (λ state. IsKeptUnless whole key state) }
+{
+    let found = match standing_at(rt, path) {
+        Ok(Standing::File(found)) => found,
+        Ok(Standing::Odd | Standing::Nothing) | Err(_) => return None,
     };
-    match now.duration_since(written) {
-        Ok(age) => age >= Duration::from_secs(OPEN_SECONDS),
-        Err(_) => false,
-    }
+    let action = if goes {
+        action_of(fs::remove_file(rt, path))
+    } else {
+        Action::Left
+    };
+    Some(State::Aside(found.len(), action))
 }
 
 fn action_of(outcome: io::Result<()>) -> Action {

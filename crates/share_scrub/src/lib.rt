@@ -1,13 +1,17 @@
 //! The server's half of a check, which needs no cap: the closed shares of a folder are read, and
-//! each is compared with the digest in its name.
+//! each is compared with the digest in its name. And what stands in the way of shares that are put.
 #![tactic(auto)]
 
 mod bytes;
+mod files;
 mod folder;
 mod mending;
 mod name;
 
 pub use bytes::{Verdict, Watch, check_bytes};
-pub use folder::{Action, Finding, Handling, OPEN_SECONDS, Scrub, State};
-pub use mending::{Mended, mend};
-pub use name::ShareFile;
+pub use files::OPEN_SECONDS;
+pub use folder::{Action, Finding, Handling, Scrub, State};
+pub use mending::{
+    Claim, Cleared, Fate, LeftShare, Outcome, Wanted, clear_way, fate_of, fate_read,
+};
+pub use name::{FileKind, ShareFile};

@@ -1,25 +1,50 @@
 //! The share files of a folder, by their names.
 
-ghost use Rattle.std.specs.Prelude.{◌≡◌, ◌≢◌, ℕ, List, IfNone, IfSome, IsOkUnless, IfOk};
+ghost use Rattle.std.specs.Prelude.{◌≡◌, ◌≢◌, ◌≤◌, ◌<◌, ◌++◌, ℕ, List, codes, decimal, length};
+ghost use Rattle.std.specs.Prelude.{Option, IfNone, IfSome, IsSome, IsSomeAnd, IsOkUnless, IfOk};
 ghost use Rattle.std.specs.String.{string_bytes};
 ghost use Rattle.share_store.specs.declared.error.StoreError.{StoreError};
-ghost use Rattle.share_store.specs.Names.{IsNamed, IsShareKey, closed_name, in_folder, open_name};
+ghost use Rattle.share_folders.specs.Names.{IsNamed, IsOpenNamed, closed_name, in_folder};
+ghost use Rattle.share_folders.specs.Names.{open_name};
 ghost use Rattle.share_store.specs.Shelf.{ShareKey};
-ghost use Rattle.share_scrub.specs.Name.{file_name};
+ghost use Rattle.share_scrub.specs.Name.{IsAsideNumber, aside_end, aside_name, file_name};
 
+use share_folders::names::{ClosedName, OpenName, OwnToken, closed_path, open_path};
 use share_store::error::StoreError;
-use share_store::names::{ClosedName, closed_path, open_path, read_open_name};
 use share_store::shelf::ShareKey;
 use std::alloc::Global;
+use tagged_hash::read_decimal;
 use wire::message::Digest;
 
-/// The file of a share in a server's folder. Files are ordered by the keys of their shares.
+/// The most files of one closed name that are set aside.
+pub(crate) const MAX_ASIDE: u8 = 99;
+
+// What stands behind the closed name of a file that is set aside.
+const ASIDE: &[u8] = b".damaged";
+
+// And before the number of each but the first.
+const NUMBERED: &[u8] = b".damaged.";
+
+/// The file of a share in a server's folder. Files are ordered by the keys of their shares, and
+/// those of one key by their kinds.
 #[derive(Clone, Copy, Debug, PartialEq, Eq, PartialOrd, Ord)]
 pub struct ShareFile {
     /// The storage index and the number of the share.
     pub key: ShareKey,
-    /// The digest that the share was closed with; an open share has none.
-    pub digest: Option<Digest>,
+    pub kind: FileKind,
+}
+
+/// What a share's file is by its name. Closed ones come first, and those set aside last.
+#[derive(Clone, Copy, Debug, PartialEq, Eq, PartialOrd, Ord)]
+pub enum FileKind {
+    /// A closed share's, with the digest that it was closed with.
+    Closed(Digest),
+    /// An open share's, with the 16 bytes that only its writer has; names as earlier versions made
+    /// them have none.
+    Open(Option<OwnToken>),
+    /// A closed share's that was set aside: the digest in its name, and which of that name it is,
+    /// from 1 to 99.
+    Aside(Digest, u8),
 }
 
 impl ShareFile {
@@ -28,19 +53,24 @@ impl ShareFile {
         ensures value { IfSome result (λ file. name.now ≡ file_name file) }
         ensures closed { (key : ShareKey) (digest : List ℕ) → IsNamed key digest
             → IfNone result (name.now ≢ closed_name key digest) }
-        ensures open { (key : ShareKey) → IsShareKey key
-            → IfNone result (name.now ≢ open_name key) }
+        ensures open { (key : ShareKey) (own : Option (List ℕ)) → IsOpenNamed key own
+            → IfNone result (name.now ≢ open_name key own) }
+        ensures aside { (key : ShareKey) (digest : List ℕ) (number : ℕ) → IsNamed key digest
+            → IsAsideNumber number → IfNone result (name.now ≢ aside_name key digest number) }
     {
-        match ClosedName::read(name) {
-            Some(closed) => Some(ShareFile {
+        if let Some(closed) = ClosedName::read(name) {
+            return Some(ShareFile {
                 key: closed.key,
-                digest: Some(closed.digest),
-            }),
-            None => Some(ShareFile {
-                key: read_open_name(name)?,
-                digest: None,
-            }),
+                kind: FileKind::Closed(closed.digest),
+            });
         }
+        if let Some(open) = OpenName::read(name) {
+            return Some(ShareFile {
+                key: open.key,
+                kind: FileKind::Open(open.own),
+            });
+        }
+        read_aside(name)
     }
 
     /// The file's path.
@@ -49,9 +79,122 @@ impl ShareFile {
             (λ path. string_bytes path ≡ in_folder folder.now (file_name self.now)) }
         ensures memory { IsOkUnless result StoreError.OutOfMemory }
     {
-        match &self.digest {
-            Some(digest) => closed_path(alloc, folder, &self.key, digest),
-            None => open_path(alloc, folder, &self.key),
+        match &self.kind {
+            FileKind::Closed(digest) => closed_path(alloc, folder, &self.key, digest),
+            FileKind::Open(own) => open_file_path(alloc, folder, &self.key, *own),
+            FileKind::Aside(digest, number) => {
+                aside_path(alloc, folder, &self.key, digest, *number)
+            }
         }
     }
+}
+
+// The path of an open share's file.
+fn open_file_path(
+    alloc: Global,
+    folder: &str,
+    key: &ShareKey,
+    own: Option<OwnToken>,
+) -> Result<String, StoreError>
+    ensures path { IfOk result
+        (λ path. string_bytes path ≡ in_folder folder.now (open_name key.now own)) }
+    ensures memory { IsOkUnless result StoreError.OutOfMemory }
+{
+    open_path(alloc, folder, &OpenName { key: *key, own })
+}
+
+/// The path of a closed share's file that is set aside, by its number.
+pub(crate) fn aside_path(
+    alloc: Global,
+    folder: &str,
+    key: &ShareKey,
+    digest: &Digest,
+    number: u8,
+) -> Result<String, StoreError>
+    ensures path { IfOk result (λ path.
+        string_bytes path ≡ in_folder folder.now (aside_name key.now digest.now number)) }
+    ensures memory { IsOkUnless result StoreError.OutOfMemory }
+{
+    let closed = closed_path(alloc, folder, key, digest)?;
+    if number == 1 {
+        return Ok(format!(in alloc; "{closed}.damaged")?);
+    }
+    Ok(format!(in alloc; "{closed}.damaged.{number}")?)
+}
+
+// The file that is set aside under this name. Numbers have one digit or two.
+fn read_aside(name: &[u8]) -> Option<ShareFile>
+    ensures value { IfSome result (λ file. name.now ≡ file_name file) }
+    ensures only { (key : ShareKey) (digest : List ℕ) (number : ℕ) → IsNamed key digest
+        → IsAsideNumber number → name.now ≡ aside_name key digest number → IsSome result }
+{
+    if let Some(first) = read_first_aside(name) {
+        return Some(first);
+    }
+    match read_numbered(name, 1) {
+        Some(file) => Some(file),
+        None => read_numbered(name, 2),
+    }
+}
+
+// The first file of its closed name that is set aside.
+fn read_first_aside(name: &[u8]) -> Option<ShareFile>
+    ensures value { IfSome result (λ file. name.now ≡ file_name file) }
+    ensures only { (key : ShareKey) (digest : List ℕ) → IsNamed key digest
+        → name.now ≡ aside_name key digest 1 → IsSome result }
+{
+    aside_file(front_of(name, ASIDE)?, 1)
+}
+
+// One with a number of so many digits.
+fn read_numbered(name: &[u8], digits: usize) -> Option<ShareFile>
+    ensures value { IfSome result (λ file. name.now ≡ file_name file) }
+    ensures only { (key : ShareKey) (digest : List ℕ) (number : ℕ) → IsNamed key digest
+        → 2 ≤ number → number < 100 → length (decimal number) ≡ digits
+        → name.now ≡ aside_name key digest number → IsSome result }
+{
+    if name.len() < digits {
+        return None;
+    }
+    let (front, text) = name.split_at(name.len() - digits);
+    let number = read_number(text)?;
+    aside_file(front_of(front, NUMBERED)?, number)
+}
+
+// The file with this closed name, and so many of them.
+fn aside_file(closed: &[u8], number: u8) -> Option<ShareFile>
+    ensures value { IfSome result
+        (λ file. file_name file ≡ closed.now ++ aside_end number) }
+    ensures only { (key : ShareKey) (digest : List ℕ) → IsNamed key digest
+        → closed.now ≡ closed_name key digest → IsSome result }
+{
+    let closed = ClosedName::read(closed)?;
+    Some(ShareFile {
+        key: closed.key,
+        kind: FileKind::Aside(closed.digest, number),
+    })
+}
+
+// The number of a file that is set aside and is not the first.
+fn read_number(text: &[u8]) -> Option<u8>
+    ensures value { IfSome result (λ n. (2 ≤ n) × (n < 100) × (text.now ≡ decimal n)) }
+    ensures only { (n : ℕ) → 2 ≤ n → n < 100 → text.now ≡ decimal n → IsSome result }
+{
+    let number = read_decimal(text)?;
+    if number < 2 {
+        return None;
+    }
+    if number > u64::from(MAX_ASIDE) {
+        return None;
+    }
+    Some(number as u8)
+}
+
+// What stands before an end.
+fn front_of<'a>(text: &'a [u8], end: &[u8]) -> Option<&'a [u8]>
+    ensures value { IfSome result (λ front. text.now ≡ front.now ++ end.now) }
+    ensures only { (front : List ℕ) → text.now ≡ front ++ end.now
+        → IsSomeAnd result (λ found. found.now ≡ front) }
+{
+    text.strip_suffix(end)
 }

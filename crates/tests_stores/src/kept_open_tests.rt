@@ -2,11 +2,12 @@
 //! store that is opened for reading.
 
 use crate::share_store_tests::{
-    Call, INDEX, INDEX_TEXT, SEVENS, file, fill, gives, open, open_for, remove, share,
+    Call, INDEX, INDEX_TEXT, SEVENS, WRITING, file, fill, gives, open, open_file, open_for, path,
+    remove, share,
 };
+use share_folders::folder::{FolderStore, Purpose};
+use share_folders::names::{OpenName, OwnToken};
 use share_store::error::StoreError;
-use share_store::folder::{FolderStore, Purpose};
-use share_store::names::read_open_name;
 use share_store::store::Store;
 use std::fs;
 use std::test::Fail;
@@ -33,7 +34,9 @@ static CHANGES: [(Change, bool); 5] = [
 ];
 
 fn make_change(rt: &HostRuntime, change: Change) -> Result<(), Fail> {
-    let path = file(rt, ".3.open", "")?;
+    let Some(path) = open_file(rt)? else {
+        return Err(Fail::new("no open file"));
+    };
     match change {
         Change::Nothing => {}
         Change::Empty => fs::write(rt, path.as_str(), b"".as_slice())?,
@@ -72,12 +75,13 @@ fn changed_files_are_not_closed(rt: HostRuntime) -> Result<(), Fail> {
     Ok(())
 }
 
-// A share that is begun anew has only what is written then, whatever was left of it.
+// A share that is begun anew has only what is written then. What others left of it stays.
 #[test]
 fn shares_begin_anew(rt: HostRuntime) -> Result<(), Fail> {
     remove(&rt)?;
     let mut store = open(&rt)?;
-    fs::write(&rt, file(&rt, ".3.open", "")?.as_str(), b"left".as_slice())?;
+    let left = file(&rt, ".3.open", "")?;
+    fs::write(&rt, left.as_str(), b"left".as_slice())?;
     for call in [
         Call::Write(INDEX, 3, 0, b"\x09\x09"),
         Call::Write(INDEX, 3, 0, b"\x01"),
@@ -89,6 +93,8 @@ fn shares_begin_anew(rt: HostRuntime) -> Result<(), Fail> {
     ] {
         assert!(rt; gives(rt.alloc(), &mut store, call) == Ok(true));
     }
+    assert!(rt; fs::read(&rt, left.as_str())?.as_slice() == b"left".as_slice());
+    assert!(rt; open_file(&rt)?.is_none());
     remove(&rt)?;
     Ok(())
 }
@@ -132,39 +138,81 @@ fn fails_at_the_folder(rt: &HostRuntime) -> Result<bool, StoreError> {
     Ok(read == Err(StoreError::StoreFault) && store.failures() == 1)
 }
 
-// A store that is opened for reading looks at no file before its share is asked for: then a folder
-// under the name of a share is passed over. It has no room.
+// A store looks at no file before its share is asked for: then a folder under the name of a share
+// is passed over. One that is opened for reading takes no shares.
 #[test]
 fn a_store_for_reading(rt: HostRuntime) -> Result<(), Fail> {
     remove(&rt)?;
     drop(open_for(&rt, Purpose::Reading)?);
     fill(&rt)?;
-    let mut store = open_for(&rt, Purpose::Reading)?;
-    assert_eq!(rt; store.used(), u64::MAX);
-    assert!(rt; reads_and_lists(&rt, &mut store)?);
+    for purpose in [Purpose::Reading, WRITING] {
+        let mut store = open_for(&rt, purpose)?;
+        assert!(rt; store.is_readonly() == (purpose == Purpose::Reading));
+        assert!(rt; reads_and_lists(&rt, &mut store)?);
+    }
     assert!(rt; fails_at_the_folder(&rt)?);
     remove(&rt)?;
     Ok(())
 }
 
-// What comes after the index in a name, and the number of the open share that has it.
-static OPEN_NAMES: [(&str, Option<u8>); 8] = [
-    (".0.open", Some(0)),
-    (".255.open", Some(255)),
+// A store that takes no shares, since it was opened for reading or its folder is `readonly`, writes
+// and closes none.
+#[test]
+fn stores_that_take_no_shares(rt: HostRuntime) -> Result<(), Fail> {
+    remove(&rt)?;
+    drop(open(&rt)?);
+    for purpose in [Purpose::Reading, WRITING] {
+        let mut store = open_for(&rt, purpose)?;
+        assert!(rt; store.is_readonly());
+        for call in [Call::Write(INDEX, 3, 0, b"\x01"), Call::Close(INDEX, 3, 7)] {
+            let outcome = gives(rt.alloc(), &mut store, call);
+            assert!(rt; outcome == Err(StoreError::StoreFault));
+        }
+        fs::write(&rt, path(&rt, "/readonly")?.as_str(), b"".as_slice())?;
+    }
+    assert!(rt; open_file(&rt)?.is_none());
+    remove(&rt)?;
+    Ok(())
+}
+
+// What comes after the index in a name, and what an open share that has it is named by.
+static OPEN_NAMES: [(&str, Option<(u8, Option<OwnToken>)>); 16] = [
+    (".0.open", Some((0, None))),
+    (".255.open", Some((255, None))),
+    (".0.aaaqeayeaudaocajbifqydiob4.open", Some((0, Some(INDEX)))),
+    (
+        ".255.aaaqeayeaudaocajbifqydiob4.open",
+        Some((255, Some(INDEX))),
+    ),
+    (
+        ".7.77777777777777777777777774.open",
+        Some((7, Some([255; 16]))),
+    ),
     (".256.open", None),
     (".01.open", None),
     (".1.opem", None),
     (".1.open.damaged", None),
     ("_1.open", None),
     ("", None),
+    (".256.aaaqeayeaudaocajbifqydiob4.open", None),
+    (".7.aaaqeayeaudaocajbifqydiob5.open", None),
+    (".7.AAAQEAYEAUDAOCAJBIFQYDIOB4.open", None),
+    (".7.aaaqeayeaudaocajbifqydiob4", None),
+    (".7.aaaqeayeaudaocajbifqydiob4.open.open", None),
 ];
 
 #[test]
 fn open_names_are_read(rt: HostRuntime) -> Result<(), Fail> {
-    for (rest, number) in OPEN_NAMES {
+    for (rest, wanted) in OPEN_NAMES {
         let name = format!(in rt.alloc(); "{INDEX_TEXT}{rest}")?;
-        let read = read_open_name(name.as_bytes());
-        assert!(rt; read == number.map(|number| (INDEX, number)), "{rest}");
+        match (OpenName::read(name.as_bytes()), wanted) {
+            (None, None) => {}
+            (Some(read), Some((number, own))) => {
+                assert!(rt; read.key == (INDEX, number) && read.own == own, "{rest}");
+                assert!(rt; read.text(rt.alloc())? == name, "{rest}");
+            }
+            _ => assert!(rt; false, "{rest}"),
+        }
     }
     Ok(())
 }

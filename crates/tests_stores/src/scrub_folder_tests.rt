@@ -1,7 +1,11 @@
 //! A server's folder, as it is found.
 
 use crate::scrub_bytes_tests::{Count, EMPTY, THREE};
-use share_scrub::{Action, Finding, Handling, Mended, OPEN_SECONDS, Scrub, ShareFile, State, mend};
+use crate::synced_tests::{NotedFiles, Step, Steps};
+use share_scrub::{
+    Action, Cleared, FileKind, Finding, Handling, OPEN_SECONDS, Scrub, ShareFile, State, Wanted,
+    clear_way,
+};
 use share_store::error::StoreError;
 use std::alloc::AllocError;
 use std::io::ErrorKind;
@@ -20,9 +24,22 @@ fn path(rt: &HostRuntime, rest: &str) -> Result<String, AllocError> {
     format!(in rt.alloc(); "/tmp/scrub-tests-{process}{rest}")
 }
 
-fn file(index: StorageIndex, number: u8, digest: Option<Digest>) -> ShareFile {
+fn file(index: StorageIndex, number: u8, kind: FileKind) -> ShareFile {
     let key = (index, number);
-    ShareFile { key, digest }
+    ShareFile { key, kind }
+}
+
+fn closed(index: StorageIndex, number: u8, digest: Digest) -> ShareFile {
+    file(index, number, FileKind::Closed(digest))
+}
+
+fn open(index: StorageIndex, number: u8) -> ShareFile {
+    file(index, number, FileKind::Open(None))
+}
+
+// The first of its name that is set aside.
+fn aside(index: StorageIndex, number: u8) -> ShareFile {
+    file(index, number, FileKind::Aside(THREE, 1))
 }
 
 // The only fault of a path is that memory is out, and so it is of the next finding.
@@ -66,7 +83,9 @@ enum Found {
     Whole,
     Damaged(Did),
     Unreadable,
+    Odd,
     LeftOpen(u64, Did),
+    Aside(u64, Did),
 }
 
 #[derive(Clone, Copy, Debug, PartialEq, Eq)]
@@ -89,24 +108,59 @@ fn found_as(finding: &Finding) -> (ShareFile, Found) {
         State::Whole => Found::Whole,
         State::Damaged(action) => Found::Damaged(deed_of(action)),
         State::Unreadable(_) => Found::Unreadable,
+        State::Odd => Found::Odd,
         State::LeftOpen(length, action) => Found::LeftOpen(*length, deed_of(action)),
+        State::Aside(length, action) => Found::Aside(*length, deed_of(action)),
     };
     (finding.file, found)
 }
 
-// Whether scrub tells this of the folder, after so many seconds, and this many bytes are read.
+// What is asked of a scrub, and after how many seconds.
+#[derive(Clone, Copy)]
+struct Asked {
+    set_aside: bool,
+    remove_open: bool,
+    remove_damaged: bool,
+    seconds: u64,
+}
+
+const NOTHING: Asked = Asked {
+    set_aside: false,
+    remove_open: false,
+    remove_damaged: false,
+    seconds: 0,
+};
+
+const SET_ASIDE: Asked = Asked {
+    set_aside: true,
+    ..NOTHING
+};
+
+const REMOVE_OPEN: Asked = Asked {
+    remove_open: true,
+    seconds: OPEN_SECONDS + 1,
+    ..NOTHING
+};
+
+const REMOVE_DAMAGED: Asked = Asked {
+    remove_damaged: true,
+    ..NOTHING
+};
+
+// Whether scrub tells this of the folder, and this many bytes are read.
 fn tells(
     rt: &HostRuntime,
-    (set_aside, remove_open, seconds): (bool, bool, u64),
+    asked: Asked,
     rows: &[(ShareFile, Found)],
     bytes: u64,
 ) -> io::Result<bool> {
     let handling = Handling {
-        set_aside,
-        remove_open,
-        now: later(SystemTime::now(rt)?, seconds),
+        set_aside: asked.set_aside,
+        remove_open: asked.remove_open,
+        remove_damaged: asked.remove_damaged,
+        now: later(SystemTime::now(rt)?, asked.seconds),
     };
-    let mut scrub = Scrub::begin(rt, path(rt, "")?.as_str(), None)?;
+    let mut scrub = Scrub::begin(rt, path(rt, "")?.as_str())?;
     let mut count = Count { bytes: 0 };
     for row in rows {
         match as_io(scrub.next(&handling, &mut count))? {
@@ -128,49 +182,64 @@ fn later(time: SystemTime, seconds: u64) -> SystemTime {
 // shares, and open shares.
 fn fill(rt: &HostRuntime) -> io::Result<()> {
     begin(rt)?;
-    make(rt, &file(INDEX, 0, Some(THREE)), b"\x01\x02\x03")?;
-    make(rt, &file(INDEX, 10, Some(THREE)), b"\x01\x02\x02")?;
-    make(rt, &file(INDEX, 2, Some(THREE)), b"")?;
-    make(rt, &file(OTHER_INDEX, 0, Some(EMPTY)), b"")?;
-    make(rt, &file(OTHER_INDEX, 1, Some(THREE)), b"\x03")?;
-    make(rt, &file(INDEX, 3, None), b"\x01\x02\x03\x04\x05")?;
-    fs::create_dir(
-        rt,
-        file_path(rt, &file(INDEX, 4, Some(THREE)), "")?.as_str(),
-    )?;
-    fs::create_dir(rt, file_path(rt, &file(INDEX, 5, None), "")?.as_str())?;
-    let link = file_path(rt, &file(INDEX, 6, Some(THREE)), "")?;
+    make(rt, &closed(INDEX, 0, THREE), b"\x01\x02\x03")?;
+    make(rt, &closed(INDEX, 10, THREE), b"\x01\x02\x02")?;
+    make(rt, &closed(INDEX, 2, THREE), b"")?;
+    make(rt, &closed(OTHER_INDEX, 0, EMPTY), b"")?;
+    make(rt, &closed(OTHER_INDEX, 1, THREE), b"\x03")?;
+    make(rt, &open(INDEX, 3), b"\x01\x02\x03\x04\x05")?;
+    fs::create_dir(rt, file_path(rt, &closed(INDEX, 4, THREE), "")?.as_str())?;
+    fs::create_dir(rt, file_path(rt, &open(INDEX, 5), "")?.as_str())?;
+    let link = file_path(rt, &closed(INDEX, 6, THREE), "")?;
     std::os::unix::fs::symlink(rt, "/dev/zero", link.as_str())?;
     fs::write(rt, path(rt, "/readonly")?.as_str(), b"other".as_slice())?;
     Ok(())
 }
 
 // The rows of that folder, with what is done about damaged shares.
-fn rows_of(damaged: Did) -> [(ShareFile, Found); 5] {
+fn rows_of(damaged: Did) -> [(ShareFile, Found); 7] {
     [
-        (file(INDEX, 0, Some(THREE)), Found::Whole),
-        (file(INDEX, 2, Some(THREE)), Found::Damaged(damaged)),
-        (file(INDEX, 10, Some(THREE)), Found::Damaged(damaged)),
-        (file(OTHER_INDEX, 0, Some(EMPTY)), Found::Whole),
-        (file(OTHER_INDEX, 1, Some(THREE)), Found::Damaged(damaged)),
+        (closed(INDEX, 0, THREE), Found::Whole),
+        (closed(INDEX, 2, THREE), Found::Damaged(damaged)),
+        (closed(INDEX, 4, THREE), Found::Odd),
+        (closed(INDEX, 6, THREE), Found::Odd),
+        (closed(INDEX, 10, THREE), Found::Damaged(damaged)),
+        (closed(OTHER_INDEX, 0, EMPTY), Found::Whole),
+        (closed(OTHER_INDEX, 1, THREE), Found::Damaged(damaged)),
     ]
+}
+
+// Those rows once the damaged shares are set aside.
+fn aside_rows() -> [(ShareFile, Found); 7] {
+    let mut rows = rows_of(Did::Nothing);
+    rows[1] = (aside(INDEX, 2), Found::Aside(0, Did::Nothing));
+    rows[4] = (aside(INDEX, 10), Found::Aside(3, Did::Nothing));
+    rows[6] = (aside(OTHER_INDEX, 1), Found::Aside(1, Did::Nothing));
+    rows
 }
 
 // What is told changes nothing where nothing is asked for. An open file is told after 600 seconds.
 #[test]
 fn folders_are_told(rt: HostRuntime) -> Result<(), Fail> {
     fill(&rt)?;
-    let before = OPEN_SECONDS - 60;
-    assert!(rt; tells(&rt, (false, true, before), &rows_of(Did::Nothing), 7)?);
-    let after = OPEN_SECONDS + 1;
+    let before = Asked {
+        seconds: OPEN_SECONDS - 60,
+        ..REMOVE_OPEN
+    };
     let rows = rows_of(Did::Nothing);
-    let left = (file(INDEX, 3, None), Found::LeftOpen(5, Did::Nothing));
-    let with_open = [rows[0], rows[1], left, rows[2], rows[3], rows[4]];
-    assert!(rt; tells(&rt, (false, false, after), &with_open, 7)?);
-    let removed = (file(INDEX, 3, None), Found::LeftOpen(5, Did::What));
-    let with_removed = [rows[0], rows[1], removed, rows[2], rows[3], rows[4]];
-    assert!(rt; tells(&rt, (false, true, after), &with_removed, 7)?);
-    assert!(rt; tells(&rt, (false, true, after), &rows, 7)?);
+    assert!(rt; tells(&rt, before, &rows, 7)?);
+    let after = Asked {
+        remove_open: false,
+        ..REMOVE_OPEN
+    };
+    let left = (open(INDEX, 3), Found::LeftOpen(5, Did::Nothing));
+    let [zero, two, four, six, ten, other_zero, other_one] = rows;
+    let with_open = [zero, two, left, four, six, ten, other_zero, other_one];
+    assert!(rt; tells(&rt, after, &with_open, 7)?);
+    let removed = (open(INDEX, 3), Found::LeftOpen(5, Did::What));
+    let with_removed = [zero, two, removed, four, six, ten, other_zero, other_one];
+    assert!(rt; tells(&rt, REMOVE_OPEN, &with_removed, 7)?);
+    assert!(rt; tells(&rt, REMOVE_OPEN, &rows, 7)?);
     remove(&rt)?;
     Ok(())
 }
@@ -179,12 +248,15 @@ fn folders_are_told(rt: HostRuntime) -> Result<(), Fail> {
 #[test]
 fn damaged_files_are_set_aside(rt: HostRuntime) -> Result<(), Fail> {
     fill(&rt)?;
-    assert!(rt; tells(&rt, (true, false, 0), &rows_of(Did::What), 7)?);
-    let rows = rows_of(Did::What);
-    assert!(rt; tells(&rt, (true, false, 0), &[rows[0], rows[3]], 3)?);
-    let damaged = file(INDEX, 10, Some(THREE));
+    assert!(rt; tells(&rt, SET_ASIDE, &rows_of(Did::What), 7)?);
+    let rows = aside_rows();
+    assert!(rt; tells(&rt, SET_ASIDE, &rows, 3)?);
+    let damaged = closed(INDEX, 10, THREE);
     make(&rt, &damaged, b"\x09")?;
-    assert!(rt; tells(&rt, (true, false, 0), &[rows[0], rows[2], rows[3]], 4)?);
+    let [zero, two, four, six, ten, other_zero, other_one] = rows;
+    let again = (damaged, Found::Damaged(Did::What));
+    let with_again = [zero, two, four, six, again, ten, other_zero, other_one];
+    assert!(rt; tells(&rt, SET_ASIDE, &with_again, 4)?);
     for (rest, bytes) in [
         (".damaged", b"\x01\x02\x02".as_slice()),
         (".damaged.2", b"\x09"),
@@ -197,41 +269,127 @@ fn damaged_files_are_set_aside(rt: HostRuntime) -> Result<(), Fail> {
     Ok(())
 }
 
-// What becomes of the shares of one storage index.
-fn mended(rt: &HostRuntime, index: &StorageIndex) -> Result<Mended, Fail> {
-    let mut count = Count { bytes: 0 };
-    Ok(mend(rt, path(rt, "")?.as_str(), index, &mut count)?)
+// A file that was set aside is removed only beside a whole one of its share.
+#[test]
+fn aside_files_go_beside_whole_ones(rt: HostRuntime) -> Result<(), Fail> {
+    fill(&rt)?;
+    assert!(rt; tells(&rt, SET_ASIDE, &rows_of(Did::What), 7)?);
+    make(&rt, &closed(INDEX, 2, THREE), b"\x01\x02\x03")?;
+    make(&rt, &closed(OTHER_INDEX, 1, THREE), b"\x02")?;
+    let [zero, _, four, six, ten, other_zero, other_one] = aside_rows();
+    let two = (closed(INDEX, 2, THREE), Found::Whole);
+    let gone = (aside(INDEX, 2), Found::Aside(0, Did::What));
+    let damaged = (closed(OTHER_INDEX, 1, THREE), Found::Damaged(Did::Nothing));
+    let rows = [
+        zero, two, gone, four, six, ten, other_zero, damaged, other_one,
+    ];
+    assert!(rt; tells(&rt, REMOVE_DAMAGED, &rows, 7)?);
+    let rows = [zero, two, four, six, ten, other_zero, damaged, other_one];
+    assert!(rt; tells(&rt, REMOVE_DAMAGED, &rows, 7)?);
+    remove(&rt)?;
+    Ok(())
 }
 
-// One storage index is mended, and the other's shares stay as they are.
-#[test]
-fn one_index_is_mended(rt: HostRuntime) -> Result<(), Fail> {
-    remove(&rt)?;
-    let none = Mended {
-        whole: 0,
-        set_aside: 0,
-        left: 0,
+// Of shares of three bytes one that is whole, a short one, an empty one, one with the digest of
+// another, a damaged one, one whose number has no share, a folder, an open one, and another's.
+fn fill_one_index(rt: &HostRuntime) -> io::Result<()> {
+    begin(rt)?;
+    for (number, digest, bytes) in [
+        (0, THREE, b"\x01\x02\x03".as_slice()),
+        (1, THREE, b"\x03"),
+        (2, THREE, b""),
+        (3, EMPTY, b"\x01\x02\x03"),
+        (4, THREE, b"\x01\x02\x02"),
+        (5, THREE, b"\x01\x02\x03"),
+    ] {
+        make(rt, &closed(INDEX, number, digest), bytes)?;
+    }
+    fs::create_dir(rt, file_path(rt, &closed(INDEX, 6, THREE), "")?.as_str())?;
+    make(rt, &open(INDEX, 7), b"\x01")?;
+    make(rt, &closed(OTHER_INDEX, 1, THREE), b"\x03")
+}
+
+// Clears the way for shares of three bytes, after so many seconds.
+fn clear<'a>(
+    rt: &HostRuntime,
+    steps: &'a Steps,
+    digests: Option<&[Digest]>,
+    seconds: u64,
+) -> Result<Cleared, Fail> {
+    let wanted = Wanted {
+        index: INDEX,
+        length: 3,
+        digests,
+        now: later(SystemTime::now(rt)?, seconds),
     };
-    assert_eq!(rt; mended(&rt, &INDEX)?, none);
-    fill(&rt)?;
-    assert_eq!(rt;
-        mended(&rt, &INDEX)?,
-        Mended {
-            whole: 1,
-            set_aside: 2,
-            left: 0
-        }
-    );
-    assert_eq!(rt;
-        mended(&rt, &INDEX)?,
-        Mended {
-            whole: 1,
-            set_aside: 0,
-            left: 0
-        }
-    );
-    let rows = rows_of(Did::Nothing);
-    assert!(rt; tells(&rt, (false, false, 0), &[rows[0], rows[3], rows[4]], 4)?);
+    let files = NotedFiles { rt: *rt, steps };
+    let mut count = Count { bytes: 0 };
+    Ok(clear_way(&files, path(rt, "")?.as_str(), &wanted, &mut count)?)
+}
+
+// Whether so many files were set aside, so many open ones were removed, and none was left.
+fn is_cleared(cleared: &Cleared, set_aside: u64, removed: u64) -> bool {
+    cleared.set_aside == set_aside
+        && cleared.open_removed == removed
+        && cleared.left.is_empty()
+        && cleared.odd.as_slice() == [6].as_slice()
+}
+
+// What is in the way goes, by its length and then by the digests that were made. An open file goes
+// once it is left over.
+#[test]
+fn the_way_is_cleared(rt: HostRuntime) -> Result<(), Fail> {
+    remove(&rt)?;
+    let steps = Steps::new(rt.alloc());
+    let none = clear(&rt, &steps, None, 0)?;
+    assert!(rt; none.set_aside == 0 && none.odd.is_empty());
+    fill_one_index(&rt)?;
+    assert!(rt; is_cleared(&clear(&rt, &steps, None, 0)?, 2, 0));
+    let each = [
+        Step::Rename,
+        Step::SyncFolder,
+        Step::Rename,
+        Step::SyncFolder,
+    ];
+    assert!(rt; steps.were(&each));
+    let made = [THREE; 5];
+    assert!(rt; is_cleared(&clear(&rt, &steps, Some(&made), 0)?, 3, 0));
+    assert!(rt; is_cleared(&clear(&rt, &steps, Some(&made), OPEN_SECONDS + 1)?, 0, 1));
+    assert!(rt; is_cleared(&clear(&rt, &steps, Some(&made), OPEN_SECONDS + 1)?, 0, 0));
+    let foreign = file(INDEX, 3, FileKind::Aside(EMPTY, 1));
+    let rows = [
+        (closed(INDEX, 0, THREE), Found::Whole),
+        (aside(INDEX, 1), Found::Aside(1, Did::Nothing)),
+        (aside(INDEX, 2), Found::Aside(0, Did::Nothing)),
+        (foreign, Found::Aside(3, Did::Nothing)),
+        (aside(INDEX, 4), Found::Aside(3, Did::Nothing)),
+        (aside(INDEX, 5), Found::Aside(3, Did::Nothing)),
+        (closed(INDEX, 6, THREE), Found::Odd),
+        (closed(OTHER_INDEX, 1, THREE), Found::Damaged(Did::Nothing)),
+    ];
+    assert!(rt; tells(&rt, NOTHING, &rows, 4)?);
+    remove(&rt)?;
+    Ok(())
+}
+
+// What cannot be set aside is told, and stands as it stood.
+#[test]
+fn what_is_left_is_told(rt: HostRuntime) -> Result<(), Fail> {
+    fill_one_index(&rt)?;
+    let steps = Steps::new(rt.alloc());
+    steps.failing.set(Some(Step::Rename));
+    let cleared = clear(&rt, &steps, None, 0)?;
+    let left = cleared
+        .left
+        .iter()
+        .map(|left| (left.share, left.reason.kind()));
+    assert!(rt; left.eq([(1, ErrorKind::BrokenPipe), (2, ErrorKind::BrokenPipe)]));
+    assert!(rt; cleared.set_aside == 0);
+    for number in 1..=2 {
+        let file = closed(INDEX, number, THREE);
+        assert!(rt; fs::exists(&rt, file_path(&rt, &file, "")?.as_str())?);
+        assert!(rt; !fs::exists(&rt, file_path(&rt, &file, ".damaged")?.as_str())?);
+    }
     remove(&rt)?;
     Ok(())
 }
@@ -243,8 +401,8 @@ fn refused_memory_in_scrub(rt: HostRuntime) {
         return;
     }
     let wanted = rows_of(Did::Nothing);
-    let told = matches!(&tells(&rt, (false, false, 0), &wanted, 7), Ok(true));
-    let again = told || matches!(&tells(&rt, (false, false, 0), &wanted, 7), Ok(true));
+    let told = matches!(&tells(&rt, NOTHING, &wanted, 7), Ok(true));
+    let again = told || matches!(&tells(&rt, NOTHING, &wanted, 7), Ok(true));
     assert!(rt; remove(&rt).is_ok() || remove(&rt).is_ok());
     assert!(rt; again);
 }

@@ -5,10 +5,10 @@
 // The tests whose names begin with `refused_memory` pass too where any one allocation of theirs is
 // refused.
 
+use share_folders::folder::{Durability, FolderStore, Purpose};
+use share_folders::names::{ClosedName, OpenName};
 use share_store::error::StoreError;
-use share_store::folder::{Durability, FolderStore, Purpose};
 use share_store::memory::MemoryStore;
-use share_store::names::ClosedName;
 use share_store::store::Store;
 use std::alloc::{AllocError, Global};
 use std::test::Fail;
@@ -25,7 +25,7 @@ const OTHER_INDEX: StorageIndex = [0, 1, 2, 3, 4, 5, 6, 7, 8, 9, 10, 11, 12, 13,
 // 32 times the byte 7, and 32 times the byte 208: the text of the greater digest is the lower one.
 pub(crate) const SEVENS: &str = "a4dqobyha4dqobyha4dqobyha4dqobyha4dqobyha4dqobyha4dq";
 
-const GREATER: &str = "2dinbugq2dinbugq2dinbugq2dinbugq2dinbugq2dinbugq2dia";
+pub(crate) const GREATER: &str = "2dinbugq2dinbugq2dinbugq2dinbugq2dinbugq2dinbugq2dia";
 
 // A call of a store about a share, and what it is to give. Shares are closed under a digest of 32
 // times one byte.
@@ -41,13 +41,13 @@ pub(crate) enum Call {
     // The share is not closed.
     Open(StorageIndex, u8),
     Closed(StorageIndex, u8, u8),
-    // The closed shares have so many bytes, and there was no fault.
+    // The closed shares have so many bytes, as far as they are reckoned, and there was no fault.
     Used(u64),
     Restart,
 }
 
 // A share that is written in pieces, closed and read.
-static KEEPS: [Call; 13] = [
+static KEEPS: [Call; 12] = [
     Call::Used(0),
     Call::Write(INDEX, 3, 0, b"\x09\x09\x09\x09"),
     Call::Write(INDEX, 3, 0, b"\x01\x02\x03"),
@@ -55,7 +55,6 @@ static KEEPS: [Call; 13] = [
     Call::Open(INDEX, 3),
     Call::Close(INDEX, 3, 7),
     Call::Closed(INDEX, 3, 7),
-    Call::Used(5),
     Call::Read(INDEX, 3, 0, 32_768, b"\x01\x02\x03\x04\x05"),
     Call::Read(INDEX, 3, 3, 1, b"\x04"),
     Call::Read(INDEX, 3, 4, 9, b"\x05"),
@@ -65,7 +64,7 @@ static KEEPS: [Call; 13] = [
 
 // The shares of a storage index come in order, and no other index's. An open one is gone after a
 // restart.
-static LISTS: [Call; 18] = [
+static LISTS: [Call; 17] = [
     Call::Write(INDEX, 200, 0, b"\xc8"),
     Call::Close(INDEX, 200, 7),
     Call::Write(INDEX, 3, 0, b"\x03"),
@@ -79,7 +78,6 @@ static LISTS: [Call; 18] = [
     Call::Restart,
     Call::List(INDEX, b"\x03\x0a\xc8", 7),
     Call::List(OTHER_INDEX, b"\x05", 8),
-    Call::Used(6),
     Call::Read(INDEX, 10, 0, 9, b"\x0a\x0b"),
     Call::Write(INDEX, 4, 3, b"\x06"),
     Call::Close(INDEX, 4, 7),
@@ -234,13 +232,15 @@ fn right_at_last<S: Store>(alloc: Global, store: &mut S, calls: &[Call]) -> usiz
 #[test]
 fn memory_keeps(rt: HostRuntime) {
     let mut store = MemoryStore::new(rt.alloc());
-    assert_eq!(rt; right_calls(rt.alloc(), &mut store, &KEEPS), 13);
+    assert_eq!(rt; right_calls(rt.alloc(), &mut store, &KEEPS), 12);
+    assert_eq!(rt; store.used(), 5);
 }
 
 #[test]
 fn refused_memory_in_memory(rt: HostRuntime) {
     let mut store = MemoryStore::new(rt.alloc());
-    assert_eq!(rt; right_at_last(rt.alloc(), &mut store, &LISTS), 18);
+    assert_eq!(rt; right_at_last(rt.alloc(), &mut store, &LISTS), 17);
+    assert_eq!(rt; store.used(), 7);
 }
 
 static FAILING: [Call; 4] = [
@@ -274,6 +274,20 @@ pub(crate) fn file(rt: &HostRuntime, rest: &str, end: &str) -> Result<String, Al
     format!(in rt.alloc(); "{folder}{INDEX_TEXT}{rest}{end}")
 }
 
+// The path of an open share's file in that folder, as a store names it.
+pub(crate) fn open_file(rt: &HostRuntime) -> Result<Option<String>, Fail> {
+    let folder = path(rt, "")?;
+    for entry in fs::read_dir(rt, folder.as_str())? {
+        let entry = entry?;
+        let named = OpenName::read(entry.file_name().as_bytes());
+        if named.is_some_and(|name| name.own.is_some()) {
+            let name = entry.file_name();
+            return Ok(Some(format!(in rt.alloc(); "{folder}/{name}")?));
+        }
+    }
+    Ok(None)
+}
+
 // Sees that the folder is not there, and removes it.
 pub(crate) fn remove(rt: &HostRuntime) -> io::Result<()> {
     let root = path(rt, "")?;
@@ -303,17 +317,17 @@ pub(crate) fn right_in_folder(rt: &HostRuntime, calls: &[Call]) -> Result<usize,
     Ok(right_calls(rt.alloc(), &mut store, calls))
 }
 
-static KEPT: [Call; 2] = [Call::Used(5), Call::Read(INDEX, 3, 1, 3, b"\x02\x03\x04")];
+static KEPT: [Call; 2] = [Call::Used(0), Call::Read(INDEX, 3, 1, 3, b"\x02\x03\x04")];
 
 #[test]
 fn folder_keeps(rt: HostRuntime) -> Result<(), Fail> {
     remove(&rt)?;
-    assert_eq!(rt; right_in_folder(&rt, &KEEPS)?, 13);
+    assert_eq!(rt; right_in_folder(&rt, &KEEPS)?, 12);
     assert_eq!(rt;
         fs::metadata(&rt, file(&rt, ".3.", SEVENS)?.as_str())?.len(),
         5
     );
-    assert!(rt; !fs::exists(&rt, file(&rt, ".3.open", "")?.as_str())?);
+    assert!(rt; open_file(&rt)?.is_none());
     assert_eq!(rt; right_in_folder(&rt, &KEPT)?, 2);
     remove(&rt)?;
     Ok(())
@@ -324,7 +338,7 @@ static LISTED: [Call; 5] = [
     Call::List(OTHER_INDEX, b"\x05", 8),
     Call::Read(INDEX, 4, 0, 9, b"\x06"),
     Call::Read(INDEX, 10, 0, 9, b"\x0a\x0b"),
-    Call::Used(7),
+    Call::Used(0),
 ];
 
 // How many calls go right in a folder's store, where memory may be refused once: none, where it is
@@ -349,7 +363,7 @@ fn refused_memory_in_folder(rt: HostRuntime) {
     let kept = right_in_folder_at_last(&rt, WRITING, &LISTED);
     let read = right_in_folder_at_last(&rt, Purpose::Reading, &LISTED[..4]);
     assert!(rt; remove(&rt).is_ok() || remove(&rt).is_ok());
-    assert_eq!(rt; written, 18);
+    assert_eq!(rt; written, 17);
     assert_eq!(rt; kept, 5);
     assert_eq!(rt; read, 4);
 }
@@ -382,9 +396,8 @@ pub(crate) fn fill(rt: &HostRuntime) -> Result<(), Fail> {
 
 static EMPTY: [Call; 1] = [Call::Used(0)];
 
-static FILLED: [Call; 7] = [
-    Call::Used(6),
-    Call::Open(INDEX, 6),
+static FILLED: [Call; 6] = [
+    Call::Used(0),
     Call::Closed(INDEX, 0, 208),
     Call::Closed(INDEX, 255, 7),
     Call::Write(INDEX, 1, 8, b"\x03"),
@@ -392,14 +405,13 @@ static FILLED: [Call; 7] = [
     Call::Read(INDEX, 1, 0, 9, b"\x03"),
 ];
 
-// Other names, open files and folders are ignored. Of two digests the one with the lower text
-// counts.
+// Other names and open files are ignored. Of two digests the one with the lower text counts.
 #[test]
 fn folder_ignores_other_names(rt: HostRuntime) -> Result<(), Fail> {
     remove(&rt)?;
     assert_eq!(rt; right_in_folder(&rt, &EMPTY)?, 1);
     fill(&rt)?;
-    assert_eq!(rt; right_in_folder(&rt, &FILLED)?, 7);
+    assert_eq!(rt; right_in_folder(&rt, &FILLED)?, 6);
     remove(&rt)?;
     Ok(())
 }

@@ -2,20 +2,21 @@
 //! noted, and one of which fails.
 
 use crate::share_store_tests::{Call, INDEX, SEVENS, file, gives, path, remove};
-use share_store::disk::make_folder;
+use share_folders::disk::make_folder;
+use share_folders::folder::{Durability, FolderStore, Purpose};
 use share_store::error::StoreError;
-use share_store::folder::{Durability, FolderStore, Purpose};
 use std::alloc::{Allocator, Global};
 use std::cell::{Cell, RefCell};
 use std::fs::{File, Metadata, OpenFile, OpenOptions};
 use std::io::{Read, Seek, SeekFrom, Write};
+use std::random::RandomSource;
 use std::rt::Files;
 use std::test::Fail;
 use std::{fs, io};
 
 // A call that is noted.
 #[derive(Clone, Copy, PartialEq, Eq)]
-enum Step {
+pub(crate) enum Step {
     SyncFile,
     SyncFolder,
     Rename,
@@ -23,16 +24,19 @@ enum Step {
 
 // The calls so far, and the one that fails.
 #[derive(Drop)]
-struct Steps {
+pub(crate) struct Steps {
     noted: RefCell<Vec<Step>>,
-    failing: Cell<Option<Step>>,
+    pub(crate) failing: Cell<Option<Step>>,
+    // How often it was asked what stands under a name.
+    looks: Cell<u64>,
 }
 
 impl Steps {
-    fn new(alloc: Global) -> Steps {
+    pub(crate) fn new(alloc: Global) -> Steps {
         Steps {
             noted: RefCell::new(Vec::new(alloc)),
             failing: Cell::new(None),
+            looks: Cell::new(0),
         }
     }
 
@@ -48,7 +52,7 @@ impl Steps {
     }
 
     // Whether these calls were noted, which are forgotten then.
-    fn were(&self, steps: &[Step]) -> bool {
+    pub(crate) fn were(&self, steps: &[Step]) -> bool {
         let Ok(mut noted) = self.noted.try_borrow_mut() else {
             return false;
         };
@@ -60,13 +64,13 @@ impl Steps {
 
 // The host's files.
 #[derive(Clone, Copy)]
-struct NotedFiles<'a> {
-    rt: HostRuntime,
-    steps: &'a Steps,
+pub(crate) struct NotedFiles<'a> {
+    pub(crate) rt: HostRuntime,
+    pub(crate) steps: &'a Steps,
 }
 
 #[derive(Drop)]
-struct NotedFile<'a> {
+pub(crate) struct NotedFile<'a> {
     file: File,
     steps: &'a Steps,
 }
@@ -100,6 +104,9 @@ impl<'a> Files for NotedFiles<'a> {
     }
 
     fn symlink_metadata(&self, path: &str) -> io::Result<Metadata> {
+        self.steps
+            .looks
+            .set(self.steps.looks.get().saturating_add(1));
         self.rt.symlink_metadata(path)
     }
 
@@ -126,6 +133,12 @@ impl<'a> Files for NotedFiles<'a> {
 
     fn remove_dir_all<B: Allocator>(&self, alloc: B, path: &str) -> io::Result<()> {
         self.rt.remove_dir_all(alloc, path)
+    }
+}
+
+impl<'a> RandomSource for NotedFiles<'a> {
+    fn fill_bytes(&self, buf: &mut [u8]) -> io::Result<()> {
+        self.rt.fill_bytes(buf)
     }
 }
 
@@ -352,6 +365,29 @@ fn failed_closes(rt: HostRuntime) -> Result<(), Fail> {
     for failure in FAILURES {
         assert!(rt; fails_and_closes(&rt, failure)?);
     }
+    remove(&rt)?;
+    Ok(())
+}
+
+// What stands under the names of other shares is not asked as a store is opened for writing, nor
+// while it writes a share: then only at its own file is looked, before that is renamed.
+#[test]
+fn other_shares_are_not_looked_at(rt: HostRuntime) -> Result<(), Fail> {
+    remove(&rt)?;
+    fs::create_dir_all(&rt, path(&rt, "")?.as_str())?;
+    for number in 10..20u8 {
+        let rest = format!(in rt.alloc(); ".{number}.")?;
+        fs::write(
+            &rt,
+            file(&rt, rest.as_str(), SEVENS)?.as_str(),
+            b"".as_slice(),
+        )?;
+    }
+    let steps = Steps::new(rt.alloc());
+    let mut store = open_noted(&rt, &steps, Purpose::Writing(Durability::Synced))?;
+    assert_eq!(rt; steps.looks.get(), 0);
+    assert!(rt; closes_one(&rt, &mut store, 3)?);
+    assert_eq!(rt; steps.looks.get(), 1);
     remove(&rt)?;
     Ok(())
 }

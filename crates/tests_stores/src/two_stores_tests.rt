@@ -1,16 +1,21 @@
-//! Two stores over one folder, into which both write one share: whatever the order of their calls,
-//! no closed name ever holds other bytes than the share's.
+//! Two stores over one folder, into which both write one share at once: whatever the order of their
+//! calls, both close it, and no closed name ever holds other bytes than those that were written
+//! under its digest.
 
-use crate::share_store_tests::{Call, INDEX, SEVENS, file, gives, open, remove, right_in_folder};
+use crate::share_store_tests::{
+    Call, GREATER, INDEX, SEVENS, file, gives, open, open_file, remove, right_in_folder,
+};
+use share_folders::folder::FolderStore;
 use share_store::error::StoreError;
-use share_store::folder::FolderStore;
 use std::alloc::Global;
 use std::test::Fail;
 use std::{fs, io};
 
 const BYTES: &[u8] = b"\x01\x02\x03\x04\x05";
 
-// What each store is asked, in turn.
+const OTHER_BYTES: &[u8] = b"\x11\x12\x13\x14";
+
+// What a store is asked in turn, and what another is that writes other bytes under another digest.
 static CALLS: [Call; 4] = [
     Call::Write(INDEX, 3, 0, b"\x01\x02"),
     Call::Write(INDEX, 3, 2, b"\x03\x04"),
@@ -18,18 +23,27 @@ static CALLS: [Call; 4] = [
     Call::Close(INDEX, 3, 7),
 ];
 
+static OTHER_CALLS: [Call; 4] = [
+    Call::Write(INDEX, 3, 0, b"\x11"),
+    Call::Write(INDEX, 3, 1, b"\x12\x13"),
+    Call::Write(INDEX, 3, 3, b"\x14"),
+    Call::Close(INDEX, 3, 208),
+];
+
 // A store that writes the share, and how many of its calls went well. It stops where one fails.
 #[derive(Drop)]
 struct Writer {
     store: FolderStore<HostRuntime>,
+    calls: &'static [Call; 4],
     done: usize,
     has_failed: bool,
 }
 
 impl Writer {
-    fn new(rt: &HostRuntime) -> Result<Writer, StoreError> {
+    fn new(rt: &HostRuntime, calls: &'static [Call; 4]) -> Result<Writer, StoreError> {
         Ok(Writer {
             store: open(rt)?,
+            calls,
             done: 0,
             has_failed: false,
         })
@@ -40,7 +54,7 @@ impl Writer {
         if self.has_failed {
             return;
         }
-        if let Some(call) = CALLS.get(self.done) {
+        if let Some(call) = self.calls.get(self.done) {
             match gives(alloc, &mut self.store, *call) {
                 Ok(true) => self.done = self.done.saturating_add(1),
                 _ => self.has_failed = true,
@@ -49,57 +63,83 @@ impl Writer {
     }
 
     fn has_closed(&self) -> bool {
-        self.done == CALLS.len()
+        self.done == self.calls.len()
     }
 }
 
-// Whether there is no closed file, or one with the share's bytes.
-fn is_none_or_whole(rt: &HostRuntime, closed: &str) -> bool {
-    match fs::read(rt, closed) {
-        Ok(bytes) => bytes.as_slice() == BYTES,
+// Whether there is no closed file of this digest, or one with these bytes.
+fn is_none_or_whole(rt: &HostRuntime, digest: &str, wanted: &[u8]) -> Result<bool, Fail> {
+    Ok(match fs::read(rt, file(rt, ".3.", digest)?.as_str()) {
+        Ok(bytes) => bytes.as_slice() == wanted,
         Err(error) => error.kind() == io::ErrorKind::NotFound,
-    }
+    })
 }
 
 // Whether the share is whole where it is closed, after each of the calls of two stores. A bit of
-// `order`, from the lowest, tells which of them makes the next call. At last one of them has closed
-// the share.
-fn stays_whole(rt: &HostRuntime, order: u8) -> Result<bool, Fail> {
+// `order`, from the lowest, tells which of them makes the next call. At last both have closed the
+// share, and no file of theirs is left open.
+fn stays_whole(
+    rt: &HostRuntime,
+    order: u8,
+    second_calls: &'static [Call; 4],
+) -> Result<bool, Fail> {
     remove(rt)?;
-    let closed = file(rt, ".3.", SEVENS)?;
-    let mut first = Writer::new(rt)?;
-    let mut second = Writer::new(rt)?;
+    let mut first = Writer::new(rt, &CALLS)?;
+    let mut second = Writer::new(rt, second_calls)?;
     for key in 0..8u32 {
         if (order >> key) & 1 == 1 {
             first.step(rt.alloc());
         } else {
             second.step(rt.alloc());
         }
-        if !is_none_or_whole(rt, closed.as_str()) {
+        if !is_none_or_whole(rt, SEVENS, BYTES)? || !is_none_or_whole(rt, GREATER, OTHER_BYTES)? {
             return Ok(false);
         }
     }
-    Ok(first.has_closed() || second.has_closed())
+    Ok(first.has_closed() && second.has_closed() && open_file(rt)?.is_none())
 }
 
-// What a third store finds.
+// What a third store finds where both wrote the same, and where they did not: there the one with
+// the lower digest text counts.
 static FOUND: [Call; 3] = [
-    Call::Used(5),
+    Call::Used(0),
     Call::Closed(INDEX, 3, 7),
     Call::Read(INDEX, 3, 0, 9, BYTES),
 ];
 
-#[test]
-fn two_stores_write_one_share(rt: HostRuntime) -> Result<(), Fail> {
+static OTHER_FOUND: [Call; 3] = [
+    Call::Used(0),
+    Call::Closed(INDEX, 3, 208),
+    Call::Read(INDEX, 3, 0, 9, OTHER_BYTES),
+];
+
+// Whether it stays so in each order of the calls, and a third store finds the share.
+fn stays_whole_in_each_order(
+    rt: &HostRuntime,
+    second_calls: &'static [Call; 4],
+    found: &[Call],
+) -> Result<bool, Fail> {
     let mut orders: u32 = 0;
     for order in 0..=255u8 {
         if order.count_ones() == 4 {
-            assert!(rt; stays_whole(&rt, order)?, "{order}");
-            assert_eq!(rt; right_in_folder(&rt, &FOUND)?, 3);
+            if !stays_whole(rt, order, second_calls)? || right_in_folder(rt, found)? != 3 {
+                return Ok(false);
+            }
             orders = orders.saturating_add(1);
         }
     }
-    assert_eq!(rt; orders, 70);
-    remove(&rt)?;
+    remove(rt)?;
+    Ok(orders == 70)
+}
+
+#[test]
+fn two_stores_write_one_share(rt: HostRuntime) -> Result<(), Fail> {
+    assert!(rt; stays_whole_in_each_order(&rt, &CALLS, &FOUND)?);
+    Ok(())
+}
+
+#[test]
+fn two_stores_write_other_bytes(rt: HostRuntime) -> Result<(), Fail> {
+    assert!(rt; stays_whole_in_each_order(&rt, &OTHER_CALLS, &OTHER_FOUND)?);
     Ok(())
 }
