@@ -79,6 +79,13 @@ impl UploadGoal {
         self.share_length
     }
 
+    /// The digests of the shares, by number.
+    pub fn digests(&self) -> &[Digest]
+        ensures { result.now ≡ self.now.digests }
+    {
+        &self.digests
+    }
+
     /// Is this the digest of the share of this number?
     pub fn is_digest_of(&self, share: u8, digest: &Digest) -> bool
         ensures { result ≡ is_digest_of self.now share digest.now }
