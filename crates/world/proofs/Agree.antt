@@ -29,6 +29,7 @@ use Rattle.world_operations.specs.Jobs.{IsFor}
 use Rattle.world_operations.specs.Tasks.{IsRightTask}
 use Rattle.world.specs.State.{WorldState}
 use Rattle.world.specs.Consistent.{IsConsistent}
+use Rattle.world.specs.Binding.{StartedAreGiven}
 use Rattle.world.specs.Headline.{DownloadsAgree, FilesAreGiven, HasNoClash, IsGiven, IsHashed}
 use Rattle.world.proofs.Happy.{for_upload}
 use Rattle.world.proofs.Hashed.{download_among, encoding_among}
@@ -78,9 +79,9 @@ downloads_agree w c no_clash cap position a b f g =
     agree_in (IsHashed w) no_clash cap first.block second.block first.contents second.contents f.piece g.piece first.given second.given position a b
     (byte_of w cap position a f) (byte_of w cap position b g)
 
-pub files_are_given : (w : WorldState) → IsConsistent w → HasNoClash w → FilesAreGiven w
-files_are_given w c no_clash file secret p pairs position byte up given =
-    let is_for = for_upload w up.number file secret p up.operation up.upload c up.upload_of in
+pub started_are_given : (w : WorldState) → IsConsistent w → HasNoClash w → StartedAreGiven w
+started_are_given w c no_clash file secret p number operation upload position byte of given =
+    let is_for = for_upload w number file secret p operation upload c of in
     let may = is_for.may in
     let g = geometry_of (length file) p.needed p.total p.max_segment in
     let ciphertext : List ℕ = xored (convergent_key_of p.needed p.total g.segment_size secret file) file in
@@ -90,6 +91,10 @@ files_are_given w c no_clash file secret p pairs position byte up given =
     let piece = proved w c cap position byte given in
     file_agrees_in (IsHashed w) no_clash cap (ueb_text u) piece.block u piece.contents ciphertext file given.piece
     (files_of_caps file secret (parameters_of p) (has_shape (length file) p may.chosen may.not_small may.encodable))
-    (encoding_among w up.number up.operation file secret p _ up.upload_of.at up.upload_of.uploads is_for.one_key own.0)
-    (λ input k. encoding_among w up.number up.operation file secret p input up.upload_of.at up.upload_of.uploads is_for.one_key (own.1 input k))
+    (encoding_among w number operation file secret p _ of.at of.uploads is_for.one_key own.0)
+    (λ input k. encoding_among w number operation file secret p input of.at of.uploads is_for.one_key (own.1 input k))
     piece.given position byte (byte_of w cap position byte given)
+
+pub files_are_given : (w : WorldState) → IsConsistent w → HasNoClash w → FilesAreGiven w
+files_are_given w c no_clash file secret p pairs position byte up given =
+    started_are_given w c no_clash file secret p up.number up.operation up.upload position byte up.upload_of given

@@ -23,7 +23,7 @@ use Rattle.share_store.specs.Memory.{MemoryState}
 use Rattle.share_store.specs.Shelf.{Shelf, closed_at}
 use Rattle.share_store.specs.declared.shelf.ClosedShare.{ClosedShare}
 use Rattle.server_core.specs.ServerState.{ServerState}
-use Rattle.server_core.specs.Sound.{is_request}
+use Rattle.server_core.specs.Sound.{Tells, is_request}
 use Rattle.file_encoding.specs.Encoding.{ciphertext_encoding, encoding_of}
 use Rattle.file_encoding.specs.Params.{UploadParameters, parameters_of}
 use Rattle.file_encoding.proofs.Encodable.{length-shares}
@@ -46,6 +46,7 @@ use Rattle.world_operations.specs.declared.task.Task.{Task}
 use Rattle.world_operations.specs.Asked.{HasAsked}
 use Rattle.world_operations.specs.Tasks.{IsRightTask, index_of, requests_of}
 use Rattle.world_operations.proofs.Positions.{get_below, position_of_member, same_some}
+use Rattle.world.specs.Binding.{KeepersAreNotBlamed, ToldOther}
 use Rattle.world.specs.Consistent.{IsConsistent, IsRequestOf, without_bytes}
 use Rattle.world.specs.Enough.{AreConfirmed, ConfirmedAreGood, EnoughAreFound, IsConfirmed, WasTold}
 use Rattle.world.specs.Headline.{goal}
@@ -286,3 +287,30 @@ pub confirmed_are_good : (w : WorldState) → IsConsistent w → HasNoClashInTes
 confirmed_are_good w c no_clash file secret p check r pair s of done report k =
     told_shares_are_good check r (range_with_len 0 (length w.servers)) pair (slice_index_or (prepared_of file secret p).shares pair.1 []) report
     (is_told_check w c no_clash file secret p s check of done pair k)
+
+-- ---- who keeps a share is not blamed for it
+
+pub keepers_are_not_blamed : (w : WorldState) → IsConsistent w → HasNoClashInTests w → KeepersAreNotBlamed w
+keepers_are_not_blamed w c no_clash file secret p d i b s of is keeps =
+    let index : List ℕ = (goal file secret p).cap.storage_index in
+    let share : List ℕ = slice_index_or (prepared_of file secret p).shares b.share [] in
+    let id : ShareId = record { index = index; share = b.share } in
+    let told : ToldOther w of.number of.operation.node d b.server b.share share = binding.no_false_blame w c no_clash file secret p d i b s of is in
+    let a = told.answered in
+    let came = told.sent in
+    let m : Server = keeps.machine in
+    let h : HasHistory w.sent b.server m = c.history b.server m keeps.at in
+    let sent = position_of_member w.sent came.frame came.was_sent in
+    let from : came.frame.from ≡ b.server = sym came.says.server_is in
+    let kind : is_request came.answer.body ≡ false = ap is_request came.says.body_is in
+    let at_session : slice_get w.operations came.answer.session ≡ Some of.operation = ap (slice_get w.operations) came.says.session_is ∙ of.at in
+    let there : slice_get (requests_of of.operation.task).entries a.position ≡ Some a.request = subst (λ (t : Task). slice_get (requests_of t).entries a.position ≡ Some a.request) (sym of.task) a.there in
+    let t = told_at w c b.server m keeps.at sent.0 came.frame came.answer of.operation a.position a.request sent.1 from came.spelled kind at_session came.to there came.says.number_is in
+    let about : index_of of.operation.task ≡ index = ap index_of of.task ∙ ap (λ (q : ReadCapValue). (verify_cap_of q).storage_index) of.cap_is in
+    let asks : t.request.body ≡ Read id a.offset a.len =
+    spelled_read index b.share a.offset a.len t.request.body (subst (λ (x : Asked). Spells index x t.request.body) a.asked (subst (λ (l : List ℕ). Spells l a.request.asked t.request.body) about t.spelled)) in
+    let tells : Tells (h.shelf_at sent.0) (Read id a.offset a.len) (Data a.bytes) =
+    subst (λ (q : Body). Tells (h.shelf_at sent.0) q (Data a.bytes)) asks (subst (λ (q : Body). Tells (h.shelf_at sent.0) t.request.body q) came.says.body_is t.tells.tells) in
+    let now : closed_at id m.store.shelf.closed ≡ Some tells.0 = h.last sent.0 id tells.0 tells.1 in
+    let same : tells.0 ≡ keeps.closed = same_some tells.0 keeps.closed (sym now ∙ keeps.found) in
+    a.other (tells.2 ∙ ap (λ (x : ClosedShare). take a.len (drop a.offset x.bytes)) same ∙ ap (λ (x : List ℕ). take a.len (drop a.offset x)) keeps.bytes_are)

@@ -35,7 +35,7 @@ pub record GrowsAs (old new : Operation) : Type 0 where
   pub job : new.job ≡ old.job
   pub sent_before : new.sent_before ≡ old.sent_before
   pub gone : IsGone old.task → IsGone new.task
-  pub asked : (position : ℕ) (r : Request) → slice_get (requests_of old.task).entries position ≡ Some r → IsGone new.task ⊎ StillAsks (requests_of new.task).entries position r
+  pub asked : (position : ℕ) (r : Request) → slice_get (requests_of old.task).entries position ≡ Some r → StillAsks (requests_of new.task).entries position r
   pub hashed : (input : List ℕ) → IsHashedBy old.task input → IsHashedBy new.task input
   pub happy : (pairs : List Pair) → IsHappyTask old.task pairs → IsHappyTask new.task pairs
   pub shares : (pairs : List Pair) (these : List (List ℕ)) → IsHappyTask old.task pairs → HasShares old.task these → HasShares new.task these
@@ -54,7 +54,7 @@ same_operation op = record {
   job = refl;
   sent_before = refl;
   gone = λ h. h;
-  asked = λ position r at. inr (still_asks op.task position r at);
+  asked = λ position r at. still_asks op.task position r at;
   hashed = λ input h. h;
   happy = λ pairs h. h;
   shares = λ pairs these h k. k;
@@ -81,7 +81,7 @@ lives_grow old new h i op e = (let f = h.on i op e in (
     job = refl;
     sent_before = refl;
     gone = λ k. k;
-    asked = λ position r at. inr (still_asks op.task position r at);
+    asked = λ position r at. still_asks op.task position r at;
     hashed = λ input k. k;
     happy = λ pairs k. k;
     shares = λ pairs these h k. k;
@@ -101,7 +101,7 @@ moves_grow New old new before after m =
       job = m.same.job;
       sent_before = m.same.sent_before;
       gone = λ h. (h.0, goes.gone h.0 h.1);
-      asked = λ position r at. inr (goes.follows.keeps position r at);
+      asked = λ position r at. goes.follows.keeps position r at;
       hashed = goes.hashed;
       happy = goes.happy;
       shares = λ pairs these h k. goes.shares these k;
@@ -164,13 +164,10 @@ stays_on b c grow number old s =
       job = f.2.job ∙ s.job;
       sent_before = f.2.sent_before ∙ s.sent_before;
       gone = λ h. f.2.gone (s.gone h);
-      asked = λ position r at. elim (s.asked position r at) [
-        | inl gone ↦ inl (f.2.gone gone)
-        | inr still ↦ elim (f.2.asked position still.request still.at) [
-          | inl gone ↦ inl gone
-          | inr later ↦ inr record { request = later.request; at = later.at; server = later.server ∙ still.server; asked = later.asked ∙ still.asked }
-        ]
-      ];
+      asked = λ position r at.
+          let still = s.asked position r at in
+          let later = f.2.asked position still.request still.at in
+          record { request = later.request; at = later.at; server = later.server ∙ still.server; asked = later.asked ∙ still.asked };
     }
 
 pub later_from : (old new : WorldState) → AllStay old.servers new.servers → AllGrow old.operations new.operations → ((more : List Sent) × (new.sent ≡ old.sent ++ more))

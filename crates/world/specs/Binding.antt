@@ -22,6 +22,10 @@ use Rattle.checker.specs.Shares.{settled_of}
 use Rattle.checker.specs.State.{CheckState}
 use Rattle.world.specs.Consistent.{CameFrom}
 use Rattle.world.specs.Enough.{ConfirmedAreGood, EnoughAreFound}
+use Rattle.world.specs.Headline.{HasNoClash, IsGiven, IsUploadOf, Keeps, goal}
+use Rattle.upload_core.specs.Sending as upload_sends
+use Rattle.world_operations.specs.declared.operation.Operation.{Operation}
+use Rattle.world_operations.specs.declared.upload_pieces.UploadPieces.{UploadPieces}
 use Rattle.world.specs.Started.{HasNoClashInTests, IsCheckOf, IsDownloadOf, IsStarted}
 use Rattle.world.specs.State.{WorldState}
 
@@ -74,11 +78,29 @@ NoFalseBlame w = (file secret : List ℕ) (p : UploadParameters) (d : DownloadSt
     → ToldOther w of.number of.operation.node d b.server b.share
     (slice_index_or (prepared_of file secret p).shares b.share [])
 
+-- Where the upload of a file has a machine, whatever became of it, each byte that was handed out
+-- for its cap is its file's.
+abbrev pub StartedAreGiven : WorldState → Type 0
+StartedAreGiven w = (file secret : List ℕ) (p : UploadParameters) (number : ℕ)
+    (operation : Operation) (upload : upload_sends.Uploading UploadPieces) (position byte : ℕ)
+    → IsUploadOf w number file secret p operation upload
+    → IsGiven w (prepared_of file secret p).cap position byte → slice_get file position ≡ Some byte
+
+-- No honest server that keeps the upload's share of a number is blamed for it.
+abbrev pub KeepersAreNotBlamed : WorldState → Type 0
+KeepersAreNotBlamed w = (file secret : List ℕ) (p : UploadParameters) (d : DownloadState) (i : ℕ)
+    (b : Blame) → IsStarted w file secret p → IsDownloadOf w (prepared_of file secret p).cap d
+    → slice_get d.blamed i ≡ Some b
+    → Keeps w b.server (goal file secret p).cap.storage_index b.share
+    (slice_index_or (prepared_of file secret p).shares b.share []) → ⊥
+
 -- What binds downloads and checks, of one world. It holds of every world.
 pub record IsBound (w : WorldState) : Type 0 where
   pub never_inconsistent : HasNoClashInTests w → NeverInconsistent w
   pub blocks_are_own : HasNoClashInTests w → BlocksAreOwn w
   pub good_shares_are_own : HasNoClashInTests w → GoodSharesAreOwn w
   pub no_false_blame : HasNoClashInTests w → NoFalseBlame w
+  pub started_are_given : HasNoClash w → StartedAreGiven w
+  pub keepers_are_not_blamed : HasNoClashInTests w → KeepersAreNotBlamed w
   pub enough_are_found : HasNoClashInTests w → EnoughAreFound w
   pub confirmed_are_good : HasNoClashInTests w → ConfirmedAreGood w

@@ -200,8 +200,7 @@ abbrev pub IsGone : Task → Type 0
 IsGone task = (number : ℕ) × (task ≡ Gone number)
 
 -- An operation stands at its position, as it was or further on: of the same node, for the same job
--- and begun at the same moment. What it asked stays asked, unless its machine is gone, which then
--- it stays.
+-- and begun at the same moment. What it asked stays asked. A machine that is gone stays gone.
 pub record StaysAt (w : WorldState) (number : ℕ) (old : Operation) : Type 0 where
   pub operation : Operation
   pub at : slice_get w.operations number ≡ Some operation
@@ -211,7 +210,7 @@ pub record StaysAt (w : WorldState) (number : ℕ) (old : Operation) : Type 0 wh
   pub gone : IsGone old.task → IsGone operation.task
   pub asked : (position : ℕ) (r : Request)
       → slice_get (requests_of old.task).entries position ≡ Some r
-      → IsGone operation.task ⊎ StillAsks (requests_of operation.task).entries position r
+      → StillAsks (requests_of operation.task).entries position r
 
 -- What was answered stays: a later world has all that was hashed, every operation, every byte that
 -- was handed out, every upload and every repair that answered Happy, every share that was closed,

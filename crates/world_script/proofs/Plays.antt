@@ -14,6 +14,7 @@ use Rattle.world_script.specs.Plans.{AreMarked, GivesNext, IsPlanOf, MakesNone, 
 use Rattle.world_script.specs.Playing.{HasMade, HasPlayed, IsEndingFrom, IsRefusedFrom, IsStuck}
 use Rattle.std.specs.String.{string_bytes}
 use Rattle.std.proofs.lemmas.List.{take_all}
+use Rattle.world.specs.Binding.{IsBound}
 use Rattle.world.specs.Headline.{IsTrusted}
 use Rattle.world.specs.Repairs.{AreTrustedRepairs}
 use Rattle.world_operations.specs.declared.operation.Operation.{Operation}
@@ -114,13 +115,14 @@ pub making_done : (script : Script) (begin : WorldState) (index : ℕ) (plan : P
 making_done script begin index plan most counter events world flags is few done = making_ends script begin index plan most counter events world flags is few (done_none plan is.command script.honest is.old.operations is.taken is.made (length world.sent) most is.plan_is is.most_is (is.counter_is ∙ done))
 
 -- all commands were played
-pub playing_ends : (script : Script) (begin : WorldState) (index events : ℕ) (world : WorldState) (flags : List Bool) (operations : List Operation) (ending : Ending) → IsPlaying script begin index events world flags → length script.commands.items ≤ index → IsTrusted world → AreTrustedRepairs world → operations ≡ world.operations → ((ending.agrees ≡ true) ↔ Agree operations) → string_bytes ending.lines ≡ ending_text operations ending.agrees events → IsEndingFrom begin script ending
-playing_ends script begin index events world flags operations ending is past trusted repairs same agrees lines = record {
+pub playing_ends : (script : Script) (begin : WorldState) (index events : ℕ) (world : WorldState) (flags : List Bool) (operations : List Operation) (ending : Ending) → IsPlaying script begin index events world flags → length script.commands.items ≤ index → IsTrusted world → AreTrustedRepairs world → IsBound world → operations ≡ world.operations → ((ending.agrees ≡ true) ↔ Agree operations) → string_bytes ending.lines ≡ ending_text operations ending.agrees events → IsEndingFrom begin script ending
+playing_ends script begin index events world flags operations ending is past trusted repairs bound same agrees lines = record {
   events = is.taken;
   world = world;
   played = subst (λ (l : List Command). HasPlayed script.honest begin l is.taken world) (take_all index script.commands.items past) is.played;
   trusted = trusted;
   repairs = repairs;
+  bound = bound;
   agrees = subst (λ (ops : List Operation). (ending.agrees ≡ true) ↔ Agree ops) same agrees;
   lines = lines ∙ ap (λ (ops : List Operation). ending_text ops ending.agrees events) same ∙ ap (λ (n : ℕ). ending_text world.operations ending.agrees n) is.count;
 }

@@ -4,6 +4,7 @@ use Rattle.std.specs.String.{string_bytes}
 use Rattle.world_operations.specs.declared.operation.Operation.{Operation}
 use Rattle.world.specs.declared.event.Event.{Event}
 use Rattle.world.specs.Admitted.{IsAdmitted}
+use Rattle.world.specs.Binding.{IsBound}
 use Rattle.world.specs.Headline.{IsTrusted}
 use Rattle.world.specs.Repairs.{AreTrustedRepairs}
 use Rattle.world.specs.State.{WorldState, new_world}
@@ -48,6 +49,7 @@ pub record IsEndingFrom (begin : WorldState) (script : Script) (ending : Ending)
   pub played : HasPlayed script.honest begin script.commands.items events world
   pub trusted : IsTrusted world
   pub repairs : AreTrustedRepairs world
+  pub bound : IsBound world
   pub agrees : (ending.agrees ≡ true) ↔ Agree world.operations
   pub lines : string_bytes ending.lines
       ≡ ending_text world.operations ending.agrees (length events)

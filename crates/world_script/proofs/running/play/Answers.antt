@@ -57,7 +57,7 @@ pub returns-clause-ended : goal.returns-clause-ended
 returns-clause-ended g c =
     let past : length c.args.script.now.commands.items ≤ c.loop-command.command-index = subst (λ (l : List Command). length l ≤ c.loop-command.command-index) c.deref-command-items.ensures.value (omega (arith, c.loop-command-test.false)) in
     playing_ends c.args.script.now c.args.world.state c.loop-command.command-index c.loop-command.events c.loop-command.world.state c.loop-command.delivered c.operations-2.result.now c.in_ok-ending_of.field-0
-    c.loop-command.invariant.playing past c.know_trusted.ensures.trusted c.know_trusted.ensures.repairs c.operations-2.ensures c.in_ok-ending_of.ensures.agrees c.in_ok-ending_of.ensures.lines
+    c.loop-command.invariant.playing past c.know_trusted.ensures.trusted c.know_trusted.ensures.repairs c.know_trusted.ensures.bound c.operations-2.ensures c.in_ok-ending_of.ensures.agrees c.in_ok-ending_of.ensures.lines
 
 pub returns-in_err-plan-clause-refused : goal.returns-in_err-plan-clause-refused
 returns-in_err-plan-clause-refused g c = λ bad.
