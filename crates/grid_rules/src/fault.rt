@@ -64,9 +64,10 @@ pub enum Fault {
     /// which its text leaves out.
     #[error("FileFault {0}")]
     File(String, io::Error),
-    /// No socket could be made at which a server listens.
+    /// No socket could be made at which a server listens, and the system's reason, which its text
+    /// leaves out.
     #[error("SocketFault")]
-    Socket,
+    Socket(io::Error),
     /// The servers did not come to an end within the turns that a command takes.
     #[error("TurnLimit")]
     TurnLimit,
@@ -88,6 +89,18 @@ pub enum Fault {
     /// The file of this path is not the mark of a grid that it should be.
     #[error("BadMark {0}")]
     BadMark(String),
+    /// The result could not be written.
+    #[error("OutputFault")]
+    Output,
+    /// The grid of this path has no server.
+    #[error("NoServers {0}")]
+    NoServers(String),
+    /// The folder of this path is no grid that `init` marked.
+    #[error("UnknownGrid {0}")]
+    UnknownGrid(String),
+    /// The folder of this path, which is to become a server's, holds something.
+    #[error("NotEmpty {0}")]
+    NotEmpty(String),
 }
 
 impl Fault {
@@ -110,7 +123,7 @@ impl Fault {
             Fault::BadEvent => 80,
             Fault::Stopped => 81,
             Fault::File(..) => 90,
-            Fault::Socket => 91,
+            Fault::Socket(_) => 91,
             Fault::TurnLimit => 92,
             Fault::BadScript(_) => 93,
             Fault::NeedsReadCap => 94,
@@ -118,12 +131,17 @@ impl Fault {
             Fault::SameFolder(..) => 96,
             Fault::OtherMark(_) => 97,
             Fault::BadMark(_) => 98,
+            Fault::Output => 99,
+            Fault::NoServers(_) => 100,
+            Fault::UnknownGrid(_) => 101,
+            Fault::NotEmpty(_) => 102,
         }
     }
 
-    /// The exit status: 3 for refused input, 4 for an unhappy upload, 5 for too few shares, 6 for
-    /// inconsistent ones, and 7 for memory, a file that fails or changes, a folder or a socket, a
-    /// grid's mark that is none, for too many turns, and for a world that was stopped.
+    /// The exit status: 3 for refused input, 4 for an unhappy upload, 5 for too few shares and for
+    /// a grid without a server, 6 for inconsistent ones, and 7 for memory, a file that fails or
+    /// changes, a folder, a socket or a result that cannot be written, a grid's mark that is none,
+    /// for too many turns, and for a world that was stopped.
     pub fn status(&self) -> u8
         ensures { result ≡ fault_status self.now }
     {
@@ -138,18 +156,21 @@ impl Fault {
             | Fault::NeedsReadCap
             | Fault::AlreadyGrid
             | Fault::SameFolder(..)
-            | Fault::OtherMark(_) => 3,
+            | Fault::OtherMark(_)
+            | Fault::UnknownGrid(_)
+            | Fault::NotEmpty(_) => 3,
             Fault::Unhappy { .. } => 4,
-            Fault::NotEnoughShares => 5,
+            Fault::NotEnoughShares | Fault::NoServers(_) => 5,
             Fault::Inconsistent => 6,
             Fault::OutOfMemory
             | Fault::SourceChanged
             | Fault::SourceFault
             | Fault::Stopped
             | Fault::File(..)
-            | Fault::Socket
+            | Fault::Socket(_)
             | Fault::TurnLimit
-            | Fault::BadMark(_) => 7,
+            | Fault::BadMark(_)
+            | Fault::Output => 7,
         }
     }
 

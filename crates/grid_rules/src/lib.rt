@@ -1,10 +1,11 @@
 //! What the commands of `grid` tell and decide, apart from the files that they work on.
 //!
-//! Each fault has a number, an exit status and a text; a cap is told in lines, and so are a check
-//! and a scrub, which are told as JSON too; a grid's folders have names, by which its servers are
-//! ordered; an upload's end is its happiness or a fault, and that of a download nothing or a fault;
-//! a range is one of the file or refused, and so is each number; how many turns of the loop a
-//! command may take is a number; and how far a command is stands in one line.
+//! Each fault has a number, an exit status, a text, and some a line that tells why; a cap is told
+//! in lines, and so are a check and a scrub, which are told as JSON too; a grid's folders have
+//! names, by which its servers are ordered; an upload's end is its happiness or a fault, and that
+//! of a download nothing or a fault; a range is one of the file or refused, and so is each number;
+//! how many turns of the loop a command may take is a number; and how far a command is stands in
+//! one line.
 #![tactic(auto)]
 
 mod checking;
@@ -16,6 +17,7 @@ mod limits;
 mod paths;
 mod progress;
 mod range;
+mod reason;
 mod scrubbing;
 mod servers;
 mod turns;
@@ -29,6 +31,7 @@ pub use limits::Limit;
 pub use paths::told_path;
 pub use progress::{Amount, Remark, Verb, encoding_line, progress_line, seconds_left};
 pub use range::{ByteRange, range_of};
+pub use reason::reason_line;
 pub use scrubbing::{Scrubbed, finding_json, finding_line};
-pub use servers::{first_servers, server_name, servers_of};
+pub use servers::{first_servers, made_line, server_name, servers_of};
 pub use turns::turn_limit;

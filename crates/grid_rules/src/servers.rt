@@ -5,7 +5,7 @@ ghost use Rattle.std.specs.List.{IsDistinct, range_with_len};
 ghost use Rattle.std.specs.String.{string_bytes};
 ghost use Rattle.sha1.specs.Sha1.{sha1};
 ghost use Rattle.grid_rules.specs.ReportLines.{server_name};
-ghost use Rattle.grid_rules.specs.Servers.{server_of};
+ghost use Rattle.grid_rules.specs.Servers.{made_line, server_of, server_word};
 ghost use Rattle.upload_core.specs.declared.status.ServerInfo.{ServerInfo};
 
 use placement::ServerId;
@@ -52,6 +52,20 @@ pub fn server_name(alloc: Global, server: NodeId) -> Result<String, AllocError>
 {
     let (hundreds, tens, ones) = (server / 100, server / 10 % 10, server % 10);
     format!(in alloc; "server-{hundreds}{tens}{ones}")
+}
+
+/// The line that tells of a grid that was made, with so many servers.
+pub fn made_line(alloc: Global, grid: &str, servers: usize) -> Result<String, AllocError>
+    ensures { IfOk result (λ line. string_bytes line ≡ made_line grid.now servers) }
+{
+    let word = server_word(servers);
+    format!(in alloc; "made {grid} with {servers} {word}\n")
+}
+
+fn server_word(servers: usize) -> &'static str
+    ensures { result.now ≡ server_word servers }
+{
+    if servers == 1 { "server" } else { "servers" }
 }
 
 fn server_id(name: &str) -> ServerId

@@ -1,4 +1,4 @@
-//! What is told with `-v` of servers that serve badly.
+//! What is told with `-v` of servers that serve badly, and always of numbers that may not be.
 
 use crate::progress::Progress;
 use grid_rules::{Fault, Limit, server_name, told_path};
@@ -114,7 +114,7 @@ where
 {
     for limit in limits {
         if !limit.is_kept() {
-            progress.note(limit.line(rt.alloc())?.as_str());
+            progress.tell(limit.line(rt.alloc())?.as_str());
         }
     }
     Ok(())

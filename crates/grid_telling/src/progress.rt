@@ -141,12 +141,17 @@ where
         }
     }
 
-    /// Tells a line of its own, which ends itself, where notes are told, whether standard error is
-    /// a terminal or not. A fault of it is passed over.
+    /// Tells a line of its own, which ends itself, whether standard error is a terminal or not. A
+    /// fault of it is passed over.
+    pub fn tell(&mut self, line: &str) {
+        self.clear();
+        let _ = self.to.write_all(line.as_bytes());
+    }
+
+    /// The same, where notes are told.
     pub fn note(&mut self, line: &str) {
         if self.verbose {
-            self.clear();
-            let _ = self.to.write_all(line.as_bytes());
+            self.tell(line);
         }
     }
 
