@@ -8,6 +8,7 @@ use Rattle.clap.specs.Walk.{Rule, Text, is_empty, rule_of}
 use Rattle.clap.specs.declared.builder.arg.Arg.{Arg}
 use Rattle.clap.specs.declared.builder.command.Command.{Command}
 use Rattle.grid_words.specs.Builds.{HasRule, HasShape, HaveRules, IsApp, shape_named, with_named}
+use Rattle.grid_words.specs.CommandLine.{excluding}
 use Rattle.grid_words.specs.declared.commands.Name.{Name}
 
 -- one argument
@@ -31,19 +32,19 @@ added_all old new (arg ∷ args) (rule ∷ rules) s adds have is =
     let rest = added_all adds.0 new args rules (record s { rules = s.rules ++ rule ∷ [] }) adds.2 have.1 here in
     subst (λ (all : List Rule). HasShape (record s { rules = all }) new) (append_assoc s.rules (rule ∷ []) rules) rest
 
-never_empty : {X : Type 0} (xs : List X) (x : X) → is_empty (xs ++ x ∷ []) ≡ false
-never_empty [] x = refl
-never_empty (y ∷ ys) x = search rules
+never_empty : {X : Type 0} (xs : List X) (x : X) (more : List X) → is_empty (xs ++ x ∷ more) ≡ false
+never_empty [] x more = search rules
+never_empty (y ∷ ys) x more = search rules
 
 not_free : (a e b : Bool) → e ≡ false → (a && (e && b)) ≡ false
 not_free true e b is = ap (λ (z : Bool). z && b) is
 not_free false e b is = refl
 
--- an argument that may not stand beside another
-pub conflicting : (old new : Arg) (other : Bor Text) (rule : Rule) → AddsConflicts old new (other ∷ [])
-    → HasRule rule old → HasRule (record rule { is_free = false }) new
-conflicting old new other rule adds has =
-    let filled : is_empty new.conflicts.items ≡ false = ap is_empty adds.1 ∙ never_empty old.conflicts.items other in
+-- an argument that may not stand beside some others
+pub conflicting : (old new : Arg) (other : Bor Text) (more : List (Bor Text)) (rule : Rule)
+    → AddsConflicts old new (other ∷ more) → HasRule rule old → HasRule (excluding rule) new
+conflicting old new other more rule adds has =
+    let filled : is_empty new.conflicts.items ≡ false = ap is_empty adds.1 ∙ never_empty old.conflicts.items other more in
     let free : (rule_of (record old { conflicts = new.conflicts })).is_free ≡ false =
     not_free (not old.exclusive) (is_empty new.conflicts.items) (is_empty old.needs.items && (is_empty old.r_ifs.items
     && (is_empty old.r_ifs_all.items && (is_empty old.r_unless.items && is_empty old.r_unless_all.items)))) filled in (

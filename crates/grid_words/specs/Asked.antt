@@ -10,6 +10,8 @@ use Rattle.clap.specs.declared.parser.matches.ArgMatches.{ArgMatches}
 use Rattle.grid_words.specs.declared.words.CheckWords.{CheckWords}
 use Rattle.grid_words.specs.declared.words.GetWords.{GetWords}
 use Rattle.grid_words.specs.declared.words.InitWords.{InitWords}
+use Rattle.grid_words.specs.declared.words.Marking.{Marking}
+use Rattle.grid_words.specs.declared.words.Marking.TheVariants as markings
 use Rattle.grid_words.specs.declared.words.PutWords.{PutWords}
 use Rattle.grid_words.specs.declared.words.RepairWords.{RepairWords}
 use Rattle.grid_words.specs.declared.words.Request.{Request}
@@ -43,13 +45,31 @@ IsFlag None set = set ≡ false
 IsFlag (Some text) set = (text ≡ codes "true" → set ≡ true) × (text ≡ codes "false" → set ≡ false)
 
 abbrev pub IsSecret : List Row → SecretWords → Type 0
+IsSecret rows secrets.Unsaid = (first_of (codes "secret-file") rows ≡ None)
+    × (first_of (codes "secret") rows ≡ None)
 IsSecret rows (secrets.Text text) = (first_of (codes "secret-file") rows ≡ None)
-    × (text.now ≡ text_under (codes "secret") rows)
+    × (first_of (codes "secret") rows ≡ Some text.now)
 IsSecret rows (secrets.File path) = first_of (codes "secret-file") rows ≡ Some path.now
+
+-- what becomes of a grid's marks
+abbrev pub IsMarking : List Row → Marking → Type 0
+IsMarking rows (markings.Replace server) = number_under (codes "replace") rows ≡ Some server
+IsMarking rows (markings.Add count) = (number_under (codes "replace") rows ≡ None)
+    × (number_under (codes "add") rows ≡ Some count)
+IsMarking rows (markings.Adopt servers) = (number_under (codes "replace") rows ≡ None)
+    × (number_under (codes "add") rows ≡ None)
+    × IsFlag (one_of (codes "adopt") rows) true
+    × (servers ≡ number_under (codes "servers") rows)
+IsMarking rows (markings.New servers) = (number_under (codes "replace") rows ≡ None)
+    × (number_under (codes "add") rows ≡ None)
+    × IsFlag (one_of (codes "adopt") rows) false
+    × (servers ≡ number_under (codes "servers") rows)
 
 pub record AsksInit (rows : List Row) (words : InitWords) : Type 0 where
   pub grid : words.grid.now ≡ text_under (codes "DIR") rows
-  pub servers : words.servers ≡ unwrap_or (number_under (codes "servers") rows) 0
+  pub marking : IsMarking rows words.marking
+  pub secret_file : option_map (λ path. path.now) words.secret_file
+      ≡ first_of (codes "secret-file") rows
   pub verbose : IsFlag (one_of (codes "verbose") rows) words.verbose
 
 pub record AsksPut (rows : List Row) (words : PutWords) : Type 0 where
@@ -60,11 +80,12 @@ pub record AsksPut (rows : List Row) (words : PutWords) : Type 0 where
   pub happy : words.happy ≡ unwrap_or (number_under (codes "happy") rows) 0
   pub total : words.total ≡ unwrap_or (number_under (codes "n") rows) 0
   pub max_segment : words.max_segment ≡ unwrap_or (number_under (codes "segment") rows) 0
-  pub servers : words.servers ≡ unwrap_or (number_under (codes "servers") rows) 0
+  pub servers : words.servers ≡ number_under (codes "servers") rows
   pub net : IsFlag (one_of (codes "net") rows) words.net
   pub no_sync : IsFlag (one_of (codes "no-sync") rows) words.no_sync
   pub mend : IsFlag (one_of (codes "mend") rows) words.mend
   pub quiet : IsFlag (one_of (codes "quiet") rows) words.quiet
+  pub known : IsFlag (one_of (codes "known") rows) words.known
   pub verbose : IsFlag (one_of (codes "verbose") rows) words.verbose
 
 pub record AsksGet (rows : List Row) (words : GetWords) : Type 0 where
@@ -74,6 +95,7 @@ pub record AsksGet (rows : List Row) (words : GetWords) : Type 0 where
   pub to : words.to ≡ number_under (codes "to") rows
   pub output : option_map (λ path. path.now) words.output ≡ first_of (codes "output") rows
   pub net : IsFlag (one_of (codes "net") rows) words.net
+  pub known : IsFlag (one_of (codes "known") rows) words.known
   pub verbose : IsFlag (one_of (codes "verbose") rows) words.verbose
 
 pub record AsksCheck (rows : List Row) (words : CheckWords) : Type 0 where
@@ -82,6 +104,7 @@ pub record AsksCheck (rows : List Row) (words : CheckWords) : Type 0 where
   pub net : IsFlag (one_of (codes "net") rows) words.net
   pub json : IsFlag (one_of (codes "json") rows) words.json
   pub strict : IsFlag (one_of (codes "strict") rows) words.strict
+  pub known : IsFlag (one_of (codes "known") rows) words.known
   pub verbose : IsFlag (one_of (codes "verbose") rows) words.verbose
 
 pub record AsksRepair (rows : List Row) (words : RepairWords) : Type 0 where
@@ -91,13 +114,16 @@ pub record AsksRepair (rows : List Row) (words : RepairWords) : Type 0 where
   pub net : IsFlag (one_of (codes "net") rows) words.net
   pub no_sync : IsFlag (one_of (codes "no-sync") rows) words.no_sync
   pub mend : IsFlag (one_of (codes "mend") rows) words.mend
+  pub known : IsFlag (one_of (codes "known") rows) words.known
   pub verbose : IsFlag (one_of (codes "verbose") rows) words.verbose
 
 pub record AsksScrub (rows : List Row) (words : ScrubWords) : Type 0 where
   pub grid : words.grid.now ≡ text_under (codes "grid") rows
   pub set_aside : IsFlag (one_of (codes "set-aside") rows) words.set_aside
   pub remove_open : IsFlag (one_of (codes "remove-open") rows) words.remove_open
+  pub remove_damaged : IsFlag (one_of (codes "remove-damaged") rows) words.remove_damaged
   pub json : IsFlag (one_of (codes "json") rows) words.json
+  pub known : IsFlag (one_of (codes "known") rows) words.known
   pub verbose : IsFlag (one_of (codes "verbose") rows) words.verbose
 
 -- the names of the commands that are told apart from `cap`
@@ -122,3 +148,23 @@ Asks name rows (requests.Describe cap) = All (λ other. name ≢ other) other_na
 abbrev pub IsAsked : Option (Text × List Row) → Request → Type 0
 IsAsked None request = ⊥
 IsAsked (Some command) request = Asks command.0 command.1 request
+
+-- whether notes are asked for
+abbrev pub asks_notes : Request → Bool
+asks_notes (requests.Init words) = words.verbose
+asks_notes (requests.Put words) = words.verbose
+asks_notes (requests.Get words) = words.verbose
+asks_notes (requests.Check words) = words.verbose
+asks_notes (requests.Repair words) = words.verbose
+asks_notes (requests.Scrub words) = words.verbose
+asks_notes (requests.World path) = false
+asks_notes (requests.Describe cap) = false
+
+-- whether a folder is refused that no `init` marked
+abbrev pub wants_known : Request → Bool
+wants_known (requests.Put words) = words.known
+wants_known (requests.Get words) = words.known
+wants_known (requests.Check words) = words.known
+wants_known (requests.Repair words) = words.known
+wants_known (requests.Scrub words) = words.known
+wants_known _ = false

@@ -41,18 +41,28 @@ quiet = record (flag (codes "quiet")) { short = Some 113 }
 abbrev pub output : Rule
 output = record (option (codes "output")) { short = Some 111 }
 
-abbrev pub secret : Rule
-secret = record (option (codes "secret")) { defaults = [] ∷ [] }
+-- an argument that may not stand beside some others
+abbrev pub excluding : Rule → Rule
+excluding rule = record rule { is_free = false }
 
--- it stands beside no text
 abbrev pub secret_file : Rule
-secret_file = record (option (codes "secret-file")) { is_free = false }
+secret_file = excluding (option (codes "secret-file"))
 
-abbrev pub servers : Rule
-servers = number_or (codes "servers") (codes "10")
+abbrev pub replace : Rule
+replace = excluding (number (codes "replace"))
+
+abbrev pub add : Rule
+add = excluding (number (codes "add"))
 
 abbrev pub init_rules : List Rule
-init_rules = operand (codes "DIR") ∷ servers ∷ verbose ∷ []
+init_rules = operand (codes "DIR")
+    ∷ number (codes "servers")
+    ∷ replace
+    ∷ add
+    ∷ flag (codes "adopt")
+    ∷ option (codes "secret-file")
+    ∷ verbose
+    ∷ []
 
 abbrev pub put_rules : List Rule
 put_rules = operand (codes "FILE")
@@ -61,13 +71,14 @@ put_rules = operand (codes "FILE")
     ∷ happy
     ∷ number_or (codes "n") (codes "10")
     ∷ number_or (codes "segment") (codes "131072")
-    ∷ servers
-    ∷ secret
+    ∷ number (codes "servers")
+    ∷ option (codes "secret")
     ∷ secret_file
     ∷ flag (codes "net")
     ∷ flag (codes "no-sync")
     ∷ flag (codes "mend")
     ∷ quiet
+    ∷ flag (codes "known")
     ∷ verbose
     ∷ []
 
@@ -78,6 +89,7 @@ get_rules = operand (codes "CAP")
     ∷ number (codes "to")
     ∷ output
     ∷ flag (codes "net")
+    ∷ flag (codes "known")
     ∷ verbose
     ∷ []
 
@@ -87,6 +99,7 @@ check_rules = operand (codes "CAP")
     ∷ flag (codes "net")
     ∷ flag (codes "json")
     ∷ flag (codes "strict")
+    ∷ flag (codes "known")
     ∷ verbose
     ∷ []
 
@@ -97,6 +110,7 @@ repair_rules = operand (codes "CAP")
     ∷ flag (codes "net")
     ∷ flag (codes "no-sync")
     ∷ flag (codes "mend")
+    ∷ flag (codes "known")
     ∷ verbose
     ∷ []
 
@@ -104,7 +118,9 @@ abbrev pub scrub_rules : List Rule
 scrub_rules = grid_folder
     ∷ flag (codes "set-aside")
     ∷ flag (codes "remove-open")
+    ∷ flag (codes "remove-damaged")
     ∷ flag (codes "json")
+    ∷ flag (codes "known")
     ∷ verbose
     ∷ []
 

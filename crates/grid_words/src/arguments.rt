@@ -1,10 +1,11 @@
 //! The arguments of the commands.
 
 ghost use Rattle.std.specs.Prelude.{codes, IfOk};
+ghost use Rattle.clap.specs.Walk.{Rule};
 ghost use Rattle.grid_words.specs.Builds.{HasRule};
-ghost use Rattle.grid_words.specs.CommandLine.{flag, grid_folder, happy, number, number_or};
-ghost use Rattle.grid_words.specs.CommandLine.{operand, option, output, secret, secret_file};
-ghost use Rattle.grid_words.specs.CommandLine.{servers, verbose};
+ghost use Rattle.grid_words.specs.CommandLine.{add, excluding, flag, grid_folder, happy, number};
+ghost use Rattle.grid_words.specs.CommandLine.{number_or, operand, option, output, replace};
+ghost use Rattle.grid_words.specs.CommandLine.{secret_file, verbose};
 
 use clap::{Arg, ArgAction, value_parser};
 use std::alloc::{AllocError, Global};
@@ -13,11 +14,7 @@ use std::alloc::{AllocError, Global};
 pub(crate) fn file<'a>(alloc: Global) -> Arg<'a>
     ensures { HasRule (operand (codes "FILE")) result }
 {
-    operand(
-        alloc,
-        "FILE",
-        "The file to store, or - for standard input, which must be a file and no pipe",
-    )
+    operand(alloc, "FILE", "The file to store, or - for standard input")
 }
 
 /// The cap of a file that is to be read.
@@ -73,7 +70,7 @@ pub(crate) fn grid_folder<'a>(alloc: Global) -> Arg<'a>
 pub(crate) fn needed<'a>(alloc: Global) -> Arg<'a>
     ensures { HasRule (number_or (codes "k") (codes "3")) result }
 {
-    number(
+    number_or(
         alloc,
         "k",
         "3",
@@ -85,7 +82,7 @@ pub(crate) fn needed<'a>(alloc: Global) -> Arg<'a>
 pub(crate) fn happy<'a>(alloc: Global) -> Arg<'a>
     ensures { HasRule happy result }
 {
-    number(
+    number_or(
         alloc,
         "happy",
         "7",
@@ -97,14 +94,14 @@ pub(crate) fn happy<'a>(alloc: Global) -> Arg<'a>
 pub(crate) fn total<'a>(alloc: Global) -> Arg<'a>
     ensures { HasRule (number_or (codes "n") (codes "10")) result }
 {
-    number(alloc, "n", "10", "How many shares are made, 1 to 256")
+    number_or(alloc, "n", "10", "How many shares are made, 1 to 256")
 }
 
 /// The greatest segment of a file.
 pub(crate) fn max_segment<'a>(alloc: Global) -> Arg<'a>
     ensures { HasRule (number_or (codes "segment") (codes "131072")) result }
 {
-    number(
+    number_or(
         alloc,
         "segment",
         "131072",
@@ -114,43 +111,105 @@ pub(crate) fn max_segment<'a>(alloc: Global) -> Arg<'a>
 
 /// How many servers a file is put to.
 pub(crate) fn servers<'a>(alloc: Global) -> Arg<'a>
-    ensures { HasRule servers result }
+    ensures { HasRule (number (codes "servers")) result }
 {
     number(
         alloc,
         "servers",
-        "10",
-        "How many server folders are used, 1 to 256",
+        "NUMBER",
+        "How many server folders are used, 1 to 256 [default: as many as the grid knows, or 10]",
+    )
+}
+
+/// How many servers a grid has that is made.
+pub(crate) fn new_servers<'a>(alloc: Global) -> Arg<'a>
+    ensures { HasRule (number (codes "servers")) result }
+{
+    number(
+        alloc,
+        "servers",
+        "NUMBER",
+        "How many servers the grid has, 1 to 256 [default: 10]",
+    )
+}
+
+/// The server whose folder was lost, and whose mark is given to an empty one.
+pub(crate) fn replace<'a>(alloc: Global) -> Result<Arg<'a>, AllocError>
+    ensures { IfOk result (HasRule replace) }
+{
+    let server = number(
+        alloc,
+        "replace",
+        "NUMBER",
+        "Give the empty folder of this server the mark of the one that was lost",
+    );
+    of_marked_grid(server)?.conflicts_with("add")
+}
+
+/// How many servers a grid gets besides its own.
+pub(crate) fn add<'a>(alloc: Global) -> Result<Arg<'a>, AllocError>
+    ensures { IfOk result (HasRule add) }
+{
+    of_marked_grid(number(alloc, "add", "NUMBER", "Add so many servers"))
+}
+
+// The argument, for a grid whose mark is there: nothing beside it says what the mark is to be.
+fn of_marked_grid<'a>(arg: Arg<'a>) -> Result<Arg<'a>, AllocError>
+    ensures { (rule : Rule) → HasRule rule arg.entry → IfOk result (HasRule (excluding rule)) }
+{
+    arg.conflicts_with("adopt")?
+        .conflicts_with("servers")?
+        .conflicts_with("secret-file")
+}
+
+/// Whether a grid gets its mark back from its servers.
+pub(crate) fn adopt<'a>(alloc: Global) -> Arg<'a>
+    ensures { HasRule (flag (codes "adopt")) result }
+{
+    flag(
+        alloc,
+        "adopt",
+        "Make the mark of the grid anew, by those of its servers",
+    )
+}
+
+/// The file of the secret that a grid keeps.
+pub(crate) fn kept_secret<'a>(alloc: Global) -> Arg<'a>
+    ensures { HasRule (option (codes "secret-file")) result }
+{
+    option(
+        alloc,
+        "secret-file",
+        "FILE",
+        "Keep the secret in FILE with the grid, for every put; `new` draws one",
     )
 }
 
 // A number with a default.
-fn number<'a>(alloc: Global, name: &'a str, default: &'a str, help: &'a str) -> Arg<'a>
+fn number_or<'a>(alloc: Global, name: &'a str, default: &'a str, help: &'a str) -> Arg<'a>
     ensures { HasRule (number_or name.entry.now default.entry.now) result }
 {
-    option(alloc, name, "NUMBER", help)
-        .value_parser(value_parser!(u64))
-        .default_value(default)
+    number(alloc, name, "NUMBER", help).default_value(default)
 }
 
-/// An offset in a file.
-pub(crate) fn offset<'a>(alloc: Global, name: &'a str, help: &'a str) -> Arg<'a>
+/// A number below 2^64, whose place the help calls `value`.
+pub(crate) fn number<'a>(alloc: Global, name: &'a str, value: &'a str, help: &'a str) -> Arg<'a>
     ensures { HasRule (number name.entry.now) result }
 {
-    option(alloc, name, "OFFSET", help).value_parser(value_parser!(u64))
+    option(alloc, name, value, help).value_parser(value_parser!(u64))
 }
 
 /// The secret that a key depends on, as a text.
 pub(crate) fn secret<'a>(alloc: Global) -> Arg<'a>
-    ensures { HasRule secret result }
+    ensures { HasRule (option (codes "secret")) result }
 {
     option(
         alloc,
         "secret",
         "TEXT",
-        "A secret that the key depends on, of at most 64 bytes",
+        "A secret that the key depends on, of at most 64 bytes [default: that of the grid, or \
+none]",
     )
-    .default_value("")
 }
 
 /// The same in a file, and not beside a text.
@@ -174,7 +233,7 @@ pub(crate) fn output<'a>(alloc: Global) -> Arg<'a>
         alloc,
         "output",
         "FILE",
-        "Write to FILE.part, and rename that to FILE once it is whole",
+        "Write to a file beside FILE, and rename that to FILE once it is whole",
     )
     .short('o')
 }
@@ -197,14 +256,26 @@ pub(crate) fn no_sync<'a>(alloc: Global) -> Arg<'a>
     )
 }
 
-/// Whether damaged shares are set aside first.
+/// Whether damaged shares are set aside, once there are others in their place.
 pub(crate) fn mend<'a>(alloc: Global) -> Arg<'a>
     ensures { HasRule (flag (codes "mend")) result }
 {
     flag(
         alloc,
         "mend",
-        "First rename damaged shares of the file to NAME.damaged, so that they are put again",
+        "Rename damaged shares of the file to NAME.damaged, once all shares are made, so that they \
+are put again",
+    )
+}
+
+/// Whether a folder is refused that no `init` marked.
+pub(crate) fn known<'a>(alloc: Global) -> Arg<'a>
+    ensures { HasRule (flag (codes "known")) result }
+{
+    flag(
+        alloc,
+        "known",
+        "Refuse a DIR that no `init` marked (also with GRID_KNOWN=1 in the environment)",
     )
 }
 

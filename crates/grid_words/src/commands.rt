@@ -4,13 +4,15 @@ ghost use Rattle.std.specs.Prelude.{IfOk, List, drop, take};
 ghost use Rattle.clap.specs.Walk.{Rule};
 ghost use Rattle.grid_words.specs.Builds.{HasShape, HaveRules, IsApp, shape_named};
 ghost use Rattle.grid_words.specs.CommandLine.{bare_app, cap_shape, check_rules, check_shape};
-ghost use Rattle.grid_words.specs.CommandLine.{get_rules, get_shape, grid_app, init_shape};
-ghost use Rattle.grid_words.specs.CommandLine.{put_rules, put_shape, repair_rules, repair_shape};
-ghost use Rattle.grid_words.specs.CommandLine.{scrub_rules, scrub_shape, shape, world_shape};
+ghost use Rattle.grid_words.specs.CommandLine.{get_rules, get_shape, grid_app, init_rules};
+ghost use Rattle.grid_words.specs.CommandLine.{init_shape, put_rules, put_shape, repair_rules};
+ghost use Rattle.grid_words.specs.CommandLine.{repair_shape, scrub_rules, scrub_shape, shape};
+ghost use Rattle.grid_words.specs.CommandLine.{world_shape};
 
 use crate::arguments::{
-    file, flag, grid_folder, happy, json, max_segment, mend, needed, net, new_grid, no_sync,
-    offset, operand, output, read_cap, secret, secret_file, servers, total, verbose, verify_cap,
+    add, adopt, file, flag, grid_folder, happy, json, kept_secret, known, max_segment, mend,
+    needed, net, new_grid, new_servers, no_sync, number, operand, output, read_cap, replace,
+    secret, secret_file, servers, total, verbose, verify_cap,
 };
 use clap::{Arg, Command};
 use std::alloc::{AllocError, Global};
@@ -95,15 +97,28 @@ fn command_of<'a>(alloc: Global, name: Name) -> Result<Command<'a>, AllocError>
 fn init_command<'a>(alloc: Global) -> Result<Command<'a>, AllocError>
     ensures { IfOk result (HasShape init_shape) }
 {
-    let arguments = vec![in alloc; new_grid(alloc), servers(alloc), verbose(alloc)]?;
     command(
         alloc,
         "init",
         "Makes a grid that knows its servers: marks its folder and a folder for each server, and \
 keeps what is in them. No command makes a folder there, and a folder without its mark is a silent \
 server.",
-        arguments,
+        init_arguments(alloc)?,
     )
+}
+
+fn init_arguments<'a>(alloc: Global) -> Result<Vec<Arg<'a>>, AllocError>
+    ensures { IfOk result (λ arguments. HaveRules init_rules arguments.items) }
+{
+    Ok(vec![in alloc;
+        new_grid(alloc),
+        new_servers(alloc),
+        replace(alloc)?,
+        add(alloc)?,
+        adopt(alloc),
+        kept_secret(alloc),
+        verbose(alloc),
+    ]?)
 }
 
 fn put_command<'a>(alloc: Global) -> Result<Command<'a>, AllocError>
@@ -145,6 +160,7 @@ fn storing_arguments<'a>(alloc: Global) -> Result<Vec<Arg<'a>>, AllocError>
         no_sync(alloc),
         mend(alloc),
         flag(alloc, "quiet", "Print the cap alone").short('q'),
+        known(alloc),
         verbose(alloc),
     ]?)
 }
@@ -166,14 +182,16 @@ fn get_arguments<'a>(alloc: Global) -> Result<Vec<Arg<'a>>, AllocError>
     Ok(vec![in alloc;
         read_cap(alloc),
         grid_folder(alloc),
-        offset(alloc, "from", "The offset of the first byte").default_value("0"),
-        offset(
+        number(alloc, "from", "OFFSET", "The offset of the first byte").default_value("0"),
+        number(
             alloc,
             "to",
+            "OFFSET",
             "The offset behind the last byte [default: the file's size]",
         ),
         output(alloc),
         net(alloc),
+        known(alloc),
         verbose(alloc),
     ]?)
 }
@@ -203,6 +221,7 @@ fn check_arguments<'a>(alloc: Global) -> Result<Vec<Arg<'a>>, AllocError>
             "strict",
             "End with status 5 where the file is not healthy",
         ),
+        known(alloc),
         verbose(alloc),
     ]?)
 }
@@ -229,6 +248,7 @@ fn repair_arguments<'a>(alloc: Global) -> Result<Vec<Arg<'a>>, AllocError>
         net(alloc),
         no_sync(alloc),
         mend(alloc),
+        known(alloc),
         verbose(alloc),
     ]?)
 }
@@ -260,7 +280,13 @@ fn scrub_arguments<'a>(alloc: Global) -> Result<Vec<Arg<'a>>, AllocError>
             "remove-open",
             "Remove open files that nobody wrote to for 600 seconds",
         ),
+        flag(
+            alloc,
+            "remove-damaged",
+            "Remove files set aside (NAME.damaged) of shares that stand whole in the same folder",
+        ),
         json(alloc),
+        known(alloc),
         verbose(alloc),
     ]?)
 }

@@ -3,9 +3,9 @@
 ghost use Rattle.std.specs.Prelude.{◌≡◌, IfErr, IfOk, map, option_map, true};
 ghost use Rattle.clap.specs.Words.{first_of, kind_of, one_of, subcommand_of, takes};
 ghost use Rattle.grid_words.specs.Asked.{Asks, AsksCheck, AsksGet, AsksInit, AsksPut, AsksRepair};
-ghost use Rattle.grid_words.specs.Asked.{AsksScrub, IsAsked, IsFlag, IsSecret, number_under};
-ghost use Rattle.grid_words.specs.Asked.{rows_in};
-ghost use Rattle.grid_words.specs.Asked.{text_under};
+ghost use Rattle.grid_words.specs.Asked.{AsksScrub, IsAsked, IsFlag, IsMarking, IsSecret};
+ghost use Rattle.grid_words.specs.Asked.{asks_notes, number_under, rows_in, text_under};
+ghost use Rattle.grid_words.specs.Asked.{wants_known};
 ghost use Rattle.grid_words.specs.CommandLine.{grid_app};
 
 use crate::commands::grid_command;
@@ -31,7 +31,9 @@ pub enum Request<'a> {
 
 impl<'a> Request<'a> {
     /// Whether notes are asked for, with `-v`.
-    pub fn is_verbose(&self) -> bool {
+    pub fn is_verbose(&self) -> bool
+        ensures { result ≡ asks_notes self.now }
+    {
         match self {
             Request::Init(words) => words.verbose,
             Request::Put(words) => words.verbose,
@@ -42,22 +44,53 @@ impl<'a> Request<'a> {
             Request::World(_) | Request::Describe(_) => false,
         }
     }
+
+    /// Whether a folder is refused that no `init` marked, with `--known`.
+    pub fn is_known(&self) -> bool
+        ensures { result ≡ wants_known self.now }
+    {
+        match self {
+            Request::Put(words) => words.known,
+            Request::Get(words) => words.known,
+            Request::Check(words) => words.known,
+            Request::Repair(words) => words.known,
+            Request::Scrub(words) => words.known,
+            Request::Init(_) | Request::World(_) | Request::Describe(_) => false,
+        }
+    }
 }
 
 /// The secret that a file's key depends on, as the user wrote it, of any length yet.
 #[derive(Drop)]
 pub enum SecretWords<'a> {
-    /// `--secret TEXT`; empty where no secret was written.
+    /// Neither was written.
+    Unsaid,
+    /// `--secret TEXT`, which may be empty.
     Text(&'a str),
     /// `--secret-file FILE`, with the path of the file.
     File(&'a str),
 }
 
-/// `grid init DIR ..`: a number as the user wrote it, in no range yet.
+/// What becomes of a grid's marks: numbers as the user wrote them, in no range yet.
+#[derive(Clone, Copy)]
+pub enum Marking {
+    /// A grid of so many servers, as `--servers` says it.
+    New(Option<u64>),
+    /// `--replace NUMBER`: the server whose folder was lost.
+    Replace(u64),
+    /// `--add NUMBER`: how many servers come to those of the grid.
+    Add(u64),
+    /// `--adopt`: the grid's own mark anew, for so many servers, as `--servers` says it.
+    Adopt(Option<u64>),
+}
+
+/// `grid init DIR ..`.
 #[derive(Drop)]
 pub struct InitWords<'a> {
     pub grid: &'a str,
-    pub servers: u64,
+    pub marking: Marking,
+    /// The path of a file that holds the secret that the grid keeps, or `new`.
+    pub secret_file: Option<&'a str>,
     pub verbose: bool,
 }
 
@@ -72,11 +105,12 @@ pub struct PutWords<'a> {
     pub happy: u64,
     pub total: u64,
     pub max_segment: u64,
-    pub servers: u64,
+    pub servers: Option<u64>,
     pub net: bool,
     pub no_sync: bool,
     pub mend: bool,
     pub quiet: bool,
+    pub known: bool,
     pub verbose: bool,
 }
 
@@ -90,6 +124,7 @@ pub struct GetWords<'a> {
     pub to: Option<u64>,
     pub output: Option<&'a str>,
     pub net: bool,
+    pub known: bool,
     pub verbose: bool,
 }
 
@@ -101,6 +136,7 @@ pub struct CheckWords<'a> {
     pub net: bool,
     pub json: bool,
     pub strict: bool,
+    pub known: bool,
     pub verbose: bool,
 }
 
@@ -113,6 +149,7 @@ pub struct RepairWords<'a> {
     pub net: bool,
     pub no_sync: bool,
     pub mend: bool,
+    pub known: bool,
     pub verbose: bool,
 }
 
@@ -122,7 +159,9 @@ pub struct ScrubWords<'a> {
     pub grid: &'a str,
     pub set_aside: bool,
     pub remove_open: bool,
+    pub remove_damaged: bool,
     pub json: bool,
+    pub known: bool,
     pub verbose: bool,
 }
 
@@ -165,8 +204,22 @@ fn init_words<'a>(found: &ArgMatches<'a>) -> InitWords<'a>
 {
     InitWords {
         grid: text_of(found, "DIR"),
-        servers: number_of(found, "servers").unwrap_or(0),
+        marking: marking_of(found),
+        secret_file: found_text(found, "secret-file"),
         verbose: is_set(found, "verbose"),
+    }
+}
+
+// The ways to mark an old grid exclude each other.
+fn marking_of(found: &ArgMatches<'_>) -> Marking
+    ensures { IsMarking (rows_in found.now) result }
+{
+    let servers = number_of(found, "servers");
+    match (number_of(found, "replace"), number_of(found, "add")) {
+        (Some(server), _) => Marking::Replace(server),
+        (None, Some(count)) => Marking::Add(count),
+        (None, None) if is_set(found, "adopt") => Marking::Adopt(servers),
+        (None, None) => Marking::New(servers),
     }
 }
 
@@ -181,22 +234,27 @@ fn put_words<'a>(found: &ArgMatches<'a>) -> PutWords<'a>
         happy: number_of(found, "happy").unwrap_or(0),
         total: number_of(found, "n").unwrap_or(0),
         max_segment: number_of(found, "segment").unwrap_or(0),
-        servers: number_of(found, "servers").unwrap_or(0),
+        servers: number_of(found, "servers"),
         net: is_set(found, "net"),
         no_sync: is_set(found, "no-sync"),
         mend: is_set(found, "mend"),
         quiet: is_set(found, "quiet"),
+        known: is_set(found, "known"),
         verbose: is_set(found, "verbose"),
     }
 }
 
-// The two ways to name a secret exclude each other, and that of a text has a default.
+// The two ways to name a secret exclude each other.
 fn secret_words<'a>(found: &ArgMatches<'a>) -> SecretWords<'a>
     ensures { IsSecret (rows_in found.now) result }
 {
-    match found_text(found, "secret-file") {
-        Some(path) => SecretWords::File(path),
-        None => SecretWords::Text(text_of(found, "secret")),
+    match (
+        found_text(found, "secret-file"),
+        found_text(found, "secret"),
+    ) {
+        (Some(path), _) => SecretWords::File(path),
+        (None, Some(text)) => SecretWords::Text(text),
+        (None, None) => SecretWords::Unsaid,
     }
 }
 
@@ -210,6 +268,7 @@ fn get_words<'a>(found: &ArgMatches<'a>) -> GetWords<'a>
         to: number_of(found, "to"),
         output: found_text(found, "output"),
         net: is_set(found, "net"),
+        known: is_set(found, "known"),
         verbose: is_set(found, "verbose"),
     }
 }
@@ -223,6 +282,7 @@ fn check_words<'a>(found: &ArgMatches<'a>) -> CheckWords<'a>
         net: is_set(found, "net"),
         json: is_set(found, "json"),
         strict: is_set(found, "strict"),
+        known: is_set(found, "known"),
         verbose: is_set(found, "verbose"),
     }
 }
@@ -237,6 +297,7 @@ fn repair_words<'a>(found: &ArgMatches<'a>) -> RepairWords<'a>
         net: is_set(found, "net"),
         no_sync: is_set(found, "no-sync"),
         mend: is_set(found, "mend"),
+        known: is_set(found, "known"),
         verbose: is_set(found, "verbose"),
     }
 }
@@ -248,7 +309,9 @@ fn scrub_words<'a>(found: &ArgMatches<'a>) -> ScrubWords<'a>
         grid: text_of(found, "grid"),
         set_aside: is_set(found, "set-aside"),
         remove_open: is_set(found, "remove-open"),
+        remove_damaged: is_set(found, "remove-damaged"),
         json: is_set(found, "json"),
+        known: is_set(found, "known"),
         verbose: is_set(found, "verbose"),
     }
 }

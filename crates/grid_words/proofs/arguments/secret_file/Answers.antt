@@ -4,4 +4,4 @@ use Rattle.grid_words.proofs.arguments.secret_file.Goals as goal
 
 pub returns : goal.returns
 returns c =
-    IfOk-weaker c.conflicts_with.result _ _ (λ arg adds. conflicting c.option.result arg _ _ adds c.option.ensures) c.conflicts_with.ensures
+    IfOk-weaker c.conflicts_with.result _ _ (λ arg adds. conflicting c.option.result arg _ _ _ adds c.option.ensures) c.conflicts_with.ensures
