@@ -1,2 +1,5 @@
+mod Comparing
+mod Copying
 mod Left
+mod Retrying
 mod Rising

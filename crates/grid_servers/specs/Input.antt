@@ -1,7 +1,7 @@
 -- What is to be stored.
 use Rattle.std.specs.Prelude.{ℕ, ◌≤◌, ◌<◌, length}
-use Rattle.grid_servers.specs.declared.files.Input.{Input}
-use Rattle.grid_servers.specs.declared.files.Input.TheVariants.{Held, Opened}
+use Rattle.grid_servers.specs.declared.inputs.Input.{Input}
+use Rattle.grid_servers.specs.declared.inputs.Input.TheVariants.{Held, Opened}
 
 -- bytes are held up to this number, and files of more are opened
 abbrev pub IsWithin : {F : Type 0} → ℕ → Input F → Type 0

@@ -2,14 +2,14 @@
 
 ghost use Rattle.std.specs.Prelude.{◌≡◌, ◌↔◌, ◌<◌, length, IfErr, IfOk, IsOk};
 ghost use Rattle.std.specs.String.{string_bytes};
-ghost use Rattle.share_store.specs.Names.{in_folder};
+ghost use Rattle.share_folders.specs.Names.{in_folder};
 ghost use Rattle.grid_rules.specs.ReportLines.{server_name};
 
 use crate::files::at_path;
 use crate::marks::try_mark;
 use grid_rules::{Fault, is_memory, server_name};
-use share_store::disk::{Durability, make_folder};
-use share_store::folder::Purpose;
+use share_folders::disk::{Durability, make_folder};
+use share_folders::folder::Purpose;
 use std::alloc::{AllocError, Global};
 use std::fs::OpenOptions;
 use std::io::{ErrorKind, Write};

@@ -1,22 +1,28 @@
 //! How a grid comes to know its servers: its folder and theirs are marked.
 //!
 //! The mark of the grid has another name until all servers have theirs, so that a grid that was
-//! left half marked is one that does not know its servers, and can be marked again.
+//! left half marked is one that does not know its servers, and can be marked again. That name
+//! stands for one identity as long as the grid has no mark: so two calls at once write the same
+//! marks, and one of them is refused at the end.
+
+ghost use Rattle.std.specs.Prelude.{◌≡◌, ◌↔◌, IfErr, IfOk, IsOk};
 
 use crate::files::at_path;
-use crate::folders::{can_be_grid, make_grid, server_folder};
-use crate::marks::{Found, Likeness, find_mark, likeness_of, mark_path, server_mark};
+use crate::folders::{can_be_grid, make_grid};
+use crate::marking::{
+    Folders, has_own_mark, mark_file, mark_server, note_folder, publish_mark, standing_folder,
+};
+use crate::marks::{Found, find_mark, mark_path};
+use crate::publishing::replace;
 use grid_marks::{Identity, Kind, Mark, identity_of};
-use grid_rules::{Fault, server_name, told_path};
-use share_store::disk::{Durability, make_folder};
+use grid_rules::Fault;
+use share_folders::disk::Durability;
 use std::alloc::{AllocError, Global};
-use std::fs::{File, Metadata, OpenFile, OpenOptions};
-use std::io::{ErrorKind, Write};
-use std::os::unix::fs::MetadataExt;
+use std::fs;
+use std::io::ErrorKind;
+use std::random::RandomSource;
 use std::rt::{Clock, Files};
 use std::time::SystemTime;
-use std::{fs, io};
-use wire::message::NodeId;
 
 /// Refuses what can be no grid's folder, and a grid that knows its servers already.
 pub fn can_be_marked<R>(rt: &R, grid: &str) -> Result<(), Fault>
@@ -24,13 +30,7 @@ where
     R: Files + AllocGlobal,
 {
     can_be_grid(rt, grid)?;
-    let alloc = rt.alloc();
-    let path = mark_path(alloc, grid)?;
-    match at_path(
-        alloc,
-        find_mark(rt, path.as_str(), Kind::Grid),
-        path.as_str(),
-    )? {
+    match find_at(rt, mark_path(rt.alloc(), grid)?)? {
         Found::Nothing => Ok(()),
         Found::Mark(_) | Found::Other => Err(Fault::AlreadyGrid),
     }
@@ -41,43 +41,47 @@ where
 ///
 /// `SameFolder` where the folders of two servers are one, and `OtherMark` where one has a mark
 /// already, which is not that of an earlier call that came to no end. What can be found before
-/// anything is written is refused then.
+/// anything is written is refused then. `AlreadyGrid` where an earlier call, or another at the same
+/// time, began with another number, and where another came to its end first.
 pub fn mark_grid<R>(rt: &R, grid: &str, servers: u16) -> Result<(), Fault>
 where
-    R: Files + Clock + AllocGlobal + Clone + Drop,
+    R: Files + Clock + RandomSource + AllocGlobal + Clone + Drop,
 {
-    let known = Mark {
-        identity: begun_identity(rt, grid)?,
-        kind: Kind::Grid,
-        number: servers,
-    };
-    refuse_one_folder(rt, grid, servers)?;
-    for server in 0..servers {
-        has_own_mark(rt, grid, server, &known)?;
-    }
+    let begun = begun_mark(rt, grid, servers)?;
+    refuse_folders(rt, grid, &begun)?;
     make_grid(rt, grid, Durability::Synced)?;
-    begin_mark(rt, grid, &known)?;
+    let known = begin(rt, grid, &begun)?;
     for server in 0..servers {
         mark_server(rt, grid, server, &known)?;
     }
-    end_mark(rt, grid)
+    end(rt, grid, &known)
 }
 
-// The identity that an earlier call began with, or a new one.
-fn begun_identity<R>(rt: &R, grid: &str) -> Result<Identity, Fault>
+// The mark that an earlier call began with, or a new one.
+fn begun_mark<R>(rt: &R, grid: &str, servers: u16) -> Result<Mark, Fault>
 where
     R: Files + Clock + AllocGlobal,
 {
-    let alloc = rt.alloc();
-    let path = part_path(alloc, grid)?;
-    match at_path(
-        alloc,
-        find_mark(rt, path.as_str(), Kind::Grid),
-        path.as_str(),
-    )? {
-        Found::Mark(mark) => Ok(mark.identity),
-        Found::Nothing | Found::Other => new_identity(rt, grid),
+    match find_at(rt, part_path(rt.alloc(), grid)?)? {
+        Found::Mark(begun) => agreed(begun, servers),
+        Found::Nothing | Found::Other => Ok(Mark {
+            identity: new_identity(rt, grid)?,
+            kind: Kind::Grid,
+            number: servers,
+        }),
     }
+}
+
+// A mark that was begun with, where it has this number. A call goes on with no other.
+fn agreed(begun: Mark, servers: u16) -> Result<Mark, Fault>
+    ensures agreed { IsOk result ↔ (begun.number ≡ servers) }
+    ensures same { IfOk result (λ mark. mark ≡ begun) }
+    ensures refused { IfErr result (λ fault. fault ≡ Fault.AlreadyGrid) }
+{
+    if begun.number == servers {
+        return Ok(begun);
+    }
+    Err(Fault::AlreadyGrid)
 }
 
 // An identity that no other grid has: of the folder's path, and the time.
@@ -95,145 +99,105 @@ where
     Ok(identity_of(seed.as_bytes()))
 }
 
-// Refuses servers of which two have one folder, by the numbers that the system has for folders.
-fn refuse_one_folder<R>(rt: &R, grid: &str, servers: u16) -> Result<(), Fault>
+// Refuses servers of which two have one folder, and folders with other marks.
+fn refuse_folders<R>(rt: &R, grid: &str, known: &Mark) -> Result<(), Fault>
 where
     R: Files + AllocGlobal,
 {
-    let alloc = rt.alloc();
-    let mut folders = Vec::new(alloc);
-    for server in 0..servers {
+    let mut folders = Vec::new(rt.alloc());
+    for server in 0..known.number {
         if let Some(folder) = standing_folder(rt, grid, server)? {
-            let numbers = (folder.dev(), folder.ino());
-            if let Some(first) = server_with(folders.as_slice(), numbers) {
-                return Err(same_folder(alloc, first, server)?);
-            }
-            folders.push((numbers, server))?;
+            note_folder(rt.alloc(), &mut folders, &folder, server)?;
         }
+    }
+    for server in 0..known.number {
+        has_own_mark(rt, grid, server, known)?;
     }
     Ok(())
 }
 
-// The numbers of a folder's file system, and of the folder in it.
-type Numbers = (u64, u64);
-
-// The server whose folder has these numbers.
-fn server_with(folders: &[(Numbers, NodeId)], numbers: Numbers) -> Option<NodeId> {
-    for (others, server) in folders {
-        if *others == numbers {
-            return Some(*server);
-        }
-    }
-    None
-}
-
-// A server's folder, where it stands already. What stands there and is no folder is refused, and so
-// is a link to nothing, as to a disk that is not mounted.
-fn standing_folder<R>(rt: &R, grid: &str, server: NodeId) -> Result<Option<Metadata>, Fault>
-where
-    R: Files + AllocGlobal,
-{
-    let folder = server_folder(rt.alloc(), grid, server)?;
-    let found = match fs::metadata(rt, folder.as_str()) {
-        Ok(found) if found.is_dir() => Ok(Some(found)),
-        Ok(_) => Err(io::Error::from(ErrorKind::NotADirectory)),
-        Err(error) if error.kind() != ErrorKind::NotFound => Err(error),
-        Err(error) => match fs::symlink_metadata(rt, folder.as_str()) {
-            Ok(_) => Err(error),
-            Err(_) => Ok(None),
-        },
-    };
-    at_path(rt.alloc(), found, folder.as_str())
-}
-
-// Whether a server's folder has its mark already. Another mark is refused.
-fn has_own_mark<R>(rt: &R, grid: &str, server: NodeId, known: &Mark) -> Result<bool, Fault>
-where
-    R: Files + AllocGlobal,
-{
-    let alloc = rt.alloc();
-    let folder = server_folder(alloc, grid, server)?;
-    let path = mark_path(alloc, folder.as_str())?;
-    let found = find_mark(rt, path.as_str(), Kind::Server);
-    let found = at_path(alloc, found, path.as_str())?;
-    match likeness_of(&found, &server_mark(known, server)) {
-        Likeness::Nothing => Ok(false),
-        Likeness::Same => Ok(true),
-        Likeness::OtherServer(first) => Err(same_folder(alloc, first, server)?),
-        Likeness::OtherGrid | Likeness::NoMark => {
-            Err(Fault::OtherMark(told_path(alloc, path.as_str())?))
-        }
-    }
-}
-
-// The fault of two servers whose folders are one.
-fn same_folder(alloc: Global, first: NodeId, second: NodeId) -> Result<Fault, AllocError> {
-    let first = server_name(alloc, first)?;
-    Ok(Fault::SameFolder(first, server_name(alloc, second)?))
-}
-
-// Makes a server's folder where it is not there, and marks it.
-fn mark_server<R>(rt: &R, grid: &str, server: NodeId, known: &Mark) -> Result<(), Fault>
-where
-    R: Files + AllocGlobal,
-{
-    let alloc = rt.alloc();
-    let folder = server_folder(alloc, grid, server)?;
-    let made = make_folder(rt, folder.as_str(), Durability::Synced);
-    at_path(alloc, made, folder.as_str())?;
-    // a folder that was reached by two ways is seen here
-    if has_own_mark(rt, grid, server, known)? {
-        return Ok(());
-    }
-    begin_mark(rt, folder.as_str(), &server_mark(known, server))?;
-    end_mark(rt, folder.as_str())
-}
-
-// The path of a mark that is not whole yet.
-fn part_path(alloc: Global, folder: &str) -> Result<String, AllocError> {
-    let path = mark_path(alloc, folder)?;
+/// The path of the mark of a grid whose servers have not all their marks.
+pub(crate) fn part_path(alloc: Global, grid: &str) -> Result<String, AllocError> {
+    let path = mark_path(alloc, grid)?;
     format!(in alloc; "{path}.part")
 }
 
-// Writes a mark under the name of one that is not whole yet.
-fn begin_mark<R>(rt: &R, folder: &str, mark: &Mark) -> Result<(), Fault>
+// What stands at the path of a grid's mark.
+fn find_at<R>(rt: &R, path: String) -> Result<Found, Fault>
 where
     R: Files + AllocGlobal,
 {
-    let alloc = rt.alloc();
-    let path = part_path(alloc, folder)?;
-    let text = mark.text(alloc)?;
-    let written = write_anew(rt, path.as_str(), text.as_str());
-    at_path(alloc, written, path.as_str())?;
-    at_path(alloc, sync_folder(rt, folder), folder)
+    let found = find_mark(rt, path.as_str(), Kind::Grid);
+    at_path(rt.alloc(), found, path.as_str())
 }
 
-// Gives a mark its name, which is on the disk then.
-fn end_mark<R>(rt: &R, folder: &str) -> Result<(), Fault>
+// Begins with a mark, or goes on with the one that another call began with. `AlreadyGrid` where
+// another has come to its end.
+fn begin<R>(rt: &R, grid: &str, wanted: &Mark) -> Result<Mark, Fault>
 where
-    R: Files + AllocGlobal,
+    R: Files + RandomSource + AllocGlobal,
 {
-    let alloc = rt.alloc();
-    let (part, path) = (part_path(alloc, folder)?, mark_path(alloc, folder)?);
-    let renamed = fs::rename(rt, part.as_str(), path.as_str());
-    at_path(alloc, renamed, path.as_str())?;
-    at_path(alloc, sync_folder(rt, folder), folder)
-}
-
-// Writes a file, in place of one that an earlier call left, and puts its bytes on the disk.
-fn write_anew<R: Files>(rt: &R, path: &str, text: &str) -> io::Result<()> {
-    match fs::remove_file(rt, path) {
-        Err(error) if error.kind() != ErrorKind::NotFound => return Err(error),
-        _ => {}
+    let begun = claim(rt, grid, wanted)?;
+    match find_at(rt, mark_path(rt.alloc(), grid)?)? {
+        Found::Nothing => agreed(begun, wanted.number),
+        Found::Mark(_) | Found::Other => {
+            remove_part(rt, grid)?;
+            Err(Fault::AlreadyGrid)
+        }
     }
-    let mut options = OpenOptions::new();
-    options.write(true).create_new(true);
-    let mut file = options.open(rt, path)?;
-    file.write_all(text.as_bytes())?;
-    file.sync_all()
 }
 
-// Puts the names that stand in a folder on the disk.
-fn sync_folder<R: Files>(rt: &R, folder: &str) -> io::Result<()> {
-    File::open(rt, folder)?.sync_all()
+/// The mark under the name of one that is not whole yet: this one, where there was none. What is no
+/// mark is replaced, as a write that was cut off leaves it where files have no links.
+pub(crate) fn claim<R>(rt: &R, grid: &str, wanted: &Mark) -> Result<Mark, Fault>
+where
+    R: Files + RandomSource + AllocGlobal,
+{
+    let path = part_path(rt.alloc(), grid)?;
+    if publish_mark(rt, grid, path.as_str(), wanted)? {
+        return Ok(*wanted);
+    }
+    match find_at(rt, path)? {
+        Found::Mark(begun) => Ok(begun),
+        Found::Other => replace_part(rt, grid, wanted),
+        Found::Nothing => Err(Fault::AlreadyGrid),
+    }
+}
+
+/// Puts this mark in the place of one that is not whole yet.
+pub(crate) fn replace_part<R>(rt: &R, grid: &str, wanted: &Mark) -> Result<Mark, Fault>
+where
+    R: Files + RandomSource + AllocGlobal,
+    ensures { IfOk result (λ mark. mark ≡ wanted.now) }
+{
+    let alloc = rt.alloc();
+    let (path, text) = (part_path(alloc, grid)?, wanted.text(alloc)?);
+    let file = mark_file(grid, path.as_str(), text.as_str());
+    at_path(alloc, replace(rt, &file), path.as_str())?;
+    Ok(*wanted)
+}
+
+/// Writes the mark of a grid, whose servers have theirs. `AlreadyGrid` where it has one.
+pub(crate) fn end<R>(rt: &R, grid: &str, known: &Mark) -> Result<(), Fault>
+where
+    R: Files + RandomSource + AllocGlobal,
+{
+    let path = mark_path(rt.alloc(), grid)?;
+    if !publish_mark(rt, grid, path.as_str(), known)? {
+        return Err(Fault::AlreadyGrid);
+    }
+    remove_part(rt, grid)
+}
+
+// Removes the mark that is not whole yet, of a grid that has its mark: nobody goes on with it.
+fn remove_part<R>(rt: &R, grid: &str) -> Result<(), Fault>
+where
+    R: Files + AllocGlobal,
+{
+    let path = part_path(rt.alloc(), grid)?;
+    let removed = match fs::remove_file(rt, path.as_str()) {
+        Err(error) if error.kind() == ErrorKind::NotFound => Ok(()),
+        outcome => outcome,
+    };
+    at_path(rt.alloc(), removed, path.as_str())
 }

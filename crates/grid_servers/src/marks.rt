@@ -96,6 +96,35 @@ where
     }
 }
 
+/// The mark of a grid. `UnknownGrid` of one that does not know its servers.
+pub(crate) fn known_mark<R>(rt: &R, grid: &str) -> Result<Mark, Fault>
+where
+    R: Files + AllocGlobal,
+{
+    match grid_mark(rt, grid)? {
+        Some(mark) => Ok(mark),
+        None => Err(Fault::UnknownGrid(told_path(rt.alloc(), grid)?)),
+    }
+}
+
+/// Refuses a folder that is no grid's that knows its servers: `UnknownGrid` where it has no mark,
+/// also where it is not there, and `BadMark` where its mark is none.
+pub fn known_grid<R>(rt: &R, grid: &str) -> Result<(), Fault>
+where
+    R: Files + AllocGlobal,
+{
+    known_mark(rt, grid)?;
+    Ok(())
+}
+
+/// How many servers a grid has that knows its servers. None of another.
+pub fn grid_servers_count<R>(rt: &R, grid: &str) -> Result<Option<u16>, Fault>
+where
+    R: Files + AllocGlobal,
+{
+    Ok(grid_mark(rt, grid)?.map(|mark| mark.number))
+}
+
 /// Refuses the folder of a server that is not there, or has not its mark, in a grid that knows its
 /// servers. In another grid no folder is refused.
 pub fn try_mark<R>(rt: &R, grid: &str, server: NodeId) -> io::Result<()>

@@ -1,6 +1,6 @@
 //! The servers of a grid, each over its own folder.
 
-ghost use Rattle.std.specs.Prelude.{◌≡◌, ◌≤◌, length, nat_eq, IfOk, OnOk};
+ghost use Rattle.std.specs.Prelude.{◌≡◌, ◌≤◌, ◌<◌, length, nat_eq, IfOk, OnOk};
 ghost use Rattle.std.specs.List.{IsDistinct};
 ghost use Rattle.grid_servers.specs.Servers.{servers_without};
 
@@ -8,22 +8,26 @@ use crate::files::if_there;
 use crate::folders::{MAX_SERVERS, server_folder};
 use crate::marks::{grid_mark, try_known};
 use grid_marks::Mark;
-use grid_rules::{Fault, first_servers, is_memory};
+use grid_rules::{Fault, first_servers, is_memory, told_path};
 use local_grid::grid::LocalGrid;
 use local_grid::link::MemoryLink;
 use local_grid::node::Node;
 use server_core::server::{CAPACITY, Server};
+use share_folders::folder::{FolderStore, Purpose};
 use share_store::error::StoreError;
-use share_store::folder::{FolderStore, Purpose};
 use socket_links::{GridLink, SocketLink, SocketPair, connect, listen};
 use std::alloc::{AllocError, Global};
 use std::fs;
 use std::net::Net;
+use std::random::RandomSource;
 use std::rt::Files;
 use wire::message::NodeId;
 
 /// The session of a command's first operation. Each further one over the same links has the next.
 pub const FIRST_SESSION: u64 = 1;
+
+// So many servers there are at most.
+const ALL_SERVERS: usize = MAX_SERVERS as usize;
 
 /// A link to a server, in memory or over sockets.
 type ServerLink<R> = GridLink<SocketPair<<R as Net>::Stream>>;
@@ -38,7 +42,7 @@ pub type FolderGrid<R> = LocalGrid<FolderStore<R>, ServerLink<R>>;
 /// stand there.
 pub fn standing_servers<R>(rt: &R, grid: &str) -> Result<Vec<NodeId>, Fault>
 where
-    R: Files + AllocGlobal,
+    R: Files + AllocGlobal + Clone + Drop,
     ensures { IfOk result (λ servers. IsDistinct nat_eq servers.items) }
 {
     match grid_mark(rt, grid)? {
@@ -47,24 +51,83 @@ where
     }
 }
 
+/// The same of a grid that has a server at least. `NoServers` of one that has none.
+pub fn some_servers<R>(rt: &R, grid: &str) -> Result<Vec<NodeId>, Fault>
+where
+    R: Files + AllocGlobal + Clone + Drop,
+    ensures { IfOk result (λ servers. IsDistinct nat_eq servers.items
+        × (0 < length servers.items)) }
+{
+    let servers = standing_servers(rt, grid)?;
+    if servers.is_empty() {
+        return Err(Fault::NoServers(told_path(rt.alloc(), grid)?));
+    }
+    Ok(servers)
+}
+
+/// Whether there is no grid yet: a folder that is not there, or has no mark and no server's folder.
+pub fn is_new_grid<R>(rt: &R, grid: &str) -> Result<bool, Fault>
+where
+    R: Files + AllocGlobal + Clone + Drop,
+{
+    match grid_mark(rt, grid)? {
+        Some(_) => Ok(false),
+        None => Ok(found_servers(rt, grid)?.is_empty()),
+    }
+}
+
 // The numbers of the servers whose folders stand in a grid, rising.
 fn found_servers<R>(rt: &R, grid: &str) -> Result<Vec<NodeId>, Fault>
 where
-    R: Files + AllocGlobal,
+    R: Files + AllocGlobal + Clone + Drop,
     ensures { IfOk result (λ servers. IsDistinct nat_eq servers.items) }
 {
-    let alloc = rt.alloc();
-    let mut servers = Vec::new(alloc);
+    let named = named_servers(rt, grid)?;
+    let mut servers = Vec::new(rt.alloc());
     for server in 0..MAX_SERVERS {
-        if is_standing(rt, grid, server)? {
+        if is_standing(rt, grid, server, &named)? {
             servers.push(server)?;
         }
     }
     Ok(servers)
 }
 
+// Which servers have a name in a grid's folder, by their numbers: one look in place of one for each
+// server. A folder that cannot be read has none.
+fn named_servers<R>(rt: &R, grid: &str) -> Result<[bool; ALL_SERVERS], Fault>
+where
+    R: Files + AllocGlobal + Clone + Drop,
+{
+    let mut named = [false; ALL_SERVERS];
+    let Some(entries) = if_there(fs::read_dir(rt, grid))? else {
+        return Ok(named);
+    };
+    for entry in entries {
+        if let Some(entry) = if_there(entry)? {
+            if let Some(server) = server_named(entry.file_name()) {
+                named[usize::from(server)] = true;
+            }
+        }
+    }
+    Ok(named)
+}
+
+// The number of the server whose folder may have this name.
+fn server_named(name: &str) -> Option<u8> {
+    let digits = name.strip_prefix("server-")?;
+    digits.parse::<u8>().ok()
+}
+
 // Whether there is a server's folder in a grid.
-fn is_standing<R: Files + AllocGlobal>(rt: &R, grid: &str, server: NodeId) -> Result<bool, Fault> {
+fn is_standing<R: Files + AllocGlobal>(
+    rt: &R,
+    grid: &str,
+    server: NodeId,
+    named: &[bool],
+) -> Result<bool, Fault> {
+    if named.get(usize::from(server)) != Some(&true) {
+        return Ok(false);
+    }
     let folder = server_folder(rt.alloc(), grid, server)?;
     let found = if_there(fs::metadata(rt, folder.as_str()))?;
     Ok(found.is_some_and(|file| file.is_dir()))
@@ -82,7 +145,7 @@ pub fn open_servers<R>(
     over_sockets: bool,
 ) -> Result<FolderGrid<R>, Fault>
 where
-    R: Files + Net + AllocGlobal + Clone + Drop,
+    R: Files + Net + RandomSource + AllocGlobal + Clone + Drop,
 {
     let links = open_links(rt, servers.len(), over_sockets)?;
     let opening = Opening {
@@ -111,7 +174,7 @@ fn open_nodes<R>(
     links: Vec<ServerLink<R>>,
 ) -> Result<Vec<Option<ServerNode<R>>>, Fault>
 where
-    R: Files + Net + AllocGlobal + Clone + Drop,
+    R: Files + Net + RandomSource + AllocGlobal + Clone + Drop,
 {
     let mut nodes = Vec::new(rt.alloc());
     for (server, link) in servers.iter().zip(links) {
@@ -129,7 +192,7 @@ fn add_node<R>(
     nodes: &mut Vec<Option<ServerNode<R>>>,
 ) -> Result<(), Fault>
 where
-    R: Files + Net + AllocGlobal + Clone + Drop,
+    R: Files + Net + RandomSource + AllocGlobal + Clone + Drop,
 {
     leave_out(nodes, server)?;
     let node = match open_server(rt, opening, server)? {
@@ -167,7 +230,7 @@ where
     match listen(rt) {
         Ok(listener) => Ok(SocketLink::new(rt.alloc(), connect(rt, &listener).ok())),
         Err(error) if is_memory(&error) => Err(Fault::OutOfMemory),
-        Err(_) => Err(Fault::Socket),
+        Err(error) => Err(Fault::Socket(error)),
     }
 }
 
@@ -189,7 +252,7 @@ fn open_server<R>(
     server: NodeId,
 ) -> Result<Option<Server<FolderStore<R>>>, Fault>
 where
-    R: Files + AllocGlobal + Clone + Drop,
+    R: Files + RandomSource + AllocGlobal + Clone + Drop,
 {
     if let Some(known) = &opening.known {
         if if_there(try_known(rt, opening.grid, server, known))?.is_none() {
