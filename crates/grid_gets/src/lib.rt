@@ -4,6 +4,7 @@
 mod output;
 mod range;
 mod spans;
+mod target;
 mod writing_download;
 
 pub use range::get;

@@ -7,28 +7,34 @@ use crate::output::Part;
 use crate::spans::Spans;
 use cap_text::{Cap, ReadCap};
 use grid_rules::{ByteRange, Fault, Verb, range_of, read_cap};
-use grid_servers::{Purpose, is_grid, open_servers, standing_servers};
+use grid_servers::{Purpose, is_grid, known_grid, open_servers, standing_servers};
 use grid_telling::{Counting, Failure, Progress, note_servers, print};
 use grid_words::GetWords;
 use std::io::{IsTerminal, Write};
 use std::net::Net;
+use std::random::RandomSource;
 use std::rt::{Clock, Files};
 
 /// Writes bytes of the file of a cap, to a file where one is named: from the cap itself where it
-/// holds the file, else from what the servers answer, each segment once it is proved.
+/// holds the file, else from what the servers answer, each segment once it is proved. With
+/// `is_known` their grid has to be marked.
 pub fn get<R, O, E>(
     rt: &R,
     words: &GetWords<'_>,
+    is_known: bool,
     out: &mut O,
     progress: &mut Progress<'_, R, E>,
 ) -> Result<(), Failure>
 where
-    R: Files + Net + Clock + AllocGlobal + Clone + Drop,
+    R: Files + Net + Clock + RandomSource + AllocGlobal + Clone + Drop,
     O: Write,
     E: Write + IsTerminal,
 {
     let cap = read_cap(words.cap)?;
     let range = range_of(words.from, words.to, size_of(&cap)?)?;
+    if is_known && matches!(cap, Cap::Chk(_)) {
+        known_grid(rt, words.grid)?;
+    }
     match words.output {
         None => write_bytes(rt, words, &cap, &range, out, progress),
         Some(path) => write_file(rt, words, path, &cap, &range, progress),
@@ -54,7 +60,7 @@ fn write_file<R, E>(
     progress: &mut Progress<'_, R, E>,
 ) -> Result<(), Failure>
 where
-    R: Files + Net + Clock + AllocGlobal + Clone + Drop,
+    R: Files + Net + Clock + RandomSource + AllocGlobal + Clone + Drop,
     E: Write + IsTerminal,
 {
     let mut part = Part::create(rt, path)?;
@@ -72,7 +78,7 @@ fn write_bytes<R, O, E>(
     progress: &mut Progress<'_, R, E>,
 ) -> Result<(), Failure>
 where
-    R: Files + Net + Clock + AllocGlobal + Clone + Drop,
+    R: Files + Net + Clock + RandomSource + AllocGlobal + Clone + Drop,
     O: Write,
     E: Write + IsTerminal,
 {
@@ -100,7 +106,7 @@ fn get_range<R, O, E>(
     progress: &mut Progress<'_, R, E>,
 ) -> Result<(), Failure>
 where
-    R: Files + Net + Clock + AllocGlobal + Clone + Drop,
+    R: Files + Net + Clock + RandomSource + AllocGlobal + Clone + Drop,
     O: Write,
     E: Write + IsTerminal,
 {
