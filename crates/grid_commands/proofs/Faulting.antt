@@ -46,7 +46,7 @@ spelled_fault lines script faults.SourceChanged spells is = is
 spelled_fault lines script faults.SourceFault spells is = is
 spelled_fault lines script faults.Stopped spells is = is
 spelled_fault lines script (faults.File p _) spells is = is
-spelled_fault lines script faults.Socket spells is = is
+spelled_fault lines script (faults.Socket e) spells is = is
 spelled_fault lines script faults.TurnLimit spells is = is
 spelled_fault lines script (faults.BadScript line) spells is = absurd is
 spelled_fault lines script faults.NeedsReadCap spells is = is
@@ -54,6 +54,10 @@ spelled_fault lines script faults.AlreadyGrid spells is = is
 spelled_fault lines script (faults.SameFolder first second) spells is = is
 spelled_fault lines script (faults.OtherMark path) spells is = is
 spelled_fault lines script (faults.BadMark path) spells is = is
+spelled_fault lines script faults.Output spells is = is
+spelled_fault lines script (faults.NoServers path) spells is = is
+spelled_fault lines script (faults.UnknownGrid path) spells is = is
+spelled_fault lines script (faults.NotEmpty path) spells is = is
 
 -- a run of a script that lines spell is one of the lines
 pub spelled_refusal : (lines : List (List ℕ)) (script : Script) (r : Result Ending Fault)

@@ -1,13 +1,18 @@
 //! `grid check`: a verdict on each share of a cap's file that the servers of a grid offer.
 
-use crate::{DONE, LITERAL};
+ghost use Rattle.std.specs.Prelude.{◌<◌, length, nat_eq, IfOk};
+ghost use Rattle.std.specs.List.{IsDistinct};
+
+use crate::{DONE, Environment, LITERAL};
 use cap_text::{Cap, VerifyCap};
 use checker::Check;
 use checker::status::Report;
 use grid_rules::{
     Fault, Verb, missing_shares, read_cap, report_json, report_lines, report_status, turn_limit,
 };
-use grid_servers::{FIRST_SESSION, FolderGrid, Purpose, is_grid, open_servers, standing_servers};
+use grid_servers::{
+    FIRST_SESSION, FolderGrid, Purpose, is_grid, known_grid, open_servers, some_servers,
+};
 use grid_telling::{Counting, Failure, Progress, note_blame, note_servers, print};
 use grid_words::CheckWords;
 use local_grid::watched::Watched;
@@ -15,7 +20,9 @@ use share_reading::Verdict;
 use std::alloc::Global;
 use std::io::{IsTerminal, Write};
 use std::net::Net;
+use std::random::RandomSource;
 use std::rt::{Clock, Files};
+use wire::message::NodeId;
 
 /// How many bytes of a share are no blocks, at most: those of three trees over 1,048,576 segments,
 /// and of its header, its share hashes and its extension block.
@@ -29,11 +36,12 @@ const LITERAL_JSON: &[u8] = b"{\"literal\":true}\n";
 pub(crate) fn check<R, O, E>(
     rt: &R,
     words: &CheckWords<'_>,
+    environment: &Environment<'_>,
     out: &mut O,
     progress: &mut Progress<'_, R, E>,
 ) -> Result<u8, Failure>
 where
-    R: Files + Net + Clock + AllocGlobal + Clone + Drop,
+    R: Files + Net + Clock + RandomSource + AllocGlobal + Clone + Drop,
     O: Write,
     E: Write + IsTerminal,
 {
@@ -42,7 +50,8 @@ where
         return Ok(DONE);
     };
     let total = cap.total();
-    let found = find_shares(rt, words, cap, progress);
+    let servers = asked_servers(rt, words.grid, words.known || environment.known)?;
+    let found = find_shares(rt, words, servers.as_slice(), cap, progress);
     progress.clear();
     let report = found?;
     note_report(rt, words.grid, &report, total, progress)?;
@@ -74,8 +83,8 @@ fn text_of(
     Ok(text?)
 }
 
-// Tells of each server with a corrupt share, and of each number that nobody holds.
-fn note_report<R, E>(
+/// Tells of each server with a corrupt share, and of each number that nobody holds.
+pub(crate) fn note_report<R, E>(
     rt: &R,
     grid: &str,
     report: &Report,
@@ -100,20 +109,34 @@ where
     Ok(())
 }
 
-// What a check finds at the servers whose folders stand in a grid.
+/// The servers of a grid that are asked, of which there is one at least. With `is_known` the grid
+/// has to be marked.
+pub(crate) fn asked_servers<R>(rt: &R, grid: &str, is_known: bool) -> Result<Vec<NodeId>, Fault>
+where
+    R: Files + AllocGlobal + Clone + Drop,
+    ensures some { IfOk result (λ servers. 0 < length servers.items) }
+    ensures distinct { IfOk result (λ servers. IsDistinct nat_eq servers.items) }
+{
+    is_grid(rt, grid)?;
+    if is_known {
+        known_grid(rt, grid)?;
+    }
+    some_servers(rt, grid)
+}
+
+// What a check finds at these servers of a grid, which are distinct.
 fn find_shares<R, E>(
     rt: &R,
     words: &CheckWords<'_>,
+    servers: &[NodeId],
     cap: VerifyCap,
     progress: &mut Progress<'_, R, E>,
 ) -> Result<Report, Fault>
 where
-    R: Files + Net + Clock + AllocGlobal + Clone + Drop,
+    R: Files + Net + Clock + RandomSource + AllocGlobal + Clone + Drop,
     E: Write + IsTerminal,
+    requires { IsDistinct nat_eq servers.now }
 {
-    is_grid(rt, words.grid)?;
-    let standing = standing_servers(rt, words.grid)?;
-    let servers = standing.as_slice();
     let mut nodes = open_servers(rt, words.grid, servers, Purpose::Reading, words.net)?;
     progress.begin(Verb::Check, Counting::Answered(share_bytes(&cap)), 0);
     let check = Check::start(rt.alloc(), cap, servers, FIRST_SESSION, nodes.clock())?;
@@ -143,7 +166,7 @@ pub(crate) fn carry_check<R, E>(
     progress: &mut Progress<'_, R, E>,
 ) -> Result<Check, Fault>
 where
-    R: Files + Net + Clock + AllocGlobal + Clone + Drop,
+    R: Files + Net + Clock + RandomSource + AllocGlobal + Clone + Drop,
     E: Write + IsTerminal,
 {
     let limit = check_limit(check.cap(), servers as u64);

@@ -1,37 +1,212 @@
-//! `grid init`: a grid comes to know its servers.
+//! `grid init`: a grid comes to know its servers, or other servers than before.
 
-ghost use Rattle.std.specs.Prelude.{◌≡◌, ◌≤◌, IfOk};
+ghost use Rattle.std.specs.Prelude.{◌≡◌, ◌≤◌, ◌<◌, ◌^◌, IfOk};
 
-use grid_rules::{Fault, Limit};
-use grid_servers::{MAX_SERVERS, can_be_marked, mark_grid, standing_servers};
+use grid_rules::{Fault, Limit, told_path};
+use grid_servers::{
+    Durability, MAX_SERVERS, add_servers, adopt_grid, at_path, can_be_marked, draw_secret,
+    grid_secret, grid_servers_count, keep_secret, make_grid, mark_grid, read_secret_file,
+    replace_server, secret_path, standing_servers,
+};
 use grid_telling::{Progress, note_limits};
-use grid_words::InitWords;
-use std::io::{IsTerminal, Write};
+use grid_words::{InitWords, Marking};
+use std::io::{self, ErrorKind, IsTerminal, Write};
+use std::random::RandomSource;
 use std::rt::{Clock, Files};
 
-/// Marks a grid and the folders of its servers, and gives the line with how many there are.
+/// How many servers a new grid has, if nothing else is said.
+const USUAL_SERVERS: u64 = 10;
+
+/// The word that asks for a secret of the system's, in place of the path of a file.
+const NEW_SECRET: &str = "new";
+
+/// Marks a grid and the folders of its servers, and gives the line with how many there are; and one
+/// with where the grid's secret lies, where one was asked for.
 pub(crate) fn init<R, E>(
     rt: &R,
     words: &InitWords<'_>,
     progress: &mut Progress<'_, R, E>,
 ) -> Result<Vec<u8>, Fault>
 where
-    R: Files + Clock + AllocGlobal + Clone + Drop,
+    R: Files + Clock + RandomSource + AllocGlobal + Clone + Drop,
     E: Write + IsTerminal,
 {
-    servers_within(rt, words.servers, 1, progress)?;
+    let servers = mark(rt, words, progress)?;
+    let mut lines = format!(in rt.alloc(); "servers {servers}\n")?;
+    if words.secret_file.is_some() {
+        let path = secret_path(rt.alloc(), words.grid)?;
+        let told = told_path(rt.alloc(), path.as_str())?;
+        lines.push_str(format!(in rt.alloc(); "secret {told}\n")?.as_str())?;
+    }
+    Ok(lines.into_bytes())
+}
+
+// Does what is asked of the marks, and gives how many servers the grid has then.
+fn mark<R, E>(
+    rt: &R,
+    words: &InitWords<'_>,
+    progress: &mut Progress<'_, R, E>,
+) -> Result<u16, Fault>
+where
+    R: Files + Clock + RandomSource + AllocGlobal + Clone + Drop,
+    E: Write + IsTerminal,
+{
+    match words.marking {
+        Marking::New(servers) => new_grid(rt, words, servers, progress),
+        Marking::Replace(server) => replace(rt, words.grid, server, progress),
+        Marking::Add(more) => add(rt, words.grid, more, progress),
+        Marking::Adopt(servers) => adopt(rt, words, servers, progress),
+    }
+}
+
+// A new grid of so many servers, or 10.
+fn new_grid<R, E>(
+    rt: &R,
+    words: &InitWords<'_>,
+    servers: Option<u64>,
+    progress: &mut Progress<'_, R, E>,
+) -> Result<u16, Fault>
+where
+    R: Files + Clock + RandomSource + AllocGlobal + Clone + Drop,
+    E: Write + IsTerminal,
+{
+    let asked = servers.unwrap_or(USUAL_SERVERS);
+    within(rt, &server_limit(asked, 1), progress)?;
     can_be_marked(rt, words.grid)?;
     let least = standing_count(rt, words.grid)?;
-    let servers = servers_within(rt, words.servers, least, progress)?;
+    let servers = within(rt, &server_limit(asked, least), progress)?;
+    begin_secret(rt, words)?;
     mark_grid(rt, words.grid, servers)?;
-    Ok(format!(in rt.alloc(); "servers {servers}\n")?.into_bytes())
+    Ok(servers)
+}
+
+/// The most servers of a grid.
+const MOST_SERVERS: u64 = MAX_SERVERS as u64;
+
+// The mark of a server that was lost, for an empty folder.
+fn replace<R, E>(
+    rt: &R,
+    grid: &str,
+    server: u64,
+    progress: &mut Progress<'_, R, E>,
+) -> Result<u16, Fault>
+where
+    R: Files + Clock + RandomSource + AllocGlobal + Clone + Drop,
+    E: Write + IsTerminal,
+{
+    let servers = known_count(rt, grid)?;
+    let limit = Limit {
+        option: "--replace",
+        value: server,
+        least: 0,
+        most: u64::from(servers).saturating_sub(1),
+    };
+    let server = within(rt, &limit, progress)?;
+    replace_server(rt, grid, server)?;
+    Ok(servers)
+}
+
+// So many servers more.
+fn add<R, E>(rt: &R, grid: &str, more: u64, progress: &mut Progress<'_, R, E>) -> Result<u16, Fault>
+where
+    R: Files + Clock + RandomSource + AllocGlobal + Clone + Drop,
+    E: Write + IsTerminal,
+{
+    let limit = Limit {
+        option: "--add",
+        value: more,
+        least: 1,
+        most: MOST_SERVERS.saturating_sub(u64::from(known_count(rt, grid)?)),
+    };
+    let more = within(rt, &limit, progress)?;
+    add_servers(rt, grid, more)
+}
+
+// The grid's mark anew, by those of its servers, of which there are so many, where that is said.
+fn adopt<R, E>(
+    rt: &R,
+    words: &InitWords<'_>,
+    servers: Option<u64>,
+    progress: &mut Progress<'_, R, E>,
+) -> Result<u16, Fault>
+where
+    R: Files + Clock + RandomSource + AllocGlobal + Clone + Drop,
+    E: Write + IsTerminal,
+{
+    can_be_marked(rt, words.grid)?;
+    let servers = match servers {
+        Some(servers) => {
+            let least = standing_count(rt, words.grid)?;
+            Some(within(rt, &server_limit(servers, least), progress)?)
+        }
+        None => None,
+    };
+    begin_secret(rt, words)?;
+    adopt_grid(rt, words.grid, servers)
+}
+
+// How many servers a grid knows; in one that does not know them there is none to replace.
+fn known_count<R>(rt: &R, grid: &str) -> Result<u16, Fault>
+where
+    R: Files + AllocGlobal,
+{
+    match grid_servers_count(rt, grid)? {
+        Some(servers) => Ok(servers),
+        None => Err(Fault::UnknownGrid(told_path(rt.alloc(), grid)?)),
+    }
+}
+
+// Keeps the secret with the grid that the words ask for. One that an earlier call kept, which came
+// to no end, stays where it is the same, or where any new one is wanted.
+fn begin_secret<R>(rt: &R, words: &InitWords<'_>) -> Result<(), Fault>
+where
+    R: Files + RandomSource + AllocGlobal,
+{
+    let Some(asked) = words.secret_file else {
+        return Ok(());
+    };
+    let kept = grid_secret(rt, words.grid)?;
+    if asked == NEW_SECRET {
+        return match kept {
+            Some(_) => Ok(()),
+            None => with_grid(rt, words.grid, None),
+        };
+    }
+    let secret = read_secret_file(rt, asked)?;
+    match kept {
+        None => with_grid(rt, words.grid, Some(secret.as_slice())),
+        Some(kept) if kept.as_slice() == secret.as_slice() => Ok(()),
+        Some(_) => other_secret(rt, words.grid),
+    }
+}
+
+// Keeps a secret, or a new one, with a grid whose folder is made where it is not there.
+fn with_grid<R>(rt: &R, grid: &str, secret: Option<&[u8]>) -> Result<(), Fault>
+where
+    R: Files + RandomSource + AllocGlobal,
+{
+    make_grid(rt, grid, Durability::Synced)?;
+    match secret {
+        Some(secret) => keep_secret(rt, grid, secret),
+        None => draw_secret(rt, grid),
+    }
+}
+
+// The fault of a grid that keeps another secret.
+fn other_secret<R>(rt: &R, grid: &str) -> Result<(), Fault>
+where
+    R: Files + AllocGlobal,
+{
+    let path = secret_path(rt.alloc(), grid)?;
+    let stands: io::Result<()> = Err(io::Error::from(ErrorKind::AlreadyExists));
+    at_path(rt.alloc(), stands, path.as_str())
 }
 
 // How many servers a grid has to have at least: one, and as many as those whose folders stand there
 // need, of which none is left out.
 fn standing_count<R>(rt: &R, grid: &str) -> Result<u64, Fault>
 where
-    R: Files + AllocGlobal,
+    R: Files + AllocGlobal + Clone + Drop,
 {
     let standing = standing_servers(rt, grid)?;
     match standing.last() {
@@ -40,28 +215,31 @@ where
     }
 }
 
-// How many servers are wanted, from the least to 256.
-fn servers_within<R, E>(
-    rt: &R,
-    servers: u64,
-    least: u64,
-    progress: &mut Progress<'_, R, E>,
-) -> Result<u16, Fault>
+// What was given for an option, which is told where it may not be.
+fn within<R, E>(rt: &R, limit: &Limit<'_>, progress: &mut Progress<'_, R, E>) -> Result<u16, Fault>
 where
     R: Clock + AllocGlobal,
     E: Write + IsTerminal,
-    ensures { IfOk result (λ count. (least ≤ count) × (count ≤ MAX_SERVERS)
-        × (count ≡ servers)) }
+    requires { limit.now.most < 2 ^ 16 }
+    ensures { IfOk result (λ count. (limit.now.least ≤ count) × (count ≤ limit.now.most)
+        × (count ≡ limit.now.value)) }
 {
-    let limit = Limit {
+    if limit.is_kept() {
+        return Ok(limit.value as u16);
+    }
+    note_limits(rt, &[*limit], progress)?;
+    Err(Fault::BadParameters)
+}
+
+// How many servers a grid is to have, from the least to 256.
+fn server_limit<'a>(servers: u64, least: u64) -> Limit<'a>
+    ensures value { (result.value ≡ servers) × (result.least ≡ least) }
+    ensures most { result.most ≡ MAX_SERVERS }
+{
+    Limit {
         option: "--servers",
         value: servers,
         least,
-        most: u64::from(MAX_SERVERS),
-    };
-    if limit.is_kept() {
-        return Ok(servers as u16);
+        most: MOST_SERVERS,
     }
-    note_limits(rt, &[limit], progress)?;
-    Err(Fault::BadParameters)
 }

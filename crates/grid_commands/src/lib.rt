@@ -20,15 +20,19 @@ mod script;
 mod scrub;
 mod streaming;
 
+ghost use Rattle.std.specs.Prelude.{◌≡◌, IfOk};
+
 use clap::error::ErrorKind;
 use grid_gets::get;
-use grid_rules::{Fault, cap_lines, read_cap};
+use grid_rules::{Fault, cap_lines, read_cap, reason_line};
 use grid_telling::{Failure, Progress, print};
 use grid_words::{Request, read_words};
+use put::Outcome;
 use std::alloc::Global;
 use std::convert::AsStr;
 use std::io::{self, IsTerminal};
 use std::net::Net;
+use std::random::RandomSource;
 use std::rt::{Clock, Files};
 
 // The exit status of what is done, that of wrong words, and that of a failed file, writer or
@@ -42,13 +46,23 @@ const FAILED: u8 = 7;
 // What is told of a cap that holds its file.
 const LITERAL: &[u8] = b"literal\n";
 
+/// What a command takes from outside its words.
+#[derive(Clone, Copy)]
+pub struct Environment<'a> {
+    /// Whether a grid has to be one that `init` marked, as with `--known`.
+    pub known: bool,
+    /// The folder in which a pipe is kept that a `put` cannot hold.
+    pub temporary: &'a str,
+}
+
 /// Runs the command that `words` asks for, of which the first is the program's name. Its result
 /// goes to `out`, and a fault, as one line with its number and name, to `err`. A `get` writes as it
 /// reads, so that a beginning of its range may stand on `out` where it ends with a fault.
 ///
 /// Where `err` is a terminal, a command that takes more than a second tells there how far it is,
 /// and clears that line before it ends. With `-v` it tells a line of each server that serves badly.
-/// A fault of these lines is passed over.
+/// A fault of these lines is passed over. Before the line of a fault stands one that tells why,
+/// where there is more to tell.
 ///
 /// | Status | Where it ended |
 /// |---|---|
@@ -60,35 +74,47 @@ const LITERAL: &[u8] = b"literal\n";
 /// | 6 | shares are inconsistent, or a `world` prints that its bytes do not agree |
 /// | 7 | a file, a folder, a socket or memory failed, or `out` or `err` |
 ///
-/// Where `out` fails, its result ends there, and no fault is told.
-pub fn grid<R, S, O, E>(rt: &R, words: &[S], out: &mut O, err: &mut E) -> u8
+/// Where `out` fails, its result ends there.
+pub fn grid<R, S, O, E>(
+    rt: &R,
+    words: &[S],
+    environment: &Environment<'_>,
+    out: &mut O,
+    err: &mut E,
+) -> u8
 where
-    R: Files + Net + Clock + AllocGlobal + Clone + Drop,
+    R: Files + io::Input + Net + Clock + RandomSource + AllocGlobal + Clone + Drop,
     S: AsStr,
     O: io::Write,
     E: io::Write + IsTerminal,
 {
     match read_words(rt.alloc(), words) {
-        Ok(request) => serve(rt, &request, out, err),
+        Ok(request) => serve(rt, &request, environment, out, err),
         Err(error) => tell_words(rt.alloc(), &error, out, err),
     }
 }
 
 // Runs a command that was read, and gives the exit status.
-fn serve<R, O, E>(rt: &R, request: &Request<'_>, out: &mut O, err: &mut E) -> u8
+fn serve<R, O, E>(
+    rt: &R,
+    request: &Request<'_>,
+    environment: &Environment<'_>,
+    out: &mut O,
+    err: &mut E,
+) -> u8
 where
-    R: Files + Net + Clock + AllocGlobal + Clone + Drop,
+    R: Files + io::Input + Net + Clock + RandomSource + AllocGlobal + Clone + Drop,
     O: io::Write,
     E: io::Write + IsTerminal,
 {
     let mut progress = Progress::new(rt, &mut *err);
     progress.set_verbose(request.is_verbose());
-    let ended = run(rt, request, out, &mut progress);
+    let ended = run(rt, request, environment, out, &mut progress);
     progress.clear();
     match ended {
         Ok(status) => status,
-        Err(Failure::Writer) => FAILED,
-        Err(Failure::Fault(fault)) => report(rt.alloc(), err, &fault, request.is_verbose()),
+        Err(Failure::Writer) => report(rt.alloc(), err, &Fault::Output),
+        Err(Failure::Fault(fault)) => report(rt.alloc(), err, &fault),
     }
 }
 
@@ -99,9 +125,15 @@ where
     E: io::Write,
 {
     match error.kind() {
-        ErrorKind::OutOfMemory => report(alloc, err, &Fault::OutOfMemory, false),
-        _ if error.use_stderr() => show(alloc, err, error, WRONG_WORDS),
-        _ => show(alloc, out, error, DONE),
+        ErrorKind::OutOfMemory => report(alloc, err, &Fault::OutOfMemory),
+        _ if error.use_stderr() => match show(alloc, err, error) {
+            Ok(()) => WRONG_WORDS,
+            Err(_) => FAILED,
+        },
+        _ => match show(alloc, out, error) {
+            Ok(()) => DONE,
+            Err(fault) => report(alloc, err, &fault),
+        },
     }
 }
 
@@ -110,7 +142,7 @@ where
 pub fn refuse_words<E: io::Write>(alloc: Global, error: &io::Error, err: &mut E) -> u8 {
     match error.kind() {
         io::ErrorKind::InvalidData => write(err, NOT_UTF8, WRONG_WORDS),
-        _ => report(alloc, err, &Fault::OutOfMemory, false),
+        _ => report(alloc, err, &Fault::OutOfMemory),
     }
 }
 
@@ -121,21 +153,26 @@ For more information, try '--help'.\n";
 fn run<R, O, E>(
     rt: &R,
     request: &Request<'_>,
+    environment: &Environment<'_>,
     out: &mut O,
     progress: &mut Progress<'_, R, E>,
 ) -> Result<u8, Failure>
 where
-    R: Files + Net + Clock + AllocGlobal + Clone + Drop,
+    R: Files + io::Input + Net + Clock + RandomSource + AllocGlobal + Clone + Drop,
     O: io::Write,
     E: io::Write + IsTerminal,
 {
     match request {
         Request::Init(words) => done(print(out, &init::init(rt, words, progress)?)),
-        Request::Put(words) => done(print(out, &put::put(rt, words, progress)?)),
-        Request::Get(words) => done(get(rt, words, out, progress)),
-        Request::Check(words) => check::check(rt, words, out, progress),
-        Request::Repair(words) => done(print(out, &repair::repair(rt, words, progress)?)),
-        Request::Scrub(words) => scrub::scrub(rt, words, out, progress),
+        Request::Put(words) => stored(out, &put::put(rt, words, environment, progress)?),
+        Request::Get(words) => {
+            done(get(rt, words, words.known || environment.known, out, progress))
+        }
+        Request::Check(words) => check::check(rt, words, environment, out, progress),
+        Request::Repair(words) => {
+            stored(out, &repair::repair(rt, words, environment, progress)?)
+        }
+        Request::Scrub(words) => scrub::scrub(rt, words, environment, out, progress),
         Request::World(path) => script::world(rt, path, out),
         Request::Describe(text) => done(print(out, &describe(rt.alloc(), text)?)),
     }
@@ -146,21 +183,24 @@ fn done(written: Result<(), Failure>) -> Result<u8, Failure> {
     written.map(|()| DONE)
 }
 
+// Writes what was stored, and gives the exit status.
+fn stored<O: io::Write>(out: &mut O, outcome: &Outcome) -> Result<u8, Failure>
+    ensures { IfOk result (λ status. status ≡ outcome.now.status) }
+{
+    print(out, &outcome.text)?;
+    Ok(outcome.status)
+}
+
 // The lines that tell what the cap says that this text spells.
 fn describe(alloc: Global, text: &str) -> Result<Vec<u8>, Fault> {
     let cap = read_cap(text)?;
     Ok(cap_lines(alloc, &cap)?.into_bytes())
 }
 
-// Writes a fault's line, with the system's reason before it where that is asked for, and gives the
-// exit status.
-fn report<E: io::Write>(alloc: Global, err: &mut E, fault: &Fault, verbose: bool) -> u8 {
-    if let Fault::File(path, error) = fault {
-        if verbose {
-            if let Ok(line) = format!(in alloc; "{path}: {error}\n") {
-                let _ = err.write_all(line.as_bytes());
-            }
-        }
+// Writes a fault's line, with the line that tells why before it, and gives the exit status.
+fn report<E: io::Write>(alloc: Global, err: &mut E, fault: &Fault) -> u8 {
+    if let Ok(Some(line)) = reason_line(alloc, fault) {
+        let _ = err.write_all(line.as_bytes());
     }
     match format!(in alloc; "grid: {} {fault}\n", fault.number()) {
         Ok(line) => write(err, line.as_bytes(), fault.status()),
@@ -168,12 +208,10 @@ fn report<E: io::Write>(alloc: Global, err: &mut E, fault: &Fault, verbose: bool
     }
 }
 
-// Writes `clap`'s text, which ends its own lines, and gives the exit status.
-fn show<W: io::Write>(alloc: Global, to: &mut W, error: &clap::Error, status: u8) -> u8 {
-    match format!(in alloc; "{error}") {
-        Ok(text) => write(to, text.as_bytes(), status),
-        Err(_) => FAILED,
-    }
+// Writes `clap`'s text, which ends its own lines.
+fn show<W: io::Write>(alloc: Global, to: &mut W, error: &clap::Error) -> Result<(), Fault> {
+    let text = format!(in alloc; "{error}")?;
+    print(to, text.as_bytes()).map_err(|_| Fault::Output)
 }
 
 // Writes bytes, and gives this exit status, or that of a failed writer.

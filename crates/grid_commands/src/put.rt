@@ -1,30 +1,31 @@
 //! `grid put`: a file becomes shares on servers, and a cap.
 
-ghost use Rattle.std.specs.Prelude.{◌≡◌, ◌≤◌, ◌<◌, ◌*◌, ◌/◌, max, IfOk, nat_eq};
+ghost use Rattle.std.specs.Prelude.{◌≡◌, ◌≤◌, ◌<◌, ◌*◌, ◌/◌, length, max, IfOk, IfSome, nat_eq};
 ghost use Rattle.std.specs.List.{IsDistinct};
 ghost use Rattle.tagged_hash.specs.ConvergentKey.{IsSecret};
 ghost use Rattle.ueb.specs.Limits.{min_file_size};
+ghost use Rattle.file_upload.specs.Prepared.{goal_of};
 
-use crate::mending::mend_servers;
-use crate::placing::{Begun, Placing, carry_upload, durability_of};
-use crate::streaming::begin_stream;
+use crate::placing::{Made, Placing, Stored, durability_of, place_shares};
+use crate::streaming::make_stream;
+use crate::{DONE, Environment};
 use cap_text::{Cap, LitCap, ReadCap};
 use file_encoding::{MAX_SECRET_SIZE, Params};
 use file_upload::prepared::{FileUpload, PreparedUpload, prepare};
-use grid_rules::{Fault, Limit, Verb, first_servers, servers_of};
+use grid_rules::{Fault, Limit, Verb, first_servers, made_line, told_path};
 use grid_servers::{
-    FIRST_SESSION, Input, MAX_SERVERS, Purpose, at_path, can_be_grid, make_grid, open_input,
-    open_servers, read_at_most,
+    Input, MAX_SERVERS, can_be_grid, grid_secret, grid_servers_count, is_new_grid, known_grid,
+    make_grid, open_input, read_secret_file,
 };
-use grid_telling::{Counting, Progress, note_limits};
+use grid_telling::{Progress, note_limits};
 use grid_words::{PutWords, SecretWords};
 use sources::FileSource;
 use std::alloc::Global;
-use std::io::{IsTerminal, Write};
+use std::io::{self, IsTerminal, Write};
 use std::net::Net;
+use std::random::RandomSource;
 use std::rt::{Clock, Files};
 use upload_core::pieces::{Pieces, WholeShares};
-use wire::message::NodeId;
 
 /// The greatest number of shares.
 const MAX_SHARES: u64 = 256;
@@ -35,18 +36,28 @@ const MAX_SEGMENT_SIZE: u64 = 1 << 20;
 /// The greatest file that its cap holds, in bytes.
 const MAX_LITERAL_SIZE: usize = 55;
 
-/// How many bytes of shares a `put` holds at most. A file whose shares are no more is read once and
-/// encoded whole, which is fast, and no change of the file can come between; with the file and what
-/// the encoding takes it holds some 100 MB then. A greater file is never held.
+/// How many servers are used in a grid that does not know its servers, if nothing else is said.
+const USUAL_SERVERS: u16 = 10;
+
+/// How many bytes of shares a `put` holds at most. A file whose shares are no more is held, read a
+/// second time and compared, and encoded whole, which is fast; with the file and what the encoding
+/// takes it holds some 100 MB then. A greater file is never held.
 const HELD_SHARES: u64 = 63 << 20;
 
-/// What a `put` stores by: its words, the servers, the secret and the numbers.
+/// What a `put` or a `repair` prints, and its exit status.
+#[derive(Drop)]
+pub(crate) struct Outcome {
+    pub text: Vec<u8>,
+    pub status: u8,
+}
+
+/// What a `put` stores by: its words, the numbers, and the secret, where one is said.
 #[derive(Clone, Copy)]
 struct Putting<'a> {
     words: &'a PutWords<'a>,
-    placing: Placing<'a>,
-    secret: &'a [u8],
     params: &'a Params,
+    said: Option<&'a [u8]>,
+    is_known: bool,
 }
 
 /// Stores a file, and gives the lines with its cap and its happiness. The cap of a small file holds
@@ -54,56 +65,48 @@ struct Putting<'a> {
 pub(crate) fn put<R, E>(
     rt: &R,
     words: &PutWords<'_>,
+    environment: &Environment<'_>,
     progress: &mut Progress<'_, R, E>,
-) -> Result<Vec<u8>, Fault>
+) -> Result<Outcome, Fault>
 where
-    R: Files + Net + Clock + AllocGlobal + Clone + Drop,
+    R: Files + io::Input + Net + Clock + RandomSource + AllocGlobal + Clone + Drop,
+    E: Write + IsTerminal,
+{
+    let params = read_numbers(rt, words, progress)?;
+    let said = said_secret(rt, &words.secret, progress)?;
+    let said = match &said {
+        Some(secret) => Some(secret.as_slice()),
+        None => None,
+    };
+    let putting = Putting {
+        words,
+        params: &params,
+        said,
+        is_known: words.known || environment.known,
+    };
+    let most = most_held(&params);
+    match open_input(rt, words.file, environment.temporary, most)? {
+        Input::Held(file) => put_held(rt, &putting, file, progress),
+        Input::Opened(file, size) => put_opened(rt, &putting, file, size, progress),
+    }
+}
+
+// The numbers of a put, in their ranges. Each that is not is told.
+fn read_numbers<R, E>(
+    rt: &R,
+    words: &PutWords<'_>,
+    progress: &mut Progress<'_, R, E>,
+) -> Result<Params, Fault>
+where
+    R: Clock + AllocGlobal,
     E: Write + IsTerminal,
 {
     note_limits(rt, &limits_of(words), progress)?;
     let params = Params::new(words.needed, words.happy, words.total, words.max_segment)?;
-    let servers = server_count(words.servers)?;
-    let secret = read_secret(rt, &words.secret)?;
-    let numbers = first_servers(rt.alloc(), servers)?;
-    let putting = Putting {
-        words,
-        placing: Placing {
-            grid: words.grid,
-            servers: numbers.as_slice(),
-            durability: durability_of(words.no_sync),
-        },
-        secret: secret.as_slice(),
-        params: &params,
-    };
-    put_file(rt, &putting, progress)
-}
-
-// Stores a file. A fault of the file comes first, then one of the grid's folder, which a small file
-// does not need.
-fn put_file<R, E>(
-    rt: &R,
-    putting: &Putting<'_>,
-    progress: &mut Progress<'_, R, E>,
-) -> Result<Vec<u8>, Fault>
-where
-    R: Files + Net + Clock + AllocGlobal + Clone + Drop,
-    E: Write + IsTerminal,
-    requires secret { IsSecret putting.now.secret.now }
-    requires distinct { IsDistinct nat_eq putting.now.placing.servers.now }
-{
-    let words = putting.words;
-    match open_input(rt, words.file, most_held(putting.params))? {
-        Input::Held(file) => {
-            if file.len() > MAX_LITERAL_SIZE {
-                can_be_grid(rt, words.grid)?;
-            }
-            put_held(rt, putting, file, progress)
-        }
-        Input::Opened(file, size) => {
-            can_be_grid(rt, words.grid)?;
-            put_opened(rt, putting, file, size, progress)
-        }
+    if let Some(servers) = words.servers {
+        server_count(servers)?;
     }
+    Ok(params)
 }
 
 // The bytes of the greatest file that is held: its shares have `total / needed` times so many, and
@@ -116,7 +119,8 @@ fn most_held(params: &Params) -> u64
     most.max(MAX_LITERAL_SIZE as u64)
 }
 
-// The numbers of a put, and their ranges.
+// The numbers of a put, and their ranges. Where no number of servers is written there is none that
+// could be outside its range.
 fn limits_of<'a>(words: &PutWords<'a>) -> [Limit<'a>; 5] {
     let total = words.total.min(MAX_SHARES);
     [
@@ -124,7 +128,11 @@ fn limits_of<'a>(words: &PutWords<'a>) -> [Limit<'a>; 5] {
         limit("--happy", words.happy, total),
         limit("--n", words.total, MAX_SHARES),
         limit("--segment", words.max_segment, MAX_SEGMENT_SIZE),
-        limit("--servers", words.servers, u64::from(MAX_SERVERS)),
+        limit(
+            "--servers",
+            words.servers.unwrap_or(1),
+            u64::from(MAX_SERVERS),
+        ),
     ]
 }
 
@@ -139,9 +147,12 @@ fn limit<'a>(option: &'a str, value: u64, most: u64) -> Limit<'a> {
 }
 
 // The line of a cap that holds its file.
-fn literal_line(alloc: Global, cap: LitCap) -> Result<Vec<u8>, Fault> {
+fn literal_line(alloc: Global, cap: LitCap) -> Result<Outcome, Fault> {
     let cap = Cap::Lit(cap);
-    Ok(format!(in alloc; "{cap}\n")?.into_bytes())
+    Ok(Outcome {
+        text: format!(in alloc; "{cap}\n")?.into_bytes(),
+        status: DONE,
+    })
 }
 
 // The number of servers, which is 1 to 256.
@@ -154,87 +165,59 @@ fn server_count(servers: u64) -> Result<u16, Fault>
     Ok(servers as u16)
 }
 
-// The bytes of the secret: of a file all but one line feed at its end.
-fn read_secret<R>(rt: &R, words: &SecretWords<'_>) -> Result<Vec<u8>, Fault>
+// The secret that the words say, which has at most 64 bytes; none where they say nothing.
+fn said_secret<R, E>(
+    rt: &R,
+    words: &SecretWords<'_>,
+    progress: &mut Progress<'_, R, E>,
+) -> Result<Option<Vec<u8>>, Fault>
 where
-    R: Files + AllocGlobal,
-    ensures { IfOk result (λ secret. IsSecret secret.items) }
+    R: Files + Clock + AllocGlobal,
+    E: Write + IsTerminal,
+    ensures { IfOk result (λ said. IfSome said (λ secret. IsSecret secret.items)) }
 {
     let secret = match words {
+        SecretWords::Unsaid => return Ok(None),
         SecretWords::Text(text) => Vec::from_slice(rt.alloc(), text.as_bytes())?,
         SecretWords::File(path) => read_secret_file(rt, path)?,
     };
     if secret.len() > MAX_SECRET_SIZE {
+        progress.tell(LONG_SECRET);
         return Err(Fault::BadParameters);
     }
-    Ok(secret)
+    Ok(Some(secret))
 }
 
-fn read_secret_file<R>(rt: &R, path: &str) -> Result<Vec<u8>, Fault>
-where
-    R: Files + AllocGlobal,
-{
-    let read = read_at_most(rt, path, MAX_SECRET_SIZE as u64 + 1);
-    match at_path(rt.alloc(), read, path)? {
-        Some(mut secret) => {
-            if secret.last() == Some(&b'\n') {
-                secret.pop();
-            }
-            Ok(secret)
-        }
-        None => Err(Fault::BadParameters),
-    }
-}
+// What is told of a secret that is too long.
+const LONG_SECRET: &str = "a secret has at most 64 bytes\n";
 
-// Stores a file that is held.
+// Stores a file that is held. A fault of the grid's folder comes before those of the file's size,
+// and a small file does not need the folder.
 fn put_held<R, E>(
     rt: &R,
     putting: &Putting<'_>,
     file: Vec<u8>,
     progress: &mut Progress<'_, R, E>,
-) -> Result<Vec<u8>, Fault>
+) -> Result<Outcome, Fault>
 where
-    R: Files + Net + Clock + AllocGlobal + Clone + Drop,
+    R: Files + Net + Clock + RandomSource + AllocGlobal + Clone + Drop,
     E: Write + IsTerminal,
-    requires secret { IsSecret putting.now.secret.now }
-    requires distinct { IsDistinct nat_eq putting.now.placing.servers.now }
+    requires { IfSome putting.now.said (λ secret. IsSecret secret.now) }
 {
+    let secret = if file.len() > MAX_LITERAL_SIZE {
+        may_put(rt, putting)?;
+        secret_of(rt, putting)?
+    } else {
+        Vec::new(rt.alloc())
+    };
     progress.encode(Verb::Put, file.len() as u64);
-    match encode(rt.alloc(), file, putting)? {
+    match encode(rt.alloc(), file, &secret, putting.params)? {
         FileUpload::Shares(upload) => {
             let cap = *upload.cap();
-            let begun = begin_upload(rt.alloc(), putting.placing.servers, upload)?;
-            place(rt, putting, &cap, begun, progress)
+            place(rt, putting, &cap, made_of(upload), progress)
         }
         FileUpload::Literal(cap) => literal_line(rt.alloc(), cap),
     }
-}
-
-// Encodes a file. Its bytes are let go before the shares are placed.
-fn encode(alloc: Global, file: Vec<u8>, putting: &Putting<'_>) -> Result<FileUpload, Fault>
-    requires { IsSecret putting.now.secret.now }
-{
-    Ok(prepare(alloc, &file, putting.secret, putting.params)?)
-}
-
-// The upload of these shares to these servers, which are distinct.
-fn begin_upload(
-    alloc: Global,
-    servers: &[NodeId],
-    upload: PreparedUpload,
-) -> Result<Begun<WholeShares>, Fault>
-    requires { IsDistinct nat_eq servers.now }
-{
-    let infos = servers_of(alloc, servers)?;
-    let (wanted, share_length) = (upload.happy(), upload.share_length());
-    let shares = upload.cap().total();
-    let upload = upload.start(alloc, &infos, FIRST_SESSION, 0)?;
-    Ok(Begun {
-        upload,
-        wanted,
-        shares,
-        share_length,
-    })
 }
 
 // Stores an open file of so many bytes, which is not held.
@@ -244,71 +227,149 @@ fn put_opened<R, E>(
     file: R::File,
     size: u64,
     progress: &mut Progress<'_, R, E>,
-) -> Result<Vec<u8>, Fault>
+) -> Result<Outcome, Fault>
 where
-    R: Files + Net + Clock + AllocGlobal + Clone + Drop,
+    R: Files + Net + Clock + RandomSource + AllocGlobal + Clone + Drop,
     E: Write + IsTerminal,
-    requires secret { IsSecret putting.now.secret.now }
-    requires distinct { IsDistinct nat_eq putting.now.placing.servers.now }
+    requires said { IfSome putting.now.said (λ secret. IsSecret secret.now) }
     requires not_small { min_file_size ≤ size }
 {
+    may_put(rt, putting)?;
+    let secret = secret_of(rt, putting)?;
     progress.encode(Verb::Put, size);
     let source = FileSource::new(file, size);
-    let (secret, servers) = (putting.secret, putting.placing.servers);
-    let (cap, begun) = begin_stream(rt.alloc(), source, secret, putting.params, servers)?;
-    place(rt, putting, &cap, begun, progress)
+    let (cap, made) = make_stream(rt.alloc(), source, &secret, putting.params)?;
+    place(rt, putting, &cap, made, progress)
 }
 
-// Places the shares on the servers, and gives the lines with the cap and the happiness, where it is
-// as great as was wanted.
+// Refuses what can be no grid's folder, and where only a grid that is marked is wanted, one that is
+// not.
+fn may_put<R>(rt: &R, putting: &Putting<'_>) -> Result<(), Fault>
+where
+    R: Files + AllocGlobal,
+{
+    can_be_grid(rt, putting.words.grid)?;
+    if putting.is_known {
+        known_grid(rt, putting.words.grid)?;
+    }
+    Ok(())
+}
+
+// The secret that a file's key depends on: the one that was said, else the grid's, and where it has
+// none no byte.
+fn secret_of<R>(rt: &R, putting: &Putting<'_>) -> Result<Vec<u8>, Fault>
+where
+    R: Files + AllocGlobal,
+    requires { IfSome putting.now.said (λ secret. IsSecret secret.now) }
+    ensures { IfOk result (λ secret. IsSecret secret.items) }
+{
+    match putting.said {
+        Some(secret) => Ok(Vec::from_slice(rt.alloc(), secret)?),
+        None => {
+            let kept = grid_secret(rt, putting.words.grid)?;
+            Ok(kept.unwrap_or(Vec::new(rt.alloc())))
+        }
+    }
+}
+
+// How many servers the shares are placed on, from the first on: as many as were said, or as the
+// grid knows, or 10.
+fn servers_for<R>(rt: &R, putting: &Putting<'_>) -> Result<u16, Fault>
+where
+    R: Files + AllocGlobal,
+    ensures { IfOk result (λ count. (0 < count) × (count ≤ MAX_SERVERS)) }
+{
+    match putting.words.servers {
+        Some(servers) => server_count(servers),
+        None => {
+            let known = grid_servers_count(rt, putting.words.grid)?;
+            server_count(u64::from(known.unwrap_or(USUAL_SERVERS)))
+        }
+    }
+}
+
+// Encodes a file, whose bytes are let go then.
+fn encode(alloc: Global, file: Vec<u8>, secret: &[u8], params: &Params) -> Result<FileUpload, Fault>
+    requires { IsSecret secret.now }
+{
+    Ok(prepare(alloc, &file, secret, params)?)
+}
+
+// The shares of a file that was encoded whole.
+fn made_of(upload: PreparedUpload) -> Made<WholeShares>
+    ensures goal { result.goal ≡ goal_of upload }
+    ensures happy { result.happy ≡ upload.happy }
+{
+    let happy = upload.happy();
+    let (shares, goal) = upload.into_parts();
+    Made::new(shares, goal, happy)
+}
+
+// Places the shares on the servers of the grid, which is made where it is not there, and gives the
+// lines with the cap and the happiness.
 fn place<R, P, E>(
     rt: &R,
     putting: &Putting<'_>,
     cap: &ReadCap,
-    begun: Begun<P>,
+    made: Made<P>,
     progress: &mut Progress<'_, R, E>,
-) -> Result<Vec<u8>, Fault>
+) -> Result<Outcome, Fault>
 where
-    R: Files + Net + Clock + AllocGlobal + Clone + Drop,
+    R: Files + Net + Clock + RandomSource + AllocGlobal + Clone + Drop,
     P: Pieces + Drop,
     E: Write + IsTerminal,
 {
-    let (words, placing) = (putting.words, &putting.placing);
-    make_grid(rt, words.grid, placing.durability)?;
-    if words.mend {
-        let index = *cap.to_verify().storage_index();
-        mend_servers(rt, words.grid, placing.servers, &index, progress)?;
-    }
-    let happiness = run_upload(rt, placing, words.net, begun, progress)?;
+    let words = putting.words;
+    let servers = first_servers(rt.alloc(), servers_for(rt, putting)?)?;
+    let placing = Placing {
+        grid: words.grid,
+        servers: servers.as_slice(),
+        durability: durability_of(words.no_sync),
+        mend: words.mend,
+        net: words.net,
+        verb: Verb::Put,
+    };
+    begin_grid(rt, &placing, progress)?;
+    let stored = place_shares(rt, &placing, made, progress)?;
     progress.clear();
-    cap_text(rt.alloc(), cap, happiness, words.quiet)
+    outcome_of(rt.alloc(), cap, &stored, words.quiet)
+}
+
+// Makes the folder of the grid, where it is not there. A grid that is new is told always: the
+// commonest way to lose a file is a grid in a place that was not meant.
+fn begin_grid<R, E>(
+    rt: &R,
+    placing: &Placing<'_>,
+    progress: &mut Progress<'_, R, E>,
+) -> Result<(), Fault>
+where
+    R: Files + Clock + AllocGlobal + Clone + Drop,
+    E: Write + IsTerminal,
+{
+    let is_new = is_new_grid(rt, placing.grid)?;
+    make_grid(rt, placing.grid, placing.durability)?;
+    if is_new {
+        let grid = told_path(rt.alloc(), placing.grid)?;
+        let line = made_line(rt.alloc(), grid.as_str(), placing.servers.len())?;
+        progress.tell(line.as_str());
+    }
+    Ok(())
 }
 
 // The lines with a file's cap and its happiness, or the cap alone.
-fn cap_text(alloc: Global, cap: &ReadCap, happiness: usize, quiet: bool) -> Result<Vec<u8>, Fault> {
+fn outcome_of(
+    alloc: Global,
+    cap: &ReadCap,
+    stored: &Stored,
+    quiet: bool,
+) -> Result<Outcome, Fault> {
     let text = if quiet {
         format!(in alloc; "{cap}\n")
     } else {
-        format!(in alloc; "{cap}\nhappiness {happiness}\n")
+        format!(in alloc; "{cap}\nhappiness {}\n", stored.happiness)
     };
-    Ok(text?.into_bytes())
-}
-
-// Carries the upload to its end, and gives the happiness that it reached.
-fn run_upload<R, P, E>(
-    rt: &R,
-    placing: &Placing<'_>,
-    net: bool,
-    begun: Begun<P>,
-    progress: &mut Progress<'_, R, E>,
-) -> Result<usize, Fault>
-where
-    R: Files + Net + Clock + AllocGlobal + Clone + Drop,
-    P: Pieces + Drop,
-    E: Write + IsTerminal,
-{
-    progress.begin(Verb::Put, Counting::Stored, begun.bytes());
-    let purpose = Purpose::Writing(placing.durability);
-    let mut nodes = open_servers(rt, placing.grid, placing.servers, purpose, net)?;
-    carry_upload(rt, placing, &mut nodes, begun, progress)
+    Ok(Outcome {
+        text: text?.into_bytes(),
+        status: stored.status(),
+    })
 }

@@ -1,70 +1,68 @@
 //! `grid repair`: the missing shares of a cap's file are made again and placed on servers, by
 //! anyone who has its verify cap.
 
-ghost use Rattle.std.specs.Prelude.{◌≤◌, ◌<◌, ℕ, IfOk, List, nat_eq};
+ghost use Rattle.std.specs.Prelude.{◌≡◌, ◌≤◌, ◌<◌, ℕ, IfOk, List, nat_eq};
 ghost use Rattle.std.specs.List.{IsDistinct};
 ghost use Rattle.file_encoding.specs.Decoded.{IsDecodedFrom};
 ghost use Rattle.file_encoding.specs.RemadeLaws.{ArePassing};
+ghost use Rattle.file_upload.specs.Shares.{shares_goal};
 
-use crate::LITERAL;
-use crate::check::{carry_check, share_bytes, verify_cap};
-use crate::mending::mend_servers;
-use crate::placing::{Begun, Placing, carry_upload, durability_of};
+use crate::check::{asked_servers, carry_check, note_report, share_bytes, verify_cap};
+use crate::placing::{Made, Placing, durability_of, place_shares};
+use crate::put::Outcome;
+use crate::{DONE, Environment, LITERAL};
 use cap_text::VerifyCap;
 use checker::Check;
 use file_encoding::{DecodedFile, Share, decode_shares, regenerated_pass};
-use file_upload::shares::{PreparedShares, prepare_shares};
-use grid_rules::{Fault, Limit, Verb, read_cap, servers_of};
-use grid_servers::{FIRST_SESSION, FolderGrid, Purpose, is_grid, open_servers, standing_servers};
+use file_upload::shares::prepare_shares;
+use grid_rules::{Fault, Limit, Verb, read_cap};
+use grid_servers::{FIRST_SESSION, Purpose, open_servers};
 use grid_telling::{Counting, Progress, note_limits};
 use grid_words::RepairWords;
 use std::alloc::Global;
 use std::io::{IsTerminal, Write};
 use std::net::Net;
+use std::random::RandomSource;
 use std::rt::{Clock, Files};
-use upload_core::Upload;
 use upload_core::pieces::WholeShares;
-use wire::message::NodeId;
 
 /// The greatest number of shares, and so of servers that may be wanted.
 const MAX_SHARES: u64 = 256;
 
 /// Repairs the file of a cap, and gives the line with its happiness. A cap that holds its file has
-/// no shares.
+/// no shares. Nothing is changed in a folder before all shares are made.
 pub(crate) fn repair<R, E>(
     rt: &R,
     words: &RepairWords<'_>,
+    environment: &Environment<'_>,
     progress: &mut Progress<'_, R, E>,
-) -> Result<Vec<u8>, Fault>
+) -> Result<Outcome, Fault>
 where
-    R: Files + Net + Clock + AllocGlobal + Clone + Drop,
+    R: Files + Net + Clock + RandomSource + AllocGlobal + Clone + Drop,
     E: Write + IsTerminal,
 {
-    let alloc = rt.alloc();
     happy_within(rt, words.happy, MAX_SHARES, progress)?;
     let Some(cap) = verify_cap(read_cap(words.cap)?) else {
-        return Ok(Vec::from_slice(alloc, LITERAL)?);
+        return outcome(Vec::from_slice(rt.alloc(), LITERAL)?, DONE);
     };
     let happy = happy_within(rt, words.happy, u64::from(cap.total()), progress)?;
-    is_grid(rt, words.grid)?;
-    let standing = standing_servers(rt, words.grid)?;
+    let servers = asked_servers(rt, words.grid, words.known || environment.known)?;
     let placing = Placing {
         grid: words.grid,
-        servers: standing.as_slice(),
+        servers: servers.as_slice(),
         durability: durability_of(words.no_sync),
+        mend: words.mend,
+        net: words.net,
+        verb: Verb::Repair,
     };
-    if words.mend {
-        mend_servers(
-            rt,
-            words.grid,
-            standing.as_slice(),
-            cap.storage_index(),
-            progress,
-        )?;
-    }
-    let happiness = repair_over(rt, &placing, words.net, &cap, happy, progress)?;
-    progress.clear();
-    Ok(format!(in alloc; "happiness {happiness}\n")?.into_bytes())
+    repair_over(rt, &placing, &cap, happy, progress)
+}
+
+// What is printed, and the exit status.
+fn outcome(text: Vec<u8>, status: u8) -> Result<Outcome, Fault>
+    ensures { IfOk result (λ outcome. (outcome.text ≡ text) × (outcome.status ≡ status)) }
+{
+    Ok(Outcome { text, status })
 }
 
 // How many servers are wanted, from 1 to the most.
@@ -91,68 +89,81 @@ where
     Err(Fault::BadParameters)
 }
 
-// Repairs a file over these servers: a check finds its good shares, of which all are made again,
-// and an upload places those that are missing. It gives the happiness that was reached.
+// Repairs a file over these servers: a check finds its good shares, of which all are made again.
+// Then they are placed, and only then something is changed in a folder.
 fn repair_over<R, E>(
     rt: &R,
     placing: &Placing<'_>,
-    net: bool,
     cap: &VerifyCap,
     happy: u16,
     progress: &mut Progress<'_, R, E>,
-) -> Result<usize, Fault>
+) -> Result<Outcome, Fault>
 where
-    R: Files + Net + Clock + AllocGlobal + Clone + Drop,
+    R: Files + Net + Clock + RandomSource + AllocGlobal + Clone + Drop,
     E: Write + IsTerminal,
     requires { IsDistinct nat_eq placing.now.servers.now }
 {
-    let alloc = rt.alloc();
-    let purpose = Purpose::Writing(placing.durability);
-    let mut nodes = open_servers(rt, placing.grid, placing.servers, purpose, net)?;
-    let good = find_good(alloc, placing.servers, cap, &mut nodes, progress)?;
+    let good = find_good(rt, placing, cap, progress)?;
     progress.encode(Verb::Repair, cap.size());
-    let shares = make_shares(alloc, cap, happy, good)?;
-    let share_length = shares.share_length();
-    let upload = begin_upload(alloc, placing.servers, shares, nodes.clock())?;
-    let begun = Begun {
-        upload,
-        wanted: happy,
-        shares: cap.total(),
-        share_length,
-    };
-    progress.begin(Verb::Repair, Counting::Stored, begun.bytes());
-    carry_upload(rt, placing, &mut nodes, begun, progress)
+    let made = make_shares(rt.alloc(), cap, happy, good)?;
+    let stored = place_shares(rt, placing, made, progress)?;
+    progress.clear();
+    let line = format!(in rt.alloc(); "happiness {}\n", stored.happiness)?;
+    outcome(line.into_bytes(), stored.status())
 }
 
-// The good shares of a file, as many as are needed or as there are, each with its number.
+// The good shares of a file, as many as are needed or as there are, each with its number. The
+// servers are opened for reading alone.
 fn find_good<R, E>(
-    alloc: Global,
-    servers: &[NodeId],
+    rt: &R,
+    placing: &Placing<'_>,
     cap: &VerifyCap,
-    nodes: &mut FolderGrid<R>,
     progress: &mut Progress<'_, R, E>,
 ) -> Result<Vec<(u16, Vec<u8>)>, Fault>
 where
-    R: Files + Net + Clock + AllocGlobal + Clone + Drop,
+    R: Files + Net + Clock + RandomSource + AllocGlobal + Clone + Drop,
     E: Write + IsTerminal,
-    requires { IsDistinct nat_eq servers.now }
+    requires { IsDistinct nat_eq placing.now.servers.now }
 {
+    let (grid, servers) = (placing.grid, placing.servers);
+    let mut nodes = open_servers(rt, grid, servers, Purpose::Reading, placing.net)?;
     progress.begin(Verb::Repair, Counting::Answered(share_bytes(cap)), 0);
-    let check = Check::start_keeping(alloc, *cap, servers, FIRST_SESSION, nodes.clock())?;
-    let check = carry_check(check, servers.len(), nodes, progress)?;
-    // A check that is not done found no memory.
-    check.good_shares(alloc)?.ok_or(Fault::OutOfMemory)
+    let check = Check::start_keeping(rt.alloc(), *cap, servers, FIRST_SESSION, nodes.clock())?;
+    let check = carry_check(check, servers.len(), &mut nodes, progress)?;
+    good_of(rt, grid, &check, progress)
 }
 
-// All shares of a file, made ready for their upload.
+// The good shares that a check found, which tells what it found beside. One that is not done found
+// no memory.
+fn good_of<R, E>(
+    rt: &R,
+    grid: &str,
+    check: &Check,
+    progress: &mut Progress<'_, R, E>,
+) -> Result<Vec<(u16, Vec<u8>)>, Fault>
+where
+    R: Clock + AllocGlobal,
+    E: Write + IsTerminal,
+{
+    let report = check.report(rt.alloc())?.ok_or(Fault::OutOfMemory)?;
+    note_report(rt, grid, &report, check.cap().total(), progress)?;
+    check.good_shares(rt.alloc())?.ok_or(Fault::OutOfMemory)
+}
+
+// All shares of a file, which pass every check for its cap.
 fn make_shares(
     alloc: Global,
     cap: &VerifyCap,
     happy: u16,
     good: Vec<(u16, Vec<u8>)>,
-) -> Result<PreparedShares, Fault> {
+) -> Result<Made<WholeShares>, Fault>
+    ensures passing { IfOk result (λ made. ArePassing cap.now made.pieces) }
+    ensures goal { IfOk result (λ made. made.goal ≡ shares_goal cap.now made.pieces) }
+    ensures happy { IfOk result (λ made. made.happy ≡ happy) }
+{
     let shares = remake(alloc, cap, good)?;
-    Ok(prepare_shares(alloc, cap, happy, shares)?)
+    let (pieces, goal) = prepare_shares(alloc, cap, happy, shares)?.into_parts();
+    Ok(Made::new(pieces, goal, happy))
 }
 
 // All shares of a file. The good ones are let go before the others are made, and the file with them
@@ -175,18 +186,4 @@ fn decode(alloc: Global, cap: &VerifyCap, good: Vec<(u16, Vec<u8>)>) -> Result<D
         given.push((share.0, share.1.as_slice()))?;
     }
     Ok(decode_shares(alloc, cap, given.as_slice())?)
-}
-
-// The upload of all shares to these servers, which are distinct.
-fn begin_upload(
-    alloc: Global,
-    servers: &[NodeId],
-    shares: PreparedShares,
-    now: u64,
-) -> Result<Upload<WholeShares>, Fault>
-    requires { IsDistinct nat_eq servers.now }
-{
-    let infos = servers_of(alloc, servers)?;
-    let session = FIRST_SESSION.saturating_add(1);
-    Ok(shares.start(alloc, &infos, session, now)?)
 }

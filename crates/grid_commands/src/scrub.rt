@@ -3,8 +3,10 @@
 
 ghost use Rattle.std.specs.Prelude.{◌<◌, length, IfOk, IfSome};
 
+use crate::Environment;
+use crate::check::asked_servers;
 use grid_rules::{Fault, Scrubbed, Verb, finding_json, finding_line, is_memory, server_name};
-use grid_servers::{is_grid, server_folder, standing_servers, try_mark};
+use grid_servers::{server_folder, try_mark};
 use grid_telling::{Counting, Failure, Progress, print};
 use grid_words::ScrubWords;
 use share_scrub::{Action, Finding, Handling, Scrub, State};
@@ -18,11 +20,13 @@ use wire::message::NodeId;
 /// The exit status where a folder could not be read.
 const INCOMPLETE: u8 = 5;
 
-/// Tells of each share of a grid that is damaged or cannot be read, and of each file that was left
-/// open, and gives the exit status: that of too few shares where not all shares are whole.
+/// Tells of each share of a grid that is damaged, cannot be read or is no regular file, and of each
+/// file that was left open or set aside. Gives the exit status: that of too few shares where not
+/// all shares are whole.
 pub(crate) fn scrub<R, O, E>(
     rt: &R,
     words: &ScrubWords<'_>,
+    environment: &Environment<'_>,
     out: &mut O,
     progress: &mut Progress<'_, R, E>,
 ) -> Result<u8, Failure>
@@ -32,8 +36,7 @@ where
     E: Write + IsTerminal,
 {
     let alloc = rt.alloc();
-    is_grid(rt, words.grid)?;
-    let standing = standing_servers(rt, words.grid)?;
+    let standing = asked_servers(rt, words.grid, words.known || environment.known)?;
     let handling = handling_of(rt, words);
     progress.begin(Verb::Scrub, Counting::Added, 0);
     let mut counted = Scrubbed::NONE;
@@ -56,6 +59,7 @@ fn handling_of<R: Clock>(rt: &R, words: &ScrubWords<'_>) -> Handling {
     Handling {
         set_aside: words.set_aside,
         remove_open: words.remove_open,
+        remove_damaged: words.remove_damaged,
         // without a clock no open file is left over
         now: SystemTime::now(rt).unwrap_or(SystemTime::UNIX_EPOCH),
     }
@@ -112,7 +116,7 @@ where
 {
     try_mark(rt, grid, server)?;
     let folder = server_folder(rt.alloc(), grid, server)?;
-    Scrub::begin(rt, folder.as_str(), None)
+    Scrub::begin(rt, folder.as_str())
 }
 
 // How the files of a server are told.
@@ -153,7 +157,8 @@ fn next_file<R, E>(
 where
     R: Files + Clock + AllocGlobal + Clone + Drop,
     E: Write + IsTerminal,
-    ensures { IfOk result (λ found. IfSome found (λ _. length files.new < length files.old)) }
+    ensures { IfOk result
+        (λ found. IfSome found (λ _. length files.new.left < length files.old.left)) }
 {
     match files.next(handling, progress) {
         Ok(found) => Ok(found),
@@ -196,7 +201,8 @@ fn reason_of(state: &State) -> Option<io::Error> {
     match state {
         State::Unreadable(error)
         | State::Damaged(Action::Failed(error))
-        | State::LeftOpen(_, Action::Failed(error)) => Some(*error),
+        | State::LeftOpen(_, Action::Failed(error))
+        | State::Aside(_, Action::Failed(error)) => Some(*error),
         _ => None,
     }
 }

@@ -1,13 +1,25 @@
-//! The program `grid`: hands its words to the commands, and ends with their status.
+//! The program `grid`: hands its words and its environment to the commands, and ends with their
+//! status.
 #![tactic(auto)]
 
-use grid_commands::{grid, refuse_words};
+use grid_commands::{Environment, grid, refuse_words};
+use std::env::VarError;
 use std::process::ExitCode;
 use std::{env, io};
 
+// The variable that asks for grids that are marked, and how.
+const KNOWN: &str = "GRID_KNOWN";
+
+const YES: &str = "1";
+
+// The variable that names the folder for files that last as long as a command, and the usual one.
+const TEMPORARY: &str = "TMPDIR";
+
+const USUAL_TEMPORARY: &str = "/tmp";
+
 fn main(rt: HostRuntime) -> ExitCode {
     let status = match words(&rt) {
-        Ok(words) => grid(&rt, words.as_slice(), &mut rt.stdout(), &mut rt.stderr()),
+        Ok(words) => run(&rt, words.as_slice()),
         Err(error) => refuse_words(rt.alloc(), &error, &mut rt.stderr()),
     };
     ExitCode::from(status)
@@ -16,4 +28,22 @@ fn main(rt: HostRuntime) -> ExitCode {
 // The words of the command line.
 fn words(rt: &HostRuntime) -> io::Result<Vec<String>> {
     Ok(env::args(rt)?.collect(rt.alloc())?)
+}
+
+// Runs the command of these words.
+fn run(rt: &HostRuntime, words: &[String]) -> u8 {
+    let known = env::var(rt, KNOWN);
+    let temporary = env::var(rt, TEMPORARY);
+    let environment = Environment {
+        // where it cannot be read for want of memory, the stricter way is taken
+        known: match &known {
+            Ok(value) => value.as_str() == YES,
+            Err(error) => matches!(error, VarError::OutOfMemory),
+        },
+        temporary: match &temporary {
+            Ok(folder) => folder.as_str(),
+            Err(_) => USUAL_TEMPORARY,
+        },
+    };
+    grid(rt, words, &environment, &mut rt.stdout(), &mut rt.stderr())
 }
