@@ -32,6 +32,18 @@ impl Told {
     pub fn as_slice(&self) -> &[u8] {
         self.text.as_slice()
     }
+
+    /// What was written behind the line of a grid that was made, where there is one.
+    pub fn rest(&self) -> &[u8] {
+        let text = self.text.as_slice();
+        if !text.starts_with(b"made ") {
+            return text;
+        }
+        match text.iter().position(|byte| *byte == b'\n') {
+            Some(end) => text.get(end + 1..).unwrap_or(&[]),
+            None => text,
+        }
+    }
 }
 
 impl Write for Told {

@@ -6,18 +6,20 @@
 // that calls fail in mid-stream too.
 
 use crate::runs::{
-    CAP_56, CLOSED, ONES, ZEROS_CAP, ZEROS_PUT, begins_with_56, begins_with_zeros, cap_line,
-    counted, has_share, makes_file, put_line, puts_zeros, removes_all, words_of, zeros_come,
+    CAP_56, CLOSED, HERE, ONES, ZEROS_CAP, ZEROS_PUT, begins_with_56, begins_with_zeros, cap_line,
+    counted, has_share, makes_file, path, put_line, puts_zeros, removes_all, words_of, zeros_come,
 };
 use grid_commands::grid;
 use std::alloc::{Allocator, Global};
 use std::cell::Cell;
 use std::fs::{File, Metadata, OpenFile, OpenOptions};
-use std::io::{Read, Seek, SeekFrom, Write};
+use std::io::{BufRead, Lines, Read, Seek, SeekFrom, Write};
 use std::net::{Net, SocketAddr, TcpListener, TcpStream};
+use std::random::RandomSource;
 use std::rt::{Clock, Files};
+use std::test::Fail;
 use std::time::Duration;
-use std::{io, str};
+use std::{fs, io, str};
 use test_writers::Told;
 
 // The most bytes that one call reads or writes: a file of 56 bytes is read by two calls and its end
@@ -156,7 +158,7 @@ impl<'a> Files for FailingFiles<'a> {
     }
 }
 
-// Sockets and the clock are the host's.
+// Sockets and the clock are the host's; random bytes are too, and may fail.
 impl<'a> Net for FailingFiles<'a> {
     type Stream = TcpStream;
 
@@ -168,6 +170,32 @@ impl<'a> Net for FailingFiles<'a> {
 
     fn connect(&self, addr: SocketAddr) -> io::Result<TcpStream> {
         Net::connect(&self.rt, addr)
+    }
+}
+
+// What comes over standard input.
+const NOTHING: &[u8] = &[];
+
+impl<'a> io::Input for FailingFiles<'a> {
+    type Reader = &'static [u8];
+
+    fn read_line<A: Allocator + Clone>(&self, _buf: &mut String<A>) -> io::Result<usize> {
+        Ok(0)
+    }
+
+    fn lines<A: Allocator>(&self, alloc: A) -> Lines<&'static [u8], A> {
+        NOTHING.lines(alloc)
+    }
+
+    fn reader(&self) -> &'static [u8] {
+        NOTHING
+    }
+}
+
+impl<'a> RandomSource for FailingFiles<'a> {
+    fn fill_bytes(&self, buf: &mut [u8]) -> io::Result<()> {
+        self.calls.count()?;
+        self.rt.fill_bytes(buf)
     }
 }
 
@@ -272,13 +300,14 @@ fn told_ending(status: u8, out: &[u8], err: &[u8], whole: &[u8]) -> Ending {
     }
 }
 
-// Whether this is the one line of a file fault with a path.
+// Whether these are the two lines of a file fault: the path with the reason, and the refusal.
 fn is_file_fault(err: &[u8]) -> bool {
     match str::from_utf8(err) {
         Ok(text) => {
-            text.starts_with("grid: 90 FileFault /")
+            text.starts_with('/')
+                && text.contains("\ngrid: 90 FileFault /")
                 && text.ends_with('\n')
-                && text.lines().count() == 1
+                && text.lines().count() == 2
         }
         Err(_) => false,
     }
@@ -293,8 +322,8 @@ fn ending_of(rt: &HostRuntime, calls: &Calls, left: u64, line: &str, whole: &[u8
     let files = FailingFiles { rt: *rt, calls };
     let mut out = Vec::new(rt.alloc());
     let mut err = Told::new(rt.alloc(), false);
-    let status = grid(&files, words.as_slice(), &mut out, &mut err);
-    told_ending(status, &out, err.as_slice(), whole)
+    let status = grid(&files, words.as_slice(), &HERE, &mut out, &mut err);
+    told_ending(status, &out, err.rest(), whole)
 }
 
 // How `put` of 56 zero bytes ends so.
@@ -366,6 +395,44 @@ fn get_gives_the_whole_file_or_none(rt: HostRuntime) {
     }
     assert!(rt; has_fault && has_missed && is_whole && calls.has_cut_read.get());
     assert!(rt; removes_all(&rt));
+}
+
+// How `get` of the cap of 56 zero bytes to a file ends so.
+fn output_ending(rt: &HostRuntime, calls: &Calls, left: u64, output: &str) -> Ending {
+    let Ok(line) = cap_line(rt, "get", ZEROS_CAP) else {
+        return Ending::Other;
+    };
+    match format!(in rt.alloc(); "{line} -o {output}") {
+        Ok(line) => ending_of(rt, calls, left, line.as_str(), &[]),
+        Err(_) => Ending::Other,
+    }
+}
+
+// More calls than `get` makes so.
+const OUTPUT_CALLS: u64 = GET_CALLS + 20;
+
+// The file that stood there stays as it was, or the whole one stands there.
+#[test]
+fn get_replaces_a_file_or_leaves_it(rt: HostRuntime) -> Result<(), Fail> {
+    assert!(rt; begins_with_zeros(&rt));
+    let (output, part) = (path(&rt, "/out")?, path(&rt, "/out.part")?);
+    let calls = Calls::new();
+    let (mut has_fault, mut has_missed, mut is_whole) = (false, false, false);
+    for left in 0..OUTPUT_CALLS {
+        fs::write(&rt, output.as_str(), "an old one")?;
+        let ending = output_ending(&rt, &calls, left, output.as_str());
+        let found = fs::read(&rt, output.as_str())?;
+        let is_old = found.as_slice() == b"an old one".as_slice();
+        is_whole = ending == Ending::Whole;
+        assert!(rt; ending != Ending::Other && !(is_whole && is_old), "{left}");
+        assert!(rt; is_old || found.as_slice() == [0; 56].as_slice(), "{left}");
+        has_fault |= ending == Ending::FileFault;
+        has_missed |= ending == Ending::NotEnoughShares;
+        let _ = fs::remove_file(&rt, part.as_str());
+    }
+    assert!(rt; has_fault && has_missed && is_whole && calls.has_cut_write.get());
+    assert!(rt; removes_all(&rt));
+    Ok(())
 }
 
 // More calls than `get` makes of a file at 3 of 10, over 7.

@@ -1,6 +1,6 @@
-// The commands where a writer fails: its status tells it, and nothing else is told.
+// The commands where a writer fails: the status tells it, and of standard output a line.
 
-use crate::runs::{CAP_131074, begins_with_131074, cap_line, counted, removes_all, words_of};
+use crate::runs::{CAP_131074, HERE, begins_with_131074, cap_line, counted, removes_all, words_of};
 use grid_commands::{grid, refuse_words};
 use std::alloc::AllocError;
 use std::io;
@@ -48,17 +48,22 @@ impl io::IsTerminal for Short {
     }
 }
 
+// What a standard output that fails is told by.
+const OUTPUT_FAULT: &[u8] = b"grid: 99 OutputFault\n";
+
 // Whether the words give this status with a standard output, or a standard error, that takes so
-// many bytes, and write nothing to the other.
+// many bytes, and write nothing to the other but the line of a standard output that fails.
 fn ends_short(rt: &HostRuntime, words: &[&str], is_output: bool, left: usize, status: u8) -> bool {
     let mut other = Told::new(rt.alloc(), false);
     let mut short = Short::new(rt, left);
     let ended = if is_output {
-        grid(rt, words, &mut short, &mut other)
+        grid(rt, words, &HERE, &mut short, &mut other)
     } else {
-        grid(rt, words, &mut other, &mut short)
+        grid(rt, words, &HERE, &mut other, &mut short)
     };
-    ended == status && other.as_slice().is_empty()
+    let is_told = is_output && status == 7;
+    let wanted = if is_told { OUTPUT_FAULT } else { &[] };
+    ended == status && other.as_slice() == wanted
 }
 
 // The cap of 55 zero bytes.
@@ -86,16 +91,20 @@ fn a_failed_writer_is_told_by_the_status(rt: HostRuntime) {
     assert!(rt; ends_short(&rt, &["grid"], false, 100, 7));
 }
 
-// Whether `get` into a writer that takes so many bytes has status 7 and no line, and the writer a
+// Whether `get` into a writer that takes so many bytes has status 7 and its line, and the writer a
 // beginning of the file.
 fn fails_after(rt: &HostRuntime, left: usize) -> Result<bool, AllocError> {
     let line = cap_line(rt, "get", CAP_131074)?;
     let words = words_of(rt, line.as_str())?;
     let mut out = Short::new(rt, left);
     let mut err = Told::new(rt.alloc(), false);
-    let status = grid(rt, words.as_slice(), &mut out, &mut err);
+    let status = grid(rt, words.as_slice(), &HERE, &mut out, &mut err);
     let beginning = counted(rt, left)?;
-    Ok(status == 7 && err.as_slice().is_empty() && out.taken.as_slice() == beginning.as_slice())
+    Ok(
+        status == 7
+            && err.as_slice() == OUTPUT_FAULT
+            && out.taken.as_slice() == beginning.as_slice(),
+    )
 }
 
 #[test]

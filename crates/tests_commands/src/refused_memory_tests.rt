@@ -2,8 +2,8 @@
 // it: each ends well with its whole result, or tells that and nothing else.
 
 use crate::runs::{
-    ONES, ZEROS_CAP, ZEROS_PUT, begins_with_zeros, cap_line, makes_file, put_line, removes_all,
-    words_of,
+    HERE, ONES, ZEROS_CAP, ZEROS_PUT, begins_with_zeros, cap_line, makes_file, put_line,
+    removes_all, words_of,
 };
 use grid_commands::grid;
 use test_writers::Told;
@@ -18,9 +18,9 @@ fn gives_or_is_refused(rt: &HostRuntime, line: &str, wanted: &[u8]) -> bool {
     ) else {
         return true;
     };
-    match grid(rt, words.as_slice(), &mut out, &mut err) {
-        0 => out.as_slice() == wanted && err.as_slice().is_empty(),
-        7 => out.is_empty() && err.as_slice() == b"grid: 1 OutOfMemory\n".as_slice(),
+    match grid(rt, words.as_slice(), &HERE, &mut out, &mut err) {
+        0 => out.as_slice() == wanted && err.rest().is_empty(),
+        7 => out.is_empty() && err.rest() == b"grid: 1 OutOfMemory\n".as_slice(),
         _ => false,
     }
 }

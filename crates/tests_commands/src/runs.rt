@@ -2,7 +2,7 @@
 //!
 //! The helpers answer no where memory is out or the system refuses a file.
 
-use grid_commands::grid;
+use grid_commands::{Environment, grid};
 use std::alloc::AllocError;
 use std::fs;
 use test_writers::Told;
@@ -32,6 +32,12 @@ pub(crate) const CAP_56: &str = "URI:CHK:5ervuplwjtqf5caeknmrecgz54:\
 
 pub(crate) const CAP_131074: &str = "URI:CHK:x45opozjlsd45uhibsv2apw46e:\
     upsh3wg4mj5hhojd7qv6ug2rqe7zphsxgbnniumsdns2twtt3vyq:3:10:131074";
+
+// The environment of these commands: no variable is set.
+pub(crate) const HERE: Environment<'static> = Environment {
+    known: false,
+    temporary: "/tmp",
+};
 
 // A path in a folder that is this process's own.
 pub(crate) fn path(rt: &HostRuntime, rest: &str) -> Result<String, AllocError> {
@@ -105,8 +111,8 @@ fn gives(rt: &HostRuntime, line: &str, out: &[u8]) -> bool {
     };
     let mut written = Vec::new(rt.alloc());
     let mut told = Told::new(rt.alloc(), false);
-    let status = grid(rt, words.as_slice(), &mut written, &mut told);
-    status == 0 && written.as_slice() == out && told.as_slice().is_empty()
+    let status = grid(rt, words.as_slice(), &HERE, &mut written, &mut told);
+    status == 0 && written.as_slice() == out && told.rest().is_empty()
 }
 
 // Whether `put` with these options prints this.

@@ -4,11 +4,12 @@ use std::alloc::{Allocator, Global};
 use std::cell::Cell;
 use std::fs::{File, Metadata, OpenOptions};
 use std::io;
-use std::io::{Read, Write};
+use std::io::{BufRead, Lines, Read, Write};
 use std::net::{
     Ipv4Addr, Net, OpenListener, OpenStream, Shutdown, SocketAddr, TcpListener, TcpStream,
 };
 use std::os::fd::{AsRawFd, RawFd};
+use std::random::RandomSource;
 use std::rt::{Clock, Files};
 use std::time::Duration;
 
@@ -118,6 +119,31 @@ impl<'a> Files for OddHost<'a> {
 
     fn remove_dir_all<B: Allocator>(&self, alloc: B, path: &str) -> io::Result<()> {
         self.rt.remove_dir_all(alloc, path)
+    }
+}
+
+// What comes over standard input.
+const NOTHING: &[u8] = &[];
+
+impl<'a> io::Input for OddHost<'a> {
+    type Reader = &'static [u8];
+
+    fn read_line<A: Allocator + Clone>(&self, _buf: &mut String<A>) -> io::Result<usize> {
+        Ok(0)
+    }
+
+    fn lines<A: Allocator>(&self, alloc: A) -> Lines<&'static [u8], A> {
+        NOTHING.lines(alloc)
+    }
+
+    fn reader(&self) -> &'static [u8] {
+        NOTHING
+    }
+}
+
+impl<'a> RandomSource for OddHost<'a> {
+    fn fill_bytes(&self, buf: &mut [u8]) -> io::Result<()> {
+        self.rt.fill_bytes(buf)
     }
 }
 

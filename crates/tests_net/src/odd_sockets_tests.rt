@@ -101,7 +101,7 @@ fn a_share_is_lost(rt: HostRuntime) {
     assert!(rt; matches!(outcome, Ok(true)) && remove(&rt).is_ok());
 }
 
-const SOCKET_FAULT: &str = "grid: 91 SocketFault\n";
+const SOCKET_FAULT: &str = "127.0.0.1: address in use\ngrid: 91 SocketFault\n";
 
 // Whether each command tells that no listener can be made.
 fn tells_no_listener(rt: &HostRuntime) -> io::Result<bool> {

@@ -1,7 +1,7 @@
 //! The line on standard error that tells how far a command is.
 
 use crate::host::{Odd, OddHost, Plan};
-use crate::runs::{CAP_131074, Ended, begin, counted, path, remove, run};
+use crate::runs::{CAP_131074, Ended, HERE, begin, counted, path, remove, run};
 use grid_commands::grid;
 use std::alloc::AllocError;
 use std::io::{self, IsTerminal, Write};
@@ -89,8 +89,8 @@ fn put_tells(rt: &HostRuntime) -> io::Result<bool> {
     let quick = run_slowly(rt, line.as_str(), 1, true)?;
     Ok(
         slow.status == 0
-            && are_lines(slow.err.as_slice(), "put: ")
-            && quick.err.as_slice().is_empty()
+            && are_lines(slow.err.rest(), "put: ")
+            && quick.err.rest().is_empty()
             && slow.out.as_slice() == quick.out.as_slice(),
     )
 }
@@ -125,8 +125,8 @@ fn clears_before_a_fault(rt: &HostRuntime) -> io::Result<bool> {
     Ok(
         told.status == 4
             && told.out.is_empty()
-            && told.err.as_slice().ends_with(fault.as_bytes())
-            && told.err.as_slice().starts_with(b"\r\x1b[Kput: "),
+            && told.err.rest().ends_with(fault.as_bytes())
+            && told.err.rest().starts_with(b"\r\x1b[Kput: "),
     )
 }
 
@@ -192,7 +192,7 @@ fn gets_without_lines(rt: &HostRuntime) -> io::Result<bool> {
     let line = cap_line(rt, "get", CAP_131074)?;
     let words: Vec<&str> = line.split(' ').collect(rt.alloc())?;
     let mut out = Vec::new(rt.alloc());
-    let status = grid(&host, words.as_slice(), &mut out, &mut DeadTerminal);
+    let status = grid(&host, words.as_slice(), &HERE, &mut out, &mut DeadTerminal);
     let file = counted(rt, 131_074)?;
     Ok(is_put && status == 0 && out.as_slice() == file.as_slice())
 }

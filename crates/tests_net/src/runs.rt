@@ -1,7 +1,7 @@
 //! Runs of commands in a folder that is this process's own.
 
 use crate::host::{OddHost, Plan};
-use grid_commands::grid;
+use grid_commands::{Environment, grid};
 use std::alloc::AllocError;
 use std::{fs, io};
 use test_writers::Told;
@@ -10,6 +10,12 @@ use test_writers::Told;
 // shares no code with these crates.
 pub(crate) const CAP_131074: &str = "URI:CHK:x45opozjlsd45uhibsv2apw46e:\
     upsh3wg4mj5hhojd7qv6ug2rqe7zphsxgbnniumsdns2twtt3vyq:3:10:131074";
+
+// The environment of these commands: no variable is set.
+pub(crate) const HERE: Environment<'static> = Environment {
+    known: false,
+    temporary: "/tmp",
+};
 
 // A path in that folder.
 pub(crate) fn path(rt: &HostRuntime, rest: &str) -> Result<String, AllocError> {
@@ -54,7 +60,7 @@ pub(crate) struct Ended {
 
 impl Ended {
     pub(crate) fn is(&self, status: u8, out: &[u8], err: &str) -> bool {
-        self.status == status && self.out.as_slice() == out && self.err.as_slice() == err.as_bytes()
+        self.status == status && self.out.as_slice() == out && self.err.rest() == err.as_bytes()
     }
 
     pub(crate) fn equals(&self, other: &Ended) -> bool {
@@ -69,7 +75,7 @@ pub(crate) fn run(host: &OddHost<'_>, line: &str, is_terminal: bool) -> Result<E
     let alloc = host.rt.alloc();
     let words: Vec<&str> = line.split(' ').collect(alloc)?;
     let (mut out, mut err) = (Vec::new(alloc), Told::new(alloc, is_terminal));
-    let status = grid(host, words.as_slice(), &mut out, &mut err);
+    let status = grid(host, words.as_slice(), &HERE, &mut out, &mut err);
     Ok(Ended { status, out, err })
 }
 
