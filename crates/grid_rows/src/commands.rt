@@ -3,12 +3,19 @@
 use crate::acts::likeness;
 use crate::folders::path_of;
 use crate::names::{no_such_row, number};
-use grid_commands::grid;
+use grid_commands::{Environment, grid};
 use std::alloc::AllocError;
 use std::net::Net;
+use std::random::RandomSource;
 use std::rt::{Clock, Files};
 use std::{fs, io};
 use test_writers::Told;
+
+// The environment of these commands: no variable is set, and files that do not last stand here.
+const HERE: Environment<'static> = Environment {
+    known: false,
+    temporary: ".",
+};
 
 /// What a command wrote to standard output and to standard error, and its status.
 #[derive(Drop)]
@@ -34,7 +41,7 @@ impl Ended {
 /// Runs a command, and tells what it came to.
 pub(crate) fn play_command<R>(rt: &R, words: &[&str], told: &mut String) -> io::Result<()>
 where
-    R: Files + Net + Clock + AllocGlobal + Clone + Drop,
+    R: Files + io::Input + Net + Clock + RandomSource + AllocGlobal + Clone + Drop,
 {
     let (command, wanted) = parted(words);
     tell(rt, &run(rt, command), wanted, told)
@@ -44,7 +51,7 @@ where
 /// same.
 pub(crate) fn play_both<R>(rt: &R, words: &[&str], told: &mut String) -> io::Result<()>
 where
-    R: Files + Net + Clock + AllocGlobal + Clone + Drop,
+    R: Files + io::Input + Net + Clock + RandomSource + AllocGlobal + Clone + Drop,
 {
     let (command, wanted) = parted(words);
     let mut with_net = command.to_vec(rt.alloc())?;
@@ -68,10 +75,10 @@ fn parted<'a>(words: &'a [&'a str]) -> (&'a [&'a str], &'a [&'a str]) {
 /// Runs a command.
 pub(crate) fn run<R>(rt: &R, words: &[&str]) -> Ended
 where
-    R: Files + Net + Clock + AllocGlobal + Clone + Drop,
+    R: Files + io::Input + Net + Clock + RandomSource + AllocGlobal + Clone + Drop,
 {
     let (mut out, mut err) = (Vec::new(rt.alloc()), Told::new(rt.alloc(), false));
-    let status = grid(rt, words, &mut out, &mut err);
+    let status = grid(rt, words, &HERE, &mut out, &mut err);
     Ended { status, out, err }
 }
 

@@ -51,6 +51,7 @@ use names::{Names, assignment, words_of};
 use rows::play;
 use std::io::{self, BufRead, BufReader};
 use std::net::Net;
+use std::random::RandomSource;
 use std::rt::Runtime;
 
 fn main(rt: HostRuntime) -> io::Result<()> {
@@ -62,7 +63,11 @@ fn main(rt: HostRuntime) -> io::Result<()> {
 }
 
 // Plays a line, and writes what it came to.
-fn tell<R: Runtime + AllocGlobal + Net>(rt: &R, names: &mut Names, line: &str) -> io::Result<()> {
+fn tell<R: Runtime + RandomSource + AllocGlobal + Net>(
+    rt: &R,
+    names: &mut Names,
+    line: &str,
+) -> io::Result<()> {
     if line.is_empty() || line.starts_with('#') {
         return rt.println(line);
     }
@@ -74,7 +79,11 @@ fn tell<R: Runtime + AllocGlobal + Net>(rt: &R, names: &mut Names, line: &str) -
 }
 
 // Plays a row, and writes what it told, and behind that why it could not be done.
-fn tell_row<R: Runtime + AllocGlobal + Net>(rt: &R, names: &Names, line: &str) -> io::Result<()> {
+fn tell_row<R: Runtime + RandomSource + AllocGlobal + Net>(
+    rt: &R,
+    names: &Names,
+    line: &str,
+) -> io::Result<()> {
     let words = words_of(rt.alloc(), names, line)?;
     let mut told = String::new(rt.alloc());
     let outcome = play(rt, words.as_slice(), &mut told);

@@ -11,6 +11,7 @@ use crate::scripts::{play_script, play_scripts};
 use crate::trees::{alike, save};
 use std::io;
 use std::net::Net;
+use std::random::RandomSource;
 use std::rt::Runtime;
 
 // What a row does.
@@ -81,7 +82,7 @@ fn verb_of(word: &str) -> Option<Verb> {
 }
 
 /// Plays the row of these words: what it tells goes to `told`.
-pub(crate) fn play<R: Runtime + AllocGlobal + Net>(
+pub(crate) fn play<R: Runtime + RandomSource + AllocGlobal + Net>(
     rt: &R,
     words: &[&str],
     told: &mut String,

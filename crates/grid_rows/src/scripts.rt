@@ -4,6 +4,7 @@ use crate::commands::{play_command, run};
 use crate::names::{first, no_such_row, number};
 use std::alloc::Global;
 use std::net::Net;
+use std::random::RandomSource;
 use std::rt::{Clock, Files};
 use std::{fs, io};
 
@@ -13,7 +14,7 @@ const COMMAND: [&str; 3] = ["grid", "world", "script"];
 /// `script LINE;LINE..`: runs the script of these lines, and tells what it came to.
 pub(crate) fn play_script<R>(rt: &R, words: &[&str], told: &mut String) -> io::Result<()>
 where
-    R: Files + Net + Clock + AllocGlobal + Clone + Drop,
+    R: Files + io::Input + Net + Clock + RandomSource + AllocGlobal + Clone + Drop,
 {
     let lines = words.join(rt.alloc(), " ")?;
     write_script(rt, lines.as_str())?;
@@ -26,7 +27,7 @@ where
 /// wrote has a text.
 pub(crate) fn play_scripts<R>(rt: &R, words: &[&str], told: &mut String) -> io::Result<()>
 where
-    R: Files + Net + Clock + AllocGlobal + Clone + Drop,
+    R: Files + io::Input + Net + Clock + RandomSource + AllocGlobal + Clone + Drop,
 {
     let (from, rest) = first(words)?;
     let (to, rest) = first(rest)?;
@@ -54,7 +55,7 @@ fn tell_count<R>(
     told: &mut String,
 ) -> io::Result<()>
 where
-    R: Files + Net + Clock + AllocGlobal + Clone + Drop,
+    R: Files + io::Input + Net + Clock + RandomSource + AllocGlobal + Clone + Drop,
 {
     let mut count: usize = 0;
     for position in from..to {
