@@ -29,13 +29,16 @@ sees() {
     fi
 }
 
-# Whether the words end within 20 seconds with this status, and these lines on standard error.
+# What was told last on standard error, but for the line of a grid that was made.
+told_last() { grep -v '^made ' "$1" | tail -n 1; }
+
+# Whether the words end within 20 seconds with this status, and this line last on standard error.
 ends() {
     wanted=$1 told=$2
     shift 2
     timeout 20 "$@" > "$room/out" 2> "$room/err"
     status=$?
-    [ $status = "$wanted" ] && [ "$(cat "$room/err")" = "$told" ]
+    [ $status = "$wanted" ] && [ "$(told_last "$room/err")" = "$told" ]
 }
 
 # Whether `get` of the cap gives the file.
@@ -65,8 +68,8 @@ sees 'two shares of three' ends 5 'grid: 71 NotEnoughShares' "$grid" get "$cap" 
 
 open=$(echo "$share" | sed 's/\.[^.]*$/.open/')
 rm -rf g && mkdir -p g/server-000 && mkfifo "g/server-000/$open"
-sees 'a pipe under the name of an open share' ends 0 '' "$grid" put file --grid g
-sees 'the shares put over it' gives_file
+sees 'a pipe under the earlier name of an open share' ends 0 '' "$grid" put file --grid g
+sees 'the shares put beside it' gives_file
 
 rm -rf g && "$grid" init g > init.out || exit 2
 rm g/server-000/grid-mark && mkfifo g/server-000/grid-mark
@@ -107,9 +110,8 @@ sees 'the bytes that it gives' gives_the_rest
 
 # ---- how it is called
 
-sees 'a word that is not UTF-8' ends 2 "error: invalid UTF-8 was detected in one or more arguments
-
-For more information, try '--help'." "$grid" cap "$(printf 'URI:\377')"
+sees 'a word that is not UTF-8' ends 2 "For more information, try '--help'." \
+    "$grid" cap "$(printf 'URI:\377')"
 ln -s "$grid" link
 sees 'a link to the script' ends 0 '' ./link cap URI:LIT:
 calls_with_cdpath() { (CDPATH=/ && export CDPATH && cd "$here" && ends 0 '' ./grid cap URI:LIT:); }

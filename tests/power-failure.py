@@ -41,7 +41,7 @@ class File:
 
 
 class Change:
-    """An entry of a folder that is made, renamed or removed."""
+    """An entry of a folder that is made, linked, renamed or removed."""
 
     def __init__(self, kind, path, file=None, source=None):
         self.kind, self.path, self.file, self.source = kind, path, file, source
@@ -80,6 +80,9 @@ class Run:
             if os.path.dirname(source) != os.path.dirname(path):
                 sys.exit("a rename between two folders")
             self.change(Change("rename", path, self.entries[source], source))
+        elif call == b"link":
+            source, path = path_of(rest[0]), path_of(rest[1])
+            self.change(Change("link", path, self.entries[source]))
         elif call == b"remove":
             self.change(Change("remove", path_of(rest[0])))
         elif call == b"write":

@@ -29,7 +29,7 @@ trap 'rm -rf "$room"' EXIT
 trap 'exit 2' HUP INT TERM
 
 # Calls that change files and are not recorded.
-others='pwrite|pwrite64|pwritev|writev|link|linkat|symlink|symlinkat|truncate|truncate64|mmap|splice'
+others='pwrite|pwrite64|pwritev|writev|symlink|symlinkat|truncate|truncate64|mmap|splice'
 others="$others|sendfile|sendfile64|copy_file_range|fallocate|sync_file_range|syncfs|sync|syscall"
 found=$(nm -D --undefined-only "$program" 2> /dev/null | sed 's/@.*//; s/.* //' |
     grep -xE "$others" | tr '\n' ' ')

@@ -3,10 +3,13 @@
    RECORD_ROOT is the folder, an absolute path without links, and RECORD_FILE the file to which a line is added for each call that
    went well: `mkdir PATH`, `create INODE PATH`, `write INODE PLACE LENGTH` with the bytes after the line, `cut INODE LENGTH`,
    `rename FROM TO`, `remove PATH`, `sync INODE` of a file, `syncdir PATH` of a folder, and `told` where bytes go to standard output.
-   Words are parted by tabs. With RECORD_END the program ends with status 9 right after so many of these calls, as one that is killed. */
+   Words are parted by tabs; a second name of a file is `link FROM TO`. With RECORD_END the program ends with status 9 right after so
+   many of these calls, as one that is killed. With RECORD_STOP it stops itself after so many of them and of the looks at names there,
+   until it is sent a CONT. */
 #define _GNU_SOURCE
 #include <errno.h>
 #include <fcntl.h>
+#include <signal.h>
 #include <stdarg.h>
 #include <stdio.h>
 #include <stdlib.h>
@@ -20,6 +23,7 @@ static const char *root;
 static size_t root_length;
 static int record = -1;
 static long left = -1;
+static long until = -1;
 
 __attribute__((constructor)) static void begin(void) {
     const char *file = getenv("RECORD_FILE");
@@ -27,6 +31,7 @@ __attribute__((constructor)) static void begin(void) {
     if (!file || !root) return;
     root_length = strlen(root);
     if (getenv("RECORD_END")) left = atol(getenv("RECORD_END"));
+    if (getenv("RECORD_STOP")) until = atol(getenv("RECORD_STOP"));
     record = syscall(SYS_openat, AT_FDCWD, file, O_CREAT | O_WRONLY | O_APPEND | O_CLOEXEC, 0600);
 }
 
@@ -34,9 +39,15 @@ static void put(const void *bytes, size_t length) {
     if (syscall(SYS_write, record, bytes, length) != (long)length) abort();
 }
 
+/* A call is made: the program goes on, or stops here. */
+static void passed(void) {
+    if (until > 0 && --until == 0) kill(getpid(), SIGSTOP);
+}
+
 /* A call is recorded: the program goes on, or ends here. */
 static void done(void) {
     if (left > 0 && --left == 0) syscall(SYS_exit_group, 9);
+    passed();
 }
 
 static void tell(const char *form, ...) {
@@ -170,3 +181,19 @@ int unlinkat(int dir, const char *path, int flags) {
     return outcome;
 }
 int unlink(const char *path) { return unlinkat(AT_FDCWD, path, 0); }
+
+int linkat(int dir, const char *from, int to_dir, const char *to, int flags) {
+    char whole[4096], other[4096];
+    int outcome = syscall(SYS_linkat, dir, from, to_dir, to, flags);
+    if (outcome == 0 && is_below(dir, from, whole) && is_below(to_dir, to, other)) tell("link\t%s\t%s\n", whole, other);
+    return outcome;
+}
+int link(const char *from, const char *to) { return linkat(AT_FDCWD, from, AT_FDCWD, to, 0); }
+
+/* A look at a name is not recorded, but the program may stop behind it. */
+int statx(int dir, const char *restrict path, int flags, unsigned mask, struct statx *restrict to) {
+    char whole[4096];
+    int outcome = syscall(SYS_statx, dir, path, flags, mask, to);
+    if (path[0] && is_below(dir, path, whole)) passed();
+    return outcome;
+}
