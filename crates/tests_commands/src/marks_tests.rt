@@ -85,19 +85,35 @@ fn grids_are_adopted_and_begun_again(rt: HostRuntime) -> Result<(), Fail> {
     Ok(())
 }
 
+// Whether a grid keeps no secret.
+fn has_no_secret(rt: &HostRuntime, grid: &str) -> bool {
+    let Ok(kept) = grid_secret(rt, grid) else {
+        return false;
+    };
+    kept.is_none()
+}
+
+// Whether it keeps this one.
+fn has_secret(rt: &HostRuntime, grid: &str, wanted: &[u8]) -> bool {
+    let Ok(kept) = grid_secret(rt, grid) else {
+        return false;
+    };
+    match kept {
+        Some(secret) => secret.as_slice() == wanted,
+        None => false,
+    }
+}
+
 // A grid keeps one secret.
 #[test]
 fn secrets_are_kept(rt: HostRuntime) -> Result<(), Fail> {
     let grid = grid(&rt, "secret")?;
     let grid = grid.as_str();
     fs::create_dir(&rt, grid)?;
-    assert!(rt; matches!(grid_secret(&rt, grid), Ok(None)));
+    assert!(rt; has_no_secret(&rt, grid));
     assert!(rt; fault_of(keep_secret(&rt, grid, &[1; 65])) == 2);
     assert!(rt; keep_secret(&rt, grid, b"two lines\n").is_ok());
-    match grid_secret(&rt, grid) {
-        Ok(Some(secret)) => assert!(rt; secret.as_slice() == b"two lines\n".as_slice()),
-        _ => assert!(rt; false),
-    }
+    assert!(rt; has_secret(&rt, grid, b"two lines\n"));
     assert!(rt; fault_of(draw_secret(&rt, grid)) == 90);
     let path = format!(in rt.alloc(); "{grid}/grid-secret")?;
     fs::remove_file(&rt, path.as_str())?;
