@@ -54,7 +54,8 @@ impl Writer {
         if self.has_failed {
             return;
         }
-        if let Some(call) = self.calls.get(self.done) {
+        let calls = self.calls;
+        if let Some(call) = calls.get(self.done) {
             match gives(alloc, &mut self.store, *call) {
                 Ok(true) => self.done = self.done.saturating_add(1),
                 _ => self.has_failed = true,
@@ -63,7 +64,8 @@ impl Writer {
     }
 
     fn has_closed(&self) -> bool {
-        self.done == self.calls.len()
+        let calls = self.calls;
+        self.done == calls.len()
     }
 }
 
