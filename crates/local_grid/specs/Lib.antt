@@ -4,3 +4,4 @@ pub mod Nodes
 pub mod Turns
 -- Words of private clauses.
 pub mod Framed
+pub mod Waiting

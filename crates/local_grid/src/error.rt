@@ -1,7 +1,7 @@
 //! Why the loop ends before its client.
 
 ghost use Rattle.std.specs.Prelude.{◌≡◌, Some};
-ghost use Rattle.local_grid.specs.Refusals.{refusal_text};
+ghost use Rattle.local_grid.specs.Refusals.{refusal_number, refusal_text};
 
 use std::alloc::AllocError;
 use std::error::Error;
@@ -10,10 +10,22 @@ use std::fmt;
 /// Why the loop ended while its client was running.
 #[derive(Clone, Copy, PartialEq, Eq)]
 pub enum LoopError {
-    /// There was not enough memory (number 1).
+    /// There was not enough memory.
     OutOfMemory,
-    /// The client was running after as many turns as the loop takes (number 92).
+    /// The client was running after as many turns as the loop takes.
     TurnLimit,
+}
+
+impl LoopError {
+    /// The number of the refusal.
+    pub fn number(self) -> u8
+        ensures { result ≡ refusal_number self }
+    {
+        match self {
+            LoopError::OutOfMemory => 1,
+            LoopError::TurnLimit => 92,
+        }
+    }
 }
 
 impl fmt::Display for LoopError {

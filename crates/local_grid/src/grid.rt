@@ -10,11 +10,12 @@ ghost use Rattle.local_grid.specs.declared.error.LoopError.{LoopError};
 use crate::error::LoopError;
 use crate::link::Link;
 use crate::node::Node;
+use crate::waiting::hash_waiting;
 use request_record::operation::Operation;
 use share_store::store::Store;
 use std::alloc::{AllocError, Global};
 use std::marker::Model;
-use wire::message::{Message, NodeId};
+use wire::message::{Body, Message, NodeId};
 
 /// The most turns that the loop takes for one operation.
 const MOST_TURNS: u64 = 100_000_000;
@@ -173,9 +174,20 @@ impl<S: Store, L: Link> LocalGrid<S, L> {
             (record { operation = operation.new; grid = self.new })) }
         ensures clock { self.new.clock ≡ self.old.clock }
     {
+        self.hash_waiting(node, message);
         match self.ask(node, message)? {
             Some(answer) => operation.on_message(node, answer, self.clock),
             None => Ok(()),
+        }
+    }
+
+    // Before a server is given a piece more, what waits there is hashed beside what waits at other
+    // servers.
+    fn hash_waiting(&mut self, node: NodeId, message: &Message)
+        ensures { self.new ≡ self.old }
+    {
+        if matches!(message.body, Body::Write(_, _, _)) {
+            hash_waiting(&mut self.nodes, usize::from(node));
         }
     }
 

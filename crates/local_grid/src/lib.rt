@@ -7,4 +7,5 @@ pub mod frames;
 pub mod grid;
 pub mod link;
 pub mod node;
+mod waiting;
 pub mod watched;

@@ -1,6 +1,8 @@
 //! A server of the grid, with its link.
 
-ghost use Rattle.std.specs.Prelude.{◌≡◌, false, is_none, IfOk, OnErr};
+ghost use Rattle.std.specs.Prelude.{◌≡◌, ◌<◌, false, is_none, length, IfOk, IfSome, OnErr};
+ghost use Rattle.server_core.specs.Buckets.{HasHasherAt};
+ghost use Rattle.tagged_hash.specs.TaggedHasher.{input_of};
 ghost use Rattle.local_grid.specs.Nodes.{Exchanges, IsLeftUnanswered, IsServed, StopsShort};
 ghost use Rattle.local_grid.specs.Nodes.{client_node, ticked_node};
 ghost use Rattle.local_grid.specs.declared.link.Way.TheVariants.{ToClient};
@@ -11,6 +13,7 @@ use server_core::server::Server;
 use share_store::store::Store;
 use std::alloc::AllocError;
 use std::marker::Model;
+use tagged_hash::{TaggedHasher, WaitingHasher};
 use wire::message::{Message, NodeId};
 
 /// The client's node.
@@ -57,6 +60,24 @@ impl<S: Store, L: Link> Node<S, L> {
         ensures { result ≡ self.now.silent }
     {
         self.silent
+    }
+
+    /// The first bucket from a position on whose hasher has something waiting.
+    pub(crate) fn waiting_from(&self, position: usize) -> Option<(usize, &WaitingHasher)>
+        ensures own { IfSome result
+            (λ found. HasHasherAt found.0 found.1.now self.now.server.buckets) }
+        ensures within { IfSome result (λ found. found.0 < length self.now.server.buckets) }
+    {
+        self.server.waiting_from(position)
+    }
+
+    /// What waited in the bucket at a position was hashed elsewhere.
+    pub(crate) fn take_over(&mut self, position: usize, hashed: TaggedHasher)
+        requires within { position < length self.old.server.buckets }
+        requires own { HasHasherAt position (input_of hashed) self.old.server.buckets }
+        ensures { self.new ≡ self.old }
+    {
+        self.server.take_over(position, hashed);
     }
 
     /// The time.

@@ -1,14 +1,14 @@
 -- The schedules of eight blocks, side by side.
-use Rattle.std.proofs.Common.{◌≡◌, ◌≢◌, ℕ, ◌+◌, ◌-◌, ◌<◌, ◌≤◌, List, [], ◌∷◌, ◌++◌, length, length-append, length-drop, get_or, set, take, drop, sym, ap, ext_get_or, ◌∙◌, arith, inl, inr, Bor}
+use Rattle.std.proofs.Common.{◌≡◌, ◌≢◌, ℕ, ◌+◌, ◌%◌, ◌<◌, ◌≤◌, List, [], ◌∷◌, length, get_or, set, take, drop, replicate, refl, sym, ap, subst, ◌∙◌, arith, inl, inr, Bor}
 use Rattle.std.proofs.lemmas.Bool.{cases_lt}
-use Rattle.std.proofs.lemmas.List.{get_or-set_other, get_or-set_same, get_or_append_left, length-map, map-append, take_all}
-use Rattle.std.proofs.lemmas.List.Elements.{All-append, All-drop}
+use Rattle.std.proofs.lemmas.List.{get_or-set_other, get_or-set_same, length-map, take_all}
 use Rattle.std.proofs.lemmas.Simd.{length-chunk}
 use Rattle.lemmas.proofs.Eights.{by_eight}
-use Rattle.sha2.specs.Sha256.{add32, next_word, schedule, small_sigma0, small_sigma1}
-use Rattle.sha2.proofs.Schedule256.{length-schedule, slice_index-schedule_first, slice_index-schedule_next}
-use Rattle.sha2_lanes.specs.Lanes.{AreVectors, AreWords, lane, text}
-use Rattle.sha2_lanes.proofs.Lanes.{lane_set}
+use lib.Lanes.{zip2}
+use Rattle.sha2.specs.Sha256.{IsWindow, add32, round_constants, schedule, window_word}
+use Rattle.sha2.proofs.Schedule256.{IsWindow_first, IsWindow_next, slice_index-schedule_first, window_word_at}
+use Rattle.sha2_lanes.specs.Lanes.{AreSums, AreSumsAt, AreVectors, AreWords, lane, text}
+use Rattle.sha2_lanes.proofs.Lanes.{at_lane, lane_set, lane_word, named, vector}
 
 -- eight slices of 64 bytes
 pub room_of_eight : (a b c d e f g h : Bor (List ℕ))
@@ -23,59 +23,75 @@ room_of_eight a b c d e f g h la lb lc ld le lf lg lh j below =
 pub part_of : (m : List ℕ) (at : ℕ) → at + 64 ≤ length m → take 64 (take 64 (drop at m)) ≡ take 64 (drop at m)
 part_of m at room = take_all 64 (take 64 (drop at m)) (omega (arith, length-chunk at 64 m room))
 
--- the words before word t are those of the schedule, and so is the one that follows from them
-next_same : (ws b : List ℕ) (t : ℕ) → 16 ≤ t → t < 64 → ((k : ℕ) → k < t → get_or ws k 0 ≡ get_or (schedule b 48) k 0)
-    → next_word ws t ≡ get_or (schedule b 48) t 0
-next_same ws b t low high same =
-    (λ i. add32 (add32 (add32 (small_sigma1 (same (t - 2) (omega arith) i)) (same (t - 7) (omega arith) i)) (small_sigma0 (same (t - 15) (omega arith) i))) (same (t - 16) (omega arith) i))
-    ∙ sym (slice_index-schedule_next b 48 t low (omega arith))
+-- the ring one word on
+pub window_more : (b w next : List ℕ) (t place x : ℕ) → 16 ≤ t → t < 64 → place ≡ t % 16 → IsWindow w (schedule b 48) t
+    → x ≡ window_word w t → next ≡ set w place x → (x ≡ get_or (schedule b 48) t 0) × IsWindow next (schedule b 48) (t + 1)
+window_more b w next t place x low high ep win ex en =
+    let at : x ≡ get_or (schedule b 48) t 0 = ex ∙ window_word_at b w t low high win in
+    (at, rw (en, ep, at) (IsWindow_next b w t low high win))
 
--- the first t words of each lane are those of its block's schedule
-abbrev pub AreFirst : (ℕ → List ℕ) → List (List ℕ) → ℕ → Type 0
-AreFirst block w t = (j k : ℕ) → j < 8 → k < t → get_or (lane w j) k 0 ≡ get_or (schedule (block j) 48) k 0
+-- a sum more
+pub sums_more : (b s next : List ℕ) (t x : ℕ) → t < length s → AreSums b s t → next ≡ set s t x
+    → x ≡ add32 (get_or (schedule b 48) t 0) (get_or round_constants t 0) → AreSums b next (t + 1)
+sums_more b s next t x room held en ex k lt = elim (cases_lt k t) [
+  | inl lower ↦
+      let other : k ≢ t = omega arith in
+      rw en (get_or-set_other s t k x 0 other ∙ held k lower)
+  | inr upper ↦
+      let here : k ≡ t = omega arith in
+      rw (en, here) (get_or-set_same s t x 0 room ∙ ex)
+]
 
--- the words of the blocks, before vectors that are to be overwritten
-pub vectors_begin : (block : ℕ → List ℕ) (f w : List (List ℕ)) → AreWords block f → AreVectors 64 w
-    → AreVectors 64 (f ++ drop 16 (drop 0 w))
-vectors_begin block f w are room =
-    let first : length f ≡ 16 = are.vectors.count in
-    let all : length w ≡ 64 = room.count in
-    let rest : length (drop 16 (drop 0 w)) ≡ 48 = omega (arith, length-drop 16 (drop 0 w), length-drop 0 w) in
-    record {
-      count = omega (arith, length-append f (drop 16 (drop 0 w)));
-      each = All-append (λ (y : List ℕ). length y ≡ 8) f (drop 16 (drop 0 w)) are.vectors.each
-          (All-drop (λ (y : List ℕ). length y ≡ 8) 16 (drop 0 w) (All-drop (λ (y : List ℕ). length y ≡ 8) 0 w room.each));
-    }
+-- the same in a lane of vectors
+pub sums_set : (b : ℕ → List ℕ) (s : List (List ℕ)) (y : List ℕ) (t j : ℕ) → AreVectors 64 s → t < 64 → AreSums (b j) (lane s j) t
+    → get_or y j 0 ≡ add32 (get_or (schedule (b j) 48) t 0) (get_or round_constants t 0) → AreSums (b j) (lane (set s t y) j) (t + 1)
+sums_set b s y t j are below held ey =
+    let many : length s ≡ 64 = are.count in
+    let long : length (lane s j) ≡ 64 = length-map s (λ (v : List ℕ). get_or v j 0) ∙ many in
+    sums_more (b j) (lane s j) (lane (set s t y) j) t (get_or y j 0) (omega arith) held (lane_set s t y j) ey
 
-pub first_begin : (block : ℕ → List ℕ) (f rest : List (List ℕ)) → AreWords block f → AreFirst block (f ++ rest) 16
-first_begin block f rest are j k lane_in below =
-    let long : length (lane f j) ≡ 16 = length-map f (λ (v : List ℕ). get_or v j 0) ∙ are.vectors.count in
-    ap (λ (l : List ℕ). get_or l k 0) (map-append (λ (v : List ℕ). get_or v j 0) f rest)
-    ∙ get_or_append_left (lane f j) (lane rest j) 0 k (omega arith)
-    ∙ are.each j k lane_in below
-    ∙ sym (slice_index-schedule_first (block j) 48 k below)
+constant_named : (f : ℕ → ℕ) (k : ℕ) → zip2 add32 (vector f) (replicate 8 k) ≡ vector (λ j. add32 (f j) k)
+constant_named f k = refl
 
-pub first_more : (block : ℕ → List ℕ) (w : List (List ℕ)) (t : ℕ) (x : List ℕ) → AreVectors 64 w → 16 ≤ t → t < 64
-    → ((j : ℕ) → j < 8 → get_or x j 0 ≡ next_word (lane w j) t) → AreFirst block w t → AreFirst block (set w t x) (t + 1)
-first_more block w t x are low high made held j k lane_in below =
-    let many : length w ≡ 64 = are.count in
-    let long : length (lane w j) ≡ 64 = length-map w (λ (v : List ℕ). get_or v j 0) ∙ many in
-    ap (λ (l : List ℕ). get_or l k 0) (lane_set w t x j)
-    ∙ elim (cases_lt k t) [
-      | inl lower ↦
-          let other : k ≢ t = omega arith in
-          get_or-set_other (lane w j) t k (get_or x j 0) 0 other ∙ held j k lane_in lower
-      | inr upper ↦
-          let here : k ≡ t = omega arith in
-          rw here
-          (get_or-set_same (lane w j) t (get_or x j 0) 0 (omega arith) ∙ made j lane_in
-          ∙ next_same (lane w j) (block j) t low high (λ q lt. held j q lane_in lt))
-    ]
+-- a constant added in each lane
+pub constant_vector : (x : List ℕ) (k : ℕ) → length x ≡ 8 → zip2 add32 x (replicate 8 k) ≡ vector (λ j. add32 (get_or x j 0) k)
+constant_vector x k long =
+    ap (λ (y : List ℕ). zip2 add32 y (replicate 8 k)) (named x long) ∙ constant_named (λ l. get_or x l 0) k
 
-pub whole_schedule : (block : ℕ → List ℕ) (w : List (List ℕ)) → AreVectors 64 w → AreFirst block w 64
-    → (j : ℕ) → j < 8 → lane w j ≡ schedule (block j) 48
-whole_schedule block w are held j below =
-    let many : length w ≡ 64 = are.count in
-    let long : length (lane w j) ≡ 64 = length-map w (λ (v : List ℕ). get_or v j 0) ∙ many in
-    ext_get_or 0 (lane w j) (schedule (block j) 48) (long ∙ sym (length-schedule (block j) 48))
-    (λ k lt. held j k below (omega arith))
+pub constant_added : (x : List ℕ) (k j : ℕ) → length x ≡ 8 → j < 8 → get_or (zip2 add32 x (replicate 8 k)) j 0 ≡ add32 (get_or x j 0) k
+constant_added x k j long below =
+    ap (λ (y : List ℕ). get_or y j 0) (constant_vector x k long) ∙ at_lane (λ l. add32 (get_or x l 0) k) j below
+
+-- a ring and sums one word on, in each lane
+pub more_at : (b : ℕ → List ℕ) (w w' s : List (List ℕ)) (x y : List ℕ) (t place n : ℕ) → 16 ≤ t → t < 64 → place ≡ t % 16 → n ≡ t + 1
+    → AreVectors 64 s → AreSumsAt b w s t
+    → ((j : ℕ) → j < 8 → get_or x j 0 ≡ window_word (lane w j) t)
+    → ((j : ℕ) → j < 8 → lane w' j ≡ set (lane w j) place (get_or x j 0))
+    → ((j : ℕ) → j < 8 → get_or y j 0 ≡ add32 (get_or x j 0) (get_or round_constants t 0))
+    → AreSumsAt b w' (set s t y) n
+more_at b w w' s x y t place n low high ep en are held ex ew ey = rw en (record {
+  window = λ j below. (window_more (b j) (lane w j) (lane w' j) t place (get_or x j 0) low high ep (held.window j below) (ex j below) (ew j below)).1;
+  begun = λ j below.
+      let at = (window_more (b j) (lane w j) (lane w' j) t place (get_or x j 0) low high ep (held.window j below) (ex j below) (ew j below)).0 in
+      sums_set b s y t j are high (held.begun j below) (ey j below ∙ ap (λ (k : ℕ). add32 k (get_or round_constants t 0)) at);
+})
+
+-- the same number of words, spelled another way
+pub sums_at : (b : ℕ → List ℕ) (w s : List (List ℕ)) (n k : ℕ) → n ≡ k → AreSumsAt b w s n → AreSumsAt b w s k
+sums_at b w s n k e held = subst (AreSumsAt b w s) e held
+
+-- the first words of the blocks, as they stand in the ring
+pub first_sum : (b : ℕ → List ℕ) (w s : List (List ℕ)) (y : List ℕ) (t j : ℕ) → AreWords b w → AreVectors 64 s → t < 16 → j < 8 → AreSums (b j) (lane s j) t
+    → get_or y j 0 ≡ add32 (get_or (get_or w t []) j 0) (get_or round_constants t 0) → AreSums (b j) (lane (set s t y) j) (t + 1)
+first_sum b w s y t j are vectors low below held ey =
+    let many : length w ≡ 16 = are.vectors.count in
+    sums_set b s y t j vectors (omega arith) held
+    (ey ∙ ap (λ (k : ℕ). add32 k (get_or round_constants t 0))
+    (sym (lane_word w j t (omega arith)) ∙ are.each j t below low ∙ sym (slice_index-schedule_first (b j) 48 t low)))
+
+-- the ring that the first words fill
+pub first_sums : (b : ℕ → List ℕ) (w s : List (List ℕ)) → AreWords b w → ((j : ℕ) → j < 8 → AreSums (b j) (lane s j) 16) → AreSumsAt b w s 16
+first_sums b w s are held = record {
+  window = λ j below. IsWindow_first (b j) (lane w j) (length-map w (λ (x : List ℕ). get_or x j 0) ∙ are.vectors.count) (λ k lt. are.each j k below lt);
+  begun = held;
+}

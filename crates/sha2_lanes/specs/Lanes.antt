@@ -3,7 +3,7 @@
 use Rattle.std.proofs.Common.{Bor}
 use Rattle.std.specs.Prelude.{◌≡◌, ℕ, ◌*◌, ◌<◌, List, [], ◌∷◌, ◌++◌, All, length, map}
 use Rattle.std.specs.Prelude.{slice_index, slice_index_or}
-use Rattle.sha2.specs.Sha256.{IsRoundsAt, word_at}
+use Rattle.sha2.specs.Sha256.{IsRoundsAt, IsWindow, add32, round_constants, schedule, word_at}
 
 -- so many vectors of eight words
 pub record AreVectors (n : ℕ) (xs : List (List ℕ)) : Type 0 where
@@ -25,6 +25,18 @@ pub record AreRoundsAt (block hash : ℕ → List ℕ) (w v : List (List ℕ)) (
 pub record AreWords (block : ℕ → List ℕ) (w : List (List ℕ)) : Type 0 where
   pub vectors : AreVectors 16 w
   pub each : (j k : ℕ) → j < 8 → k < 16 → slice_index (lane w j) k ≡ word_at (block j) (4 * k)
+
+-- the first n words are those of the block's schedule, each with its round's constant added
+abbrev pub AreSums : List ℕ → List ℕ → ℕ → Type 0
+AreSums block words n = (t : ℕ) → t < n
+    → slice_index words t
+    ≡ add32 (slice_index (schedule block 48) t) (slice_index round_constants t)
+
+-- after t words of each block's schedule, the ring holds the last sixteen of list j in lane j, and
+-- lane j of the sums begins with the sums of all
+pub record AreSumsAt (block : ℕ → List ℕ) (ring sums : List (List ℕ)) (t : ℕ) : Type 0 where
+  pub window : (j : ℕ) → j < 8 → IsWindow (lane ring j) (schedule (block j) 48) t
+  pub begun : (j : ℕ) → j < 8 → AreSums (block j) (lane sums j) t
 
 -- words of two vectors, by their positions in the one with the other behind it
 abbrev pub interleaved : List ℕ → List ℕ → List ℕ → List ℕ

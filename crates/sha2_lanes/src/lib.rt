@@ -18,10 +18,12 @@ mod group;
 mod message;
 mod round;
 mod schedule;
+mod side_by_side;
 mod stream;
 mod streams;
 mod words;
 
+pub use side_by_side::update_eight;
 pub use stream::Sha256Stream;
 pub use streams::Sha256Streams;
 

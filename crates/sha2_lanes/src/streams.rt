@@ -82,7 +82,7 @@ impl Sha256Streams {
 }
 
 // The hash values, eight words each, in the lanes.
-fn lanes_of(hashes: &[u32; 64]) -> [u32x8; 8]
+pub(crate) fn lanes_of(hashes: &[u32; 64]) -> [u32x8; 8]
     ensures vectors { AreVectors 8 result }
     ensures lanes { (j : ℕ) → j < 8 → lane result j ≡ take 8 (drop (8 * j) hashes.now) }
 {
@@ -109,7 +109,7 @@ fn hash_of(hashes: &[u32; 64], j: usize) -> u32x8
 }
 
 // The words of the lanes, one lane after another.
-fn words_of(lanes: [u32x8; 8]) -> [u32; 64]
+pub(crate) fn words_of(lanes: [u32x8; 8]) -> [u32; 64]
     requires { AreVectors 8 lanes }
     ensures { (j : ℕ) → j < 8 → take 8 (drop (8 * j) result) ≡ lane lanes j }
 {

@@ -70,7 +70,7 @@ fn half(messages: &[&[u8]; 8], at: usize) -> [u32x8; 8]
 // The words of the block from byte `at` of each on.
 #[inline(always)]
 pub(crate) fn words(messages: &[&[u8]; 8], at: usize) -> [u32x8; 16]
-    requires in_range { at < 2 ^ 63 }
+    requires in_range { at + 64 < 2 ^ 64 }
     requires room { (j : ℕ) → j < 8 → at + 64 ≤ length (text messages.now j) }
     ensures { AreWords (λ j. take 64 (drop at (text messages.now j))) result }
 {

@@ -19,6 +19,7 @@ mod hashers;
 mod input;
 mod row;
 mod tag;
+mod waiting;
 
 pub use convergence::KeyHasher;
 pub use decimal::{DecimalText, read_decimal};
@@ -26,6 +27,7 @@ pub use hasher::TaggedHasher;
 pub use hashers::TaggedHashers;
 pub use row::{pieces_from, tagged_eight, tagged_pieces};
 pub use tag::Tag;
+pub use waiting::{WaitingHasher, hashed_eight};
 
 /// The hash of `message` under `tag`.
 pub fn tagged(tag: Tag, message: &[u8]) -> [u8; 32]
