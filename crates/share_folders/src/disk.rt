@@ -100,9 +100,9 @@ pub(crate) fn sync_name<R: Files + AllocGlobal>(
     sync_folder(rt, above(folder))
 }
 
-// The same, where the folder in which the name stands may be read: that of all users may be one
-// that no user can.
-fn sync_readable_name<R: Files + AllocGlobal>(
+/// The same, where the folder in which the name stands may be read: that of all users may be one
+/// that no user can.
+pub fn sync_readable_name<R: Files + AllocGlobal>(
     rt: &R,
     folder: &str,
     durability: Durability,

@@ -17,7 +17,7 @@ pub use crate::disk::Durability;
 use crate::files::{Closing, OpenShare, RecentFile, begin_share, open_closed};
 use crate::lengths::{look_at, look_at_all};
 pub use crate::listing::Purpose;
-use crate::listing::{Listing, list_folder, own_token};
+use crate::listing::{Listing, list_folder, list_standing, own_token};
 use crate::names::{OpenName, OwnToken, closed_path, open_path};
 use crate::table::KeptShare;
 use share_store::error::StoreError;
@@ -91,8 +91,36 @@ impl<R: Files + RandomSource + AllocGlobal + Clone + Drop> FolderStore<R> {
             × (s.failures ≡ 0)) }
         ensures reading { IfOk result (λ s. purpose ≡ Purpose.Reading → IsNone s.own) }
     {
+        FolderStore::over(rt, folder, purpose, list_folder(rt, folder, purpose)?)
+    }
+
+    /// The same of a folder that is there. Its name is its maker's to put on the disk, so that this
+    /// is done once for many.
+    pub fn open_standing(
+        rt: &R,
+        folder: &str,
+        purpose: Purpose,
+    ) -> Result<FolderStore<R>, StoreError>
+        ensures begins { IfOk result (λ s. (s.folder ≡ folder.now) × (s.opened ≡ [])
+            × (s.failures ≡ 0)) }
+        ensures reading { IfOk result (λ s. purpose ≡ Purpose.Reading → IsNone s.own) }
+    {
+        FolderStore::over(rt, folder, purpose, list_standing(rt, folder, purpose)?)
+    }
+
+    // The store of a folder that was listed.
+    fn over(
+        rt: &R,
+        folder: &str,
+        purpose: Purpose,
+        listing: Listing,
+    ) -> Result<FolderStore<R>, StoreError>
+        ensures begins { IfOk result (λ s. (s.folder ≡ folder.now) × (s.opened ≡ [])
+            × (s.failures ≡ 0)) }
+        ensures reading { IfOk result (λ s. purpose ≡ Purpose.Reading → IsNone s.own) }
+    {
         let alloc = rt.alloc();
-        let Listing { closed, readonly } = list_folder(rt, folder, purpose)?;
+        let Listing { closed, readonly } = listing;
         Ok(FolderStore {
             own: own_token(rt, purpose, readonly)?,
             rt: rt.clone()?,

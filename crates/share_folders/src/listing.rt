@@ -48,19 +48,40 @@ pub(crate) struct Listing {
 }
 
 /// What a folder holds, which is made where it is not there. For synced writing the folder's name
-/// is on the disk then, and so are the names of the closed shares: they were left by a program that
-/// may have ended before it had put them there.
+/// is on the disk then, and so are the names of the closed shares.
 pub(crate) fn list_folder<R: Files + AllocGlobal + Clone + Drop>(
     rt: &R,
     folder: &str,
     purpose: Purpose,
 ) -> Result<Listing, StoreError> {
+    let entries = read_or_make(rt, folder, purpose.durability())?;
+    list_entries(rt, folder, purpose.durability(), entries)
+}
+
+/// What a folder holds that is there. For synced writing the names of the closed shares are on the
+/// disk then, and the folder's own is as it was.
+pub(crate) fn list_standing<R: Files + AllocGlobal + Clone + Drop>(
+    rt: &R,
+    folder: &str,
+    purpose: Purpose,
+) -> Result<Listing, StoreError> {
+    let entries = fs::read_dir(rt, folder)?;
+    list_entries(rt, folder, purpose.durability(), entries)
+}
+
+// What a folder with these entries holds. Synced, the names of the closed shares are put on the
+// disk: they were left by a program that may have ended before it had put them there.
+fn list_entries<R: Files + AllocGlobal + Clone + Drop>(
+    rt: &R,
+    folder: &str,
+    durability: Durability,
+    entries: ReadDir<R>,
+) -> Result<Listing, StoreError> {
     let mut listing = Listing {
         closed: BTreeMap::new(rt.alloc()),
         readonly: false,
     };
-    let durability = purpose.durability();
-    for entry in read_or_make(rt, folder, durability)? {
+    for entry in entries {
         match entry {
             Ok(entry) => take_entry(rt, folder, &mut listing, &entry)?,
             Err(error) if error.kind() == io::ErrorKind::InvalidFilename => {}

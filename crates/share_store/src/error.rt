@@ -1,7 +1,7 @@
 //! Why a call of a store fails.
 
 ghost use Rattle.std.specs.Prelude.{◌≡◌, Some};
-ghost use Rattle.share_store.specs.Refusals.{refusal_text};
+ghost use Rattle.share_store.specs.Refusals.{refusal_number, refusal_text};
 
 use std::alloc::{AllocError, AllocFailed};
 use std::error::Error;
@@ -10,10 +10,22 @@ use std::{fmt, io};
 /// Why a call of a store fails. After either the call may be made again.
 #[derive(Clone, Copy, Debug, PartialEq, Eq)]
 pub enum StoreError {
-    /// There was not enough memory (number 1).
+    /// There was not enough memory.
     OutOfMemory,
-    /// What the store stands on failed, as a disk does (number 60).
+    /// What the store stands on failed, as a disk does.
     StoreFault,
+}
+
+impl StoreError {
+    /// The number of the refusal.
+    pub fn number(self) -> u8
+        ensures { result ≡ refusal_number self }
+    {
+        match self {
+            StoreError::OutOfMemory => 1,
+            StoreError::StoreFault => 60,
+        }
+    }
 }
 
 impl fmt::Display for StoreError {

@@ -1,4 +1,5 @@
 -- what public contracts rest on
+pub mod Faults
 pub mod Source
 pub mod Change
 pub mod Texts
