@@ -11,6 +11,7 @@ use share_store::shelf::ShareKey;
 use std::alloc::Global;
 use std::fs::{File, Metadata, OpenFile, OpenOptions};
 use std::io::ErrorKind;
+use std::os::unix::fs::MetadataExt;
 use std::rt::Files;
 use std::time::{Duration, SystemTime};
 use std::{fs, io};
@@ -81,8 +82,18 @@ pub(crate) fn is_left_over(found: &Metadata, now: SystemTime) -> bool {
     }
 }
 
-/// Sets the file of a closed share aside: it gets the first name for such files that is free. Where
-/// that fails it stands where it stood. The error of the system is the inner one.
+/// The file of a closed share.
+#[derive(Clone, Copy)]
+pub(crate) struct ClosedFile<'a> {
+    pub(crate) folder: &'a str,
+    pub(crate) key: &'a ShareKey,
+    pub(crate) digest: &'a Digest,
+}
+
+/// Sets the file of a closed share aside, which was looked at: it gets the first name for such
+/// files that is free. Where that fails it stands where it stood. The error of the system is the
+/// inner one. Where another file has its name meanwhile, the one that was looked at is gone
+/// (`NotFound`), and the other keeps the name: it may be a share that was just acknowledged.
 ///
 /// Once it has its new name the folder is synced, so that the old one does not come back beside
 /// the name of a share that is closed later. Where that fails nothing more is done: a share that is
@@ -90,25 +101,52 @@ pub(crate) fn is_left_over(found: &Metadata, now: SystemTime) -> bool {
 pub(crate) fn set_aside<R: Files>(
     rt: &R,
     alloc: Global,
-    folder: &str,
-    key: &ShareKey,
-    digest: &Digest,
+    file: &ClosedFile<'_>,
+    seen: &Metadata,
 ) -> Result<io::Result<()>, StoreError>
     ensures memory { IsOkUnless result StoreError.OutOfMemory }
 {
-    let path = closed_path(alloc, folder, key, digest)?;
+    let path = closed_path(alloc, file.folder, file.key, file.digest)?;
     for number in 1..=MAX_ASIDE {
-        let aside = aside_path(alloc, folder, key, digest, number)?;
-        match move_to(rt, path.as_str(), aside.as_str()) {
+        let aside = aside_path(alloc, file.folder, file.key, file.digest, number)?;
+        match move_seen(rt, path.as_str(), aside.as_str(), seen) {
             Err(error) if error.kind() == ErrorKind::AlreadyExists => {}
-            Err(error) => return Ok(Err(error)),
-            Ok(()) => {
-                let _ = sync_folder(rt, folder);
-                return Ok(Ok(()));
+            outcome => {
+                let _ = sync_folder(rt, file.folder);
+                return Ok(outcome);
             }
         }
     }
     Ok(Err(io::Error::from(ErrorKind::AlreadyExists)))
+}
+
+// Gives the file that was looked at a name that is free. It is looked for again before, and after:
+// what was closed under its name in between gets that name back.
+fn move_seen<R: Files>(rt: &R, from: &str, to: &str, seen: &Metadata) -> io::Result<()> {
+    if !stands(rt, from, seen)? {
+        return Err(io::Error::from(ErrorKind::NotFound));
+    }
+    move_to(rt, from, to)?;
+    if stands(rt, to, seen)? {
+        return Ok(());
+    }
+    give_back(rt, from, to)?;
+    Err(io::Error::from(ErrorKind::NotFound))
+}
+
+// Whether the file that was looked at stands at a path.
+fn stands<R: Files>(rt: &R, path: &str, seen: &Metadata) -> io::Result<bool> {
+    let found = fs::symlink_metadata(rt, path)?;
+    Ok(found.dev() == seen.dev() && found.ino() == seen.ino())
+}
+
+// Gives a closed share its name back. Where one was closed under that name meanwhile, both have the
+// same bytes, and one is enough. A file system without links has it renamed.
+fn give_back<R: Files>(rt: &R, from: &str, to: &str) -> io::Result<()> {
+    match fs::hard_link(rt, to, from) {
+        Err(error) if error.kind() != ErrorKind::AlreadyExists => fs::rename(rt, to, from),
+        _ => fs::remove_file(rt, to),
+    }
 }
 
 // Gives a file a name that is free. An empty file is made there first, which fails where something

@@ -9,7 +9,7 @@ ghost use Rattle.share_scrub.specs.declared.name.ShareFile.{ShareFile};
 ghost use Rattle.share_scrub.specs.Scrub.{IsKeptUnless, whole_after};
 
 use crate::bytes::{Verdict, Watch};
-use crate::files::{Standing, check_file, is_left_over, set_aside, standing_at};
+use crate::files::{ClosedFile, Standing, check_file, is_left_over, set_aside, standing_at};
 use crate::name::{FileKind, ShareFile};
 use share_store::error::StoreError;
 use share_store::shelf::ShareKey;
@@ -228,26 +228,35 @@ impl<R: Files + AllocGlobal + Clone + Drop> Scrub<R> {
             (λ found. IfSome found (λ state. IsKeptUnless whole key state)) }
         ensures memory { IsOkUnless result StoreError.OutOfMemory }
     {
-        match standing_at(&self.rt, path) {
-            Ok(Standing::File(_)) => {}
+        let seen = match standing_at(&self.rt, path) {
+            Ok(Standing::File(seen)) => seen,
             Ok(Standing::Odd) => return Ok(Some(State::Odd)),
             Ok(Standing::Nothing) => return Ok(None),
             Err(error) => return Ok(Some(State::Unreadable(error))),
-        }
+        };
         match check_file(&self.rt, self.rt.alloc(), path, digest, watch)? {
             Ok(Verdict::Whole) => Ok(Some(State::Whole)),
             Ok(Verdict::Damaged) if !handling.set_aside => Ok(Some(State::Damaged(Action::Left))),
-            Ok(Verdict::Damaged) => Ok(Some(State::Damaged(self.set_aside(key, digest)?))),
+            Ok(Verdict::Damaged) => Ok(Some(State::Damaged(self.set_aside(key, digest, &seen)?))),
             Err(error) => Ok(Some(State::Unreadable(error))),
         }
     }
 
     // Sets the file of a closed share aside.
-    fn set_aside(&self, key: &ShareKey, digest: &Digest) -> Result<Action, StoreError>
+    fn set_aside(
+        &self,
+        key: &ShareKey,
+        digest: &Digest,
+        seen: &Metadata,
+    ) -> Result<Action, StoreError>
         ensures memory { IsOkUnless result StoreError.OutOfMemory }
     {
-        let folder = self.folder.as_str();
-        let outcome = set_aside(&self.rt, self.rt.alloc(), folder, key, digest)?;
+        let file = ClosedFile {
+            folder: self.folder.as_str(),
+            key,
+            digest,
+        };
+        let outcome = set_aside(&self.rt, self.rt.alloc(), &file, seen)?;
         Ok(action_of(outcome))
     }
 }

@@ -8,13 +8,14 @@ ghost use Rattle.share_scrub.specs.Clearing.{Counts, fate_by, fate_of, fate_read
 ghost use Rattle.share_scrub.specs.declared.mending.Outcome.TheVariants.{Kept, WasLeft};
 
 use crate::bytes::{Verdict, Watch};
-use crate::files::{Standing, check_file, is_left_over, set_aside, standing_at};
+use crate::files::{ClosedFile, Standing, check_file, is_left_over, set_aside, standing_at};
 use crate::name::{FileKind, ShareFile};
 use cap_text::to_base32;
 use share_folders::names::closed_path;
 use share_store::error::StoreError;
 use share_store::shelf::ShareKey;
 use std::alloc::Global;
+use std::fs::Metadata;
 use std::io::ErrorKind;
 use std::rt::Files;
 use std::time::SystemTime;
@@ -285,14 +286,6 @@ fn clear_open<R: Files>(rt: &R, path: &str, now: SystemTime) -> Outcome {
     }
 }
 
-// The file of a closed share.
-#[derive(Clone, Copy)]
-struct ClosedFile<'a> {
-    folder: &'a str,
-    key: &'a ShareKey,
-    digest: &'a Digest,
-}
-
 // Sets the file of a closed share aside, where that is its fate.
 fn clear_closed<R, W>(
     rt: &R,
@@ -305,43 +298,49 @@ where
     W: Watch,
     ensures memory { IsOkUnless result StoreError.OutOfMemory }
 {
-    let alloc = rt.alloc();
-    match fate_at(rt, alloc, file, wanted, watch)? {
-        Ok(Fate::Keep | Fate::Read) => Ok(Outcome::Kept),
-        Ok(Fate::Odd) => Ok(Outcome::WasOdd),
-        Ok(Fate::SetAside) => match set_aside(rt, alloc, file.folder, file.key, file.digest)? {
+    let path = closed_path(rt.alloc(), file.folder, file.key, file.digest)?;
+    let seen = match standing_at(rt, path.as_str()) {
+        Ok(Standing::File(seen)) => seen,
+        Ok(Standing::Odd) => return Ok(Outcome::WasOdd),
+        // what is gone is in nobody's way
+        Ok(Standing::Nothing) => return Ok(Outcome::Kept),
+        Err(error) => return left(error),
+    };
+    match fate_at(rt, file, &seen, wanted, watch)? {
+        Ok(Fate::SetAside) => match set_aside(rt, rt.alloc(), file, &seen)? {
             Ok(()) => Ok(Outcome::WasSetAside),
             Err(error) => left(error),
         },
+        Ok(_) => Ok(Outcome::Kept),
         Err(error) => left(error),
     }
 }
 
-// What is to become of the file of a closed share, which is read where its bytes tell. One that is
-// gone is in nobody's way.
-fn fate_at<R: Files, W: Watch>(
+// What is to become of the file of a closed share that was looked at, which is read where its bytes
+// tell.
+fn fate_at<R, W>(
     rt: &R,
-    alloc: Global,
     file: &ClosedFile<'_>,
+    seen: &Metadata,
     wanted: &Wanted<'_>,
     watch: &mut W,
 ) -> Result<io::Result<Fate>, StoreError>
+where
+    R: Files + AllocGlobal,
+    W: Watch,
     ensures memory { IsOkUnless result StoreError.OutOfMemory }
 {
-    let path = closed_path(alloc, file.folder, file.key, file.digest)?;
-    let length = match standing_at(rt, path.as_str()) {
-        Ok(Standing::File(found)) => Some(found.len()),
-        Ok(Standing::Odd) => None,
-        Ok(Standing::Nothing) => return Ok(Ok(Fate::Keep)),
-        Err(error) => return Ok(Err(error)),
-    };
+    let path = closed_path(rt.alloc(), file.folder, file.key, file.digest)?;
     let claim = Claim {
         share: file.key.1,
         digest: *file.digest,
-        length,
+        length: Some(seen.len()),
     };
     match fate_of(&claim, wanted) {
-        Fate::Read => Ok(check_file(rt, alloc, path.as_str(), file.digest, watch)?.map(fate_read)),
+        Fate::Read => {
+            let read = check_file(rt, rt.alloc(), path.as_str(), file.digest, watch)?;
+            Ok(read.map(fate_read))
+        }
         fate => Ok(Ok(fate)),
     }
 }
