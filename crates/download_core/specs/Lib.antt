@@ -21,5 +21,6 @@ pub mod Right
 pub mod Sections
 pub mod Whole
 pub mod Proving
+pub mod Refusals
 -- words of private clauses
 pub mod Steps

@@ -1,5 +1,8 @@
 //! Where a download stands, and why one does not begin.
 
+ghost use Rattle.std.specs.Prelude.{◌≡◌};
+ghost use Rattle.download_core.specs.Refusals.{refusal_number};
+
 pub use download_segments::Piece;
 pub use download_shares::holding::Blame;
 
@@ -18,10 +21,22 @@ pub enum DownloadStatus {
 }
 
 /// Why a download does not begin.
-#[derive(Clone, Copy, PartialEq, Eq)]
+#[derive(Clone, Copy, Debug, PartialEq, Eq)]
 pub enum DownloadError {
-    /// No memory (number 1).
+    /// No memory.
     OutOfMemory,
-    /// The range ends before it begins, or behind the file's end (number 73).
+    /// The range ends before it begins, or behind the file's end.
     BadRange,
+}
+
+impl DownloadError {
+    /// The number of the refusal.
+    pub fn number(self) -> u8
+        ensures { result ≡ refusal_number self }
+    {
+        match self {
+            DownloadError::OutOfMemory => 1,
+            DownloadError::BadRange => 73,
+        }
+    }
 }

@@ -1,4 +1,5 @@
 -- what public contracts rest on
+pub mod TreeFault
 pub mod Range
 pub mod Level
 pub mod Plan

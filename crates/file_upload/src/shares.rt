@@ -7,6 +7,7 @@ ghost use Rattle.upload_core.specs.Moves.{Begins};
 ghost use Rattle.upload_core.specs.Pieces.{length_of};
 ghost use Rattle.upload_core.specs.declared.status.ServerInfo.{ServerInfo};
 ghost use Rattle.file_upload.specs.Shares.{AreFit, MayWant, ReadyShares, shares_goal};
+ghost use Rattle.file_upload.specs.SharesError.{refusal_number};
 
 use cap_text::VerifyCap;
 use file_encoding::Share;
@@ -20,10 +21,22 @@ use wire::message::ShareLength;
 /// Why shares are not made ready.
 #[derive(Clone, Copy, Debug, PartialEq, Eq)]
 pub enum SharesError {
-    /// No memory was left (number 1).
+    /// No memory was left.
     OutOfMemory,
-    /// The number of servers is outside its range (number 2).
+    /// The number of servers is outside its range.
     BadParameters,
+}
+
+impl SharesError {
+    /// The number of the refusal.
+    pub fn number(self) -> u8
+        ensures { result ≡ refusal_number self }
+    {
+        match self {
+            SharesError::OutOfMemory => 1,
+            SharesError::BadParameters => 2,
+        }
+    }
 }
 
 impl From<AllocError> for SharesError {

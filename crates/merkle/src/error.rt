@@ -1,6 +1,7 @@
 //! Why nodes that are offered are not taken.
 
 ghost use Rattle.std.specs.Prelude.{◌≡◌};
+ghost use Rattle.merkle.specs.OfferError.{offer_refusal_number};
 
 use std::alloc::{AllocError, AllocFailed};
 use std::error::Error;
@@ -9,10 +10,22 @@ use std::fmt;
 /// Why nodes that were offered are not taken.
 #[derive(Clone, Copy, Debug, PartialEq, Eq)]
 pub enum OfferError {
-    /// An allocation was refused (number 1).
+    /// An allocation was refused.
     OutOfMemory,
-    /// The nodes do not go with the root and what is known (number 6).
+    /// The nodes do not go with the root and what is known.
     NotConsistent,
+}
+
+impl OfferError {
+    /// The number of the refusal.
+    pub fn number(self) -> u8
+        ensures { result ≡ offer_refusal_number self }
+    {
+        match self {
+            OfferError::OutOfMemory => 1,
+            OfferError::NotConsistent => 6,
+        }
+    }
 }
 
 impl fmt::Display for OfferError {

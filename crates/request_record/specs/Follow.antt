@@ -1,5 +1,5 @@
--- How a record goes on, whatever comes: what was asked stays at its position, and what is answered
--- was answered before, or is by the message that came.
+-- How a record goes on, whatever comes: what was asked stays at its position, and so does what was
+-- answered; and what is answered was answered before, or is by the message that came.
 use Rattle.std.specs.Prelude.{◌≡◌, ◌⊎◌, ℕ, ◌+◌, List, Some, true, slice_get}
 use Rattle.wire.specs.declared.message.Body.{Body}
 use Rattle.wire.specs.declared.message.Message.{Message}
@@ -36,12 +36,14 @@ pub record WasAnswered (entries : List Request) (position : ℕ) (s : Request) (
   pub server : request.server ≡ s.server
   pub asked : request.asked ≡ s.asked
 
--- the request that stands at a position now, of the same server and for the same
+-- the request that stands at a position now, of the same server and for the same, and with the same
+-- answer where it had one
 pub record StillAsks (entries : List Request) (position : ℕ) (r : Request) : Type 0 where
   pub request : Request
   pub at : slice_get entries position ≡ Some request
   pub server : request.server ≡ r.server
   pub asked : request.asked ≡ r.asked
+  pub answered : (said : Body) → r.outcome ≡ Answered said → request.outcome ≡ Answered said
 
 -- a record goes on, of which these answers may be new
 pub record Follows (New : Said) (old new : RequestsState) : Type 0 where

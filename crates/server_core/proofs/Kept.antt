@@ -5,8 +5,8 @@ use Rattle.std.proofs.lemmas.Bool.Decides.{nat_tests}
 use Rattle.std.specs.Map.{keys_of}
 use Rattle.wire.specs.declared.message.ShareId.{ShareId}
 use Rattle.tagged_hash.specs.TaggedHash.{share_digest}
-use Rattle.tagged_hash.specs.TaggedHasher.{Holds}
-use Rattle.tagged_hash.specs.declared.hasher.TaggedHasher.{TaggedHasher}
+use Rattle.sha2_lanes.specs.Stream.{Taken}
+use Rattle.tagged_hash.specs.TaggedHasher.{IsGiven}
 use Rattle.tagged_hash.specs.declared.tag.Tag.TheVariants.{WholeShare}
 use Rattle.share_store.specs.declared.shelf.ClosedShare.{ClosedShare}
 use Rattle.share_store.specs.Shelf.{Shelf, ShareKey, key_of, closed_at, digest_at, written, OthersStay, with_closed}
@@ -91,8 +91,8 @@ not_none : (n : ℕ) → nat_eq (suc n) 0 ≡ false
 not_none n = grind (arith, nat_tests)
 
 -- the bytes that a hasher was given, when more are written
-begun : (count : ℕ) (hasher : TaggedHasher) (len : ℕ) (bytes before after : List ℕ) → IsNothing (Part count hasher) ⊎ Gathers len (Part count hasher) before → after ≡ cond (nat_eq count 0) bytes (before ++ bytes)
-    → (given : List ℕ) × (count ≡ length given) × Holds hasher WholeShare given × (after ≡ given ++ bytes)
+begun : (count : ℕ) (hasher : Taken) (len : ℕ) (bytes before after : List ℕ) → IsNothing (Part count hasher) ⊎ Gathers len (Part count hasher) before → after ≡ cond (nat_eq count 0) bytes (before ++ bytes)
+    → (given : List ℕ) × (count ≡ length given) × IsGiven hasher WholeShare given × (after ≡ given ++ bytes)
 begun count hasher len bytes before after (inl n) e = ([], n.0, n.1, e ∙ ap (λ c. cond (nat_eq c 0) bytes (before ++ bytes)) n.0)
 begun count hasher len bytes [] after (inr g) e = ([], g.0, g.2, e ∙ ap (λ c. cond (nat_eq c 0) bytes bytes) g.0)
 begun count hasher len bytes (x ∷ xs) after (inr g) e =

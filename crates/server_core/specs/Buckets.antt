@@ -1,9 +1,11 @@
 -- Open buckets: the shares that clients are writing.
 use Rattle.std.specs.Prelude.{◌≡◌, ◌<◌, ◌≤◌, ℕ, ◌+◌, ◌==◌, ◌&&◌, not, List, [], ◌∷◌, ◌++◌, Bool}
 use Rattle.std.specs.Prelude.{Option, Some, None, if◌then◌else◌, length, map, filter, sum, bytes_eq}
+use Rattle.std.specs.Prelude.{IfSome, slice_get}
 use Rattle.wire.specs.declared.message.ShareId.{ShareId}
+use Rattle.sha2_lanes.specs.Stream.{Taken}
 use Rattle.tagged_hash.specs.TaggedHash.{share_digest}
-use Rattle.tagged_hash.specs.TaggedHasher.{Holds}
+use Rattle.tagged_hash.specs.TaggedHasher.{IsGiven}
 use Rattle.tagged_hash.specs.declared.tag.Tag.TheVariants.{WholeShare}
 use Rattle.server_core.specs.declared.bucket.Gathered.{Gathered}
 use Rattle.server_core.specs.declared.bucket.Gathered.TheVariants.{Part, Whole}
@@ -26,7 +28,7 @@ bytes_so_far b = count_in b.length b.gathered
 -- there, and this is their digest.
 abbrev pub Gathers : ℕ → Gathered → List ℕ → Type 0
 Gathers len (Part count hasher) written =
-    (count ≡ length written) × (count < len) × Holds hasher WholeShare written
+    (count ≡ length written) × (count < len) × IsGiven hasher WholeShare written
 Gathers len (Whole digest) written = (len ≡ length written) × (digest ≡ share_digest written)
 
 -- there is room for so many bytes more
@@ -36,20 +38,25 @@ HasRoom len more (Whole digest) = ⊥
 
 -- nothing is written yet
 abbrev pub IsNothing : Gathered → Type 0
-IsNothing (Part count hasher) = (count ≡ 0) × Holds hasher WholeShare []
+IsNothing (Part count hasher) = (count ≡ 0) × IsGiven hasher WholeShare []
 IsNothing (Whole digest) = ⊥
 
 -- More bytes came, in order. The share is whole once there are as many as its length.
 abbrev pub GoesOn : ℕ → List ℕ → Gathered → Gathered → Type 0
 GoesOn len bytes (Part count hasher) (Part more next) =
     (more ≡ count + length bytes) × (more < len)
-    × ((written : List ℕ) → Holds hasher WholeShare written
-    → Holds next WholeShare (written ++ bytes))
+    × ((written : List ℕ) → IsGiven hasher WholeShare written
+    → IsGiven next WholeShare (written ++ bytes))
 GoesOn len bytes (Part count hasher) (Whole digest) =
     (count + length bytes ≡ len)
-    × ((written : List ℕ) → Holds hasher WholeShare written
+    × ((written : List ℕ) → IsGiven hasher WholeShare written
     → digest ≡ share_digest (written ++ bytes))
 GoesOn len bytes (Whole digest) after = ⊥
+
+-- this is what its hasher has taken in
+abbrev pub HasHasher : Taken → Gathered → Type 0
+HasHasher taken (Part count hasher) = hasher ≡ taken
+HasHasher taken (Whole digest) = ⊥
 
 -- ---- buckets
 
@@ -118,6 +125,10 @@ position_after (Some n) = Some (n + 1)
 abbrev pub position_from : ℕ → Option ℕ → Option ℕ
 position_from n None = None
 position_from n (Some k) = Some (n + k)
+
+-- the bucket there has a hasher that has taken in this
+abbrev pub HasHasherAt : ℕ → Taken → List Bucket → Type 0
+HasHasherAt position taken bs = IfSome (slice_get bs position) (λ b. HasHasher taken b.gathered)
 
 -- where the bucket of a share stands
 abbrev pub position_of : ShareId → List Bucket → Option ℕ

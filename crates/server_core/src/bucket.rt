@@ -1,19 +1,22 @@
 //! A bucket: a share that a client is writing.
 
-ghost use Rattle.std.specs.Prelude.{◌≡◌, length};
-ghost use Rattle.server_core.specs.Buckets.{GoesOn, HasRoom, IsNothing, IsFresh, is_owned};
-ghost use Rattle.server_core.specs.Buckets.{with_bytes, count_in, bytes_so_far};
+ghost use Rattle.std.specs.Prelude.{◌≡◌, IfSome, length};
+ghost use Rattle.server_core.specs.Buckets.{GoesOn, HasHasher, HasRoom, IsNothing, IsFresh};
+ghost use Rattle.server_core.specs.Buckets.{is_owned, with_bytes, count_in, bytes_so_far};
 ghost use Rattle.server_core.specs.declared.bucket.Gathered.{Gathered};
+ghost use Rattle.tagged_hash.specs.TaggedHasher.{input_of};
 
+use std::alloc::Global;
 use std::mem;
-use tagged_hash::{Tag, TaggedHasher};
+use tagged_hash::{Tag, TaggedHasher, WaitingHasher};
 use wire::message::{Digest, NodeId, ShareId, ShareLength};
 
-/// The bytes of a share so far. They are not kept: the store has them.
+/// The bytes of a share so far. They are not kept, but for the last piece until it is hashed: the
+/// store has them.
 #[derive(Drop)]
 pub enum Gathered {
     /// How many there are, fewer than the share's length, and a hasher that was given them.
-    Part(u64, TaggedHasher),
+    Part(u64, WaitingHasher),
     /// The digest of the whole share.
     Whole(Digest),
 }
@@ -33,10 +36,10 @@ pub struct Bucket {
 
 impl Gathered {
     // No bytes.
-    fn nothing() -> Gathered
+    fn nothing(alloc: Global) -> Gathered
         ensures { IsNothing result }
     {
-        Gathered::Part(0, TaggedHasher::new(Tag::WholeShare))
+        Gathered::Part(0, WaitingHasher::new(alloc, Tag::WholeShare))
     }
 
     // How many bytes there are, of a share of this length.
@@ -46,6 +49,26 @@ impl Gathered {
         match self {
             Gathered::Part(count, _) => *count,
             Gathered::Whole(_) => share_length.get(),
+        }
+    }
+
+    /// The hasher, where something waits in it.
+    pub(crate) fn waiting(&self) -> Option<&WaitingHasher>
+        ensures { IfSome result (λ hasher. HasHasher hasher.now self.now) }
+    {
+        match self {
+            Gathered::Part(_, hasher) if hasher.has_waiting() => Some(hasher),
+            _ => None,
+        }
+    }
+
+    /// What waited was hashed elsewhere.
+    pub(crate) fn take_over(&mut self, hashed: TaggedHasher)
+        requires { HasHasher (input_of hashed) self.old }
+        ensures { self.new ≡ self.old }
+    {
+        if let Gathered::Part(_, hasher) = self {
+            hasher.take_over(hashed);
         }
     }
 
@@ -71,7 +94,14 @@ impl Gathered {
 
 impl Bucket {
     /// An empty bucket.
-    pub fn new(client: NodeId, session: u64, id: ShareId, length: ShareLength, now: u64) -> Bucket
+    pub fn new(
+        alloc: Global,
+        client: NodeId,
+        session: u64,
+        id: ShareId,
+        length: ShareLength,
+        now: u64,
+    ) -> Bucket
         ensures { IsFresh client session id length now result }
     {
         Bucket {
@@ -79,7 +109,7 @@ impl Bucket {
             session,
             id,
             length,
-            gathered: Gathered::nothing(),
+            gathered: Gathered::nothing(alloc),
             touched: now,
         }
     }

@@ -2,17 +2,19 @@
 
 ghost use Rattle.std.specs.Prelude.{◌≡◌, ◌<◌, ◌-◌, ◌∷◌, ◌++◌, [], filter, length, slice_get};
 ghost use Rattle.std.specs.Prelude.{IfNone, IfSome, None, OnErr, OnOk, Some};
-ghost use Rattle.server_core.specs.Buckets.{GoesOn, HasRoom, bucket_at, changed, ended};
-ghost use Rattle.server_core.specs.Buckets.{position_of};
+ghost use Rattle.server_core.specs.Buckets.{GoesOn, HasHasherAt, HasRoom, bucket_at, changed};
+ghost use Rattle.server_core.specs.Buckets.{ended, position_of};
 ghost use Rattle.server_core.specs.Buckets.{promised, touched, with_bytes};
 ghost use Rattle.server_core.specs.ServerState.{is_fresh_at};
 ghost use Rattle.server_core.specs.declared.bucket.Bucket.{Bucket};
 ghost use Rattle.server_core.specs.declared.bucket.Gathered.{Gathered};
+ghost use Rattle.tagged_hash.specs.TaggedHasher.{input_of};
 ghost use Rattle.wire.specs.declared.message.ShareId.{ShareId};
 
 use crate::bucket::Bucket;
 use std::alloc::{AllocError, Global};
 use std::marker::Model;
+use tagged_hash::{TaggedHasher, WaitingHasher};
 use wire::message::ShareId;
 
 /// The seconds after which a bucket that was not touched is dropped.
@@ -110,6 +112,29 @@ impl Buckets {
             × (self.new ≡ changed id (with_bytes now gathered) self.old) }
     {
         self.open[position].push(bytes, now);
+    }
+
+    /// The first bucket from a position on whose hasher has something waiting: its position, and
+    /// the hasher.
+    pub fn waiting_from(&self, position: usize) -> Option<(usize, &WaitingHasher)>
+        ensures own { IfSome result (λ found. HasHasherAt found.0 found.1.now self.now) }
+        ensures within { IfSome result (λ found. found.0 < length self.now) }
+    {
+        for place in position..self.open.len() {
+            if let Some(hasher) = self.open[place].gathered.waiting() {
+                return Some((place, hasher));
+            }
+        }
+        None
+    }
+
+    /// What waited in the bucket at a position was hashed elsewhere.
+    pub fn take_over(&mut self, position: usize, hashed: TaggedHasher)
+        requires within { position < length self.old }
+        requires own { HasHasherAt position (input_of hashed) self.old }
+        ensures { self.new ≡ self.old }
+    {
+        self.open[position].gathered.take_over(hashed);
     }
 
     /// Ends the bucket at a position.

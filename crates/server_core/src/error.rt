@@ -2,7 +2,7 @@
 
 ghost use Rattle.std.specs.Prelude.{◌≡◌, Some};
 ghost use Rattle.server_core.specs.declared.error.ServerFault.TheVariants.{OutOfMemory};
-ghost use Rattle.server_core.specs.Faults.{fault_text, fault_of};
+ghost use Rattle.server_core.specs.Faults.{fault_number, fault_text, fault_of};
 
 use share_store::error::StoreError;
 use std::alloc::{AllocError, AllocFailed};
@@ -12,10 +12,22 @@ use std::fmt;
 /// Why a server does not answer a message.
 #[derive(Clone, Copy, Debug, PartialEq, Eq)]
 pub enum ServerFault {
-    /// There was not enough memory (number 1). The server is as it was.
+    /// There was not enough memory. The server is as it was.
     OutOfMemory,
-    /// The store failed (number 60). The bucket in question is gone.
+    /// The store failed. The bucket in question is gone.
     StoreFault,
+}
+
+impl ServerFault {
+    /// The number of the fault.
+    pub fn number(self) -> u8
+        ensures { result ≡ fault_number self }
+    {
+        match self {
+            ServerFault::OutOfMemory => 1,
+            ServerFault::StoreFault => 60,
+        }
+    }
 }
 
 impl fmt::Display for ServerFault {

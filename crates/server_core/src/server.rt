@@ -1,13 +1,14 @@
 //! The server over a store.
 
-ghost use Rattle.std.specs.Prelude.{◌≡◌, ◌≤◌, ℕ, [], length, max, true};
+ghost use Rattle.std.specs.Prelude.{◌≡◌, ◌≤◌, ◌<◌, ℕ, [], IfSome, length, max, true};
 ghost use Rattle.server_core.specs.ServerState.{Does, DoesFor, Serves, Ticks, RestartsTo};
 ghost use Rattle.server_core.specs.ServerState.{KeepsTerms};
 ghost use Rattle.server_core.specs.ServerState.{ListsHoldings, outcome_of, is_full, line_of};
 ghost use Rattle.server_core.specs.ServerState.{allocate_line, write_line, close_line, abort_line};
 ghost use Rattle.server_core.specs.ServerState.{read_line};
-ghost use Rattle.server_core.specs.Buckets.{bucket_at};
+ghost use Rattle.server_core.specs.Buckets.{HasHasherAt, bucket_at};
 ghost use Rattle.server_core.specs.Sound.{OthersBucketsStay};
+ghost use Rattle.tagged_hash.specs.TaggedHasher.{input_of};
 
 use crate::bucket::{Bucket, Gathered};
 use crate::buckets::Buckets;
@@ -17,6 +18,7 @@ use share_store::memory::MemoryStore;
 use share_store::store::Store;
 use std::alloc::Global;
 use std::marker::Model;
+use tagged_hash::{TaggedHasher, WaitingHasher};
 pub use wire::message::NodeId;
 use wire::message::{Body, Message, ReadLength, ShareId, ShareLength, StorageIndex};
 
@@ -117,6 +119,25 @@ impl<S: Store> Server<S> {
         &self.store
     }
 
+    /// The first bucket from a position on whose hasher has something waiting: its position, and
+    /// the hasher.
+    pub fn waiting_from(&self, position: usize) -> Option<(usize, &WaitingHasher)>
+        ensures own { IfSome result
+            (λ found. HasHasherAt found.0 found.1.now self.now.buckets) }
+        ensures within { IfSome result (λ found. found.0 < length self.now.buckets) }
+    {
+        self.buckets.waiting_from(position)
+    }
+
+    /// What waited in the bucket at a position was hashed elsewhere.
+    pub fn take_over(&mut self, position: usize, hashed: TaggedHasher)
+        requires within { position < length self.old.buckets }
+        requires own { HasHasherAt position (input_of hashed) self.old.buckets }
+        ensures { self.new ≡ self.old }
+    {
+        self.buckets.take_over(position, hashed);
+    }
+
     // The time, which does not go back.
     fn later(&self, now: u64) -> u64
         ensures { result ≡ max self.now.clock now }
@@ -176,7 +197,8 @@ impl<S: Store> Server<S> {
         if self.is_full(length) {
             return Ok(Body::Full);
         }
-        let bucket = Bucket::new(from, session, id, length, now);
+        let alloc = self.buckets.allocator();
+        let bucket = Bucket::new(alloc, from, session, id, length, now);
         self.buckets.open(bucket)?;
         Ok(Body::Granted)
     }

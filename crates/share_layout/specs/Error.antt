@@ -1,4 +1,4 @@
--- The refusals' names.
+-- The refusals' numbers and names.
 use Rattle.std.specs.Prelude.{ℕ, List, ◌++◌, codes}
 use Rattle.share_layout.specs.declared.error.LayoutError.{LayoutError}
 use Rattle.share_layout.specs.declared.error.LayoutError.TheVariants.{BadParameters, TooLarge}
@@ -9,6 +9,16 @@ use Rattle.share_layout.specs.declared.error.Section.{Section}
 use Rattle.share_layout.specs.declared.error.Section.TheVariants.{Header, Data, Unused}
 use Rattle.share_layout.specs.declared.error.Section.TheVariants.{CiphertextTree, BlockTree}
 use Rattle.share_layout.specs.declared.error.Section.TheVariants.{ShareHashes, Ueb}
+
+abbrev pub number_of : LayoutError → ℕ
+number_of BadParameters = 2
+number_of TooLarge = 30
+number_of TooManySegments = 31
+number_of BadVersion = 32
+number_of BadOffset = 33
+number_of (Truncated section) = 34
+number_of BadShareHashes = 35
+number_of WriterFault = 36
 
 abbrev pub section_name : Section → List ℕ
 section_name Header = codes "Header"

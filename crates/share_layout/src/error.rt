@@ -28,23 +28,22 @@ pub enum Section {
 /// its documentation.
 #[derive(Clone, Copy, Debug, PartialEq, Eq)]
 pub enum LayoutError {
-    /// A parameter lies outside its range (number 2).
+    /// A parameter lies outside its range.
     BadParameters,
-    /// The file is larger than `ueb::MAX_FILE_SIZE` (number 30).
+    /// The file is larger than `ueb::MAX_FILE_SIZE`.
     TooLarge,
-    /// There are more than `ueb::MAX_SEGMENTS` segments (number 31).
+    /// There are more than `ueb::MAX_SEGMENTS` segments.
     TooManySegments,
-    /// The layout's version is not the one that it has to be (number 32).
+    /// The layout's version is not the one that it has to be.
     BadVersion,
     /// A number of the header is not the one that it has to be, the extension block is too long, or
-    /// bytes follow it (number 33).
+    /// bytes follow it.
     BadOffset,
-    /// The share ends too early: the first byte that is missing belongs to this section (number
-    /// 34).
+    /// The share ends too early: the first byte that is missing belongs to this section.
     Truncated(Section),
-    /// The share hashes are of other nodes than the share's, or there is no such share (number 35).
+    /// The share hashes are of other nodes than the share's, or there is no such share.
     BadShareHashes,
-    /// The writer failed (number 36).
+    /// The writer failed.
     WriterFault,
 }
 
@@ -63,6 +62,26 @@ impl Section {
             Section::BlockTree => "BlockTree",
             Section::ShareHashes => "ShareHashes",
             Section::Ueb => "Ueb",
+        }
+    }
+}
+
+impl LayoutError {
+    ghost use Rattle.share_layout.specs.Error.{number_of};
+
+    /// The number of the refusal.
+    pub fn number(self) -> u8
+        ensures { result ≡ number_of self }
+    {
+        match self {
+            LayoutError::BadParameters => 2,
+            LayoutError::TooLarge => 30,
+            LayoutError::TooManySegments => 31,
+            LayoutError::BadVersion => 32,
+            LayoutError::BadOffset => 33,
+            LayoutError::Truncated(_) => 34,
+            LayoutError::BadShareHashes => 35,
+            LayoutError::WriterFault => 36,
         }
     }
 }

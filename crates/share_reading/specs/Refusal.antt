@@ -7,6 +7,7 @@ use Rattle.share_layout.specs.declared.layout.Layout.TheVariants.{One}
 use Rattle.share_layout.specs.Offsets.{layout_in, number_at, offsets_in}
 use Rattle.share_layout.specs.Reading.{HasHeader, IsHeaderFault}
 use Rattle.share_verify.specs.CapBlock.{IsUebFor, geometry_by}
+use Rattle.share_verify.specs.Checks.{check_number}
 use Rattle.share_verify.specs.Verify.{IsUebFault}
 use Rattle.share_verify.specs.declared.check.Check.{Check}
 use Rattle.share_verify.specs.declared.check.Check.TheVariants as checks
@@ -26,6 +27,10 @@ check_of errors.TooLong = checks.Layout
 check_of errors.NoBlock = checks.Ueb
 check_of (errors.Ueb fault) = checks.Ueb
 check_of errors.OtherHeader = checks.Layout
+
+-- the number of the refusal
+abbrev pub refusal_number : OpeningError → ℕ
+refusal_number error = check_number (check_of error)
 
 -- why a header that is there whole is refused: it tells no offsets, or the extension block's is too
 -- high

@@ -1,13 +1,13 @@
 //! Why a share that was begun to be read is given up.
 
 ghost use Rattle.std.specs.Prelude.{◌≡◌};
-ghost use Rattle.share_reading.specs.Refusal.{check_of};
+ghost use Rattle.share_reading.specs.Refusal.{check_of, refusal_number};
 
 use share_layout::LayoutError;
 use share_verify::{Check, ShareFault};
 
 /// Why a share is given up at its beginning. Each call tells the first fault, in this order.
-#[derive(Clone, Copy, PartialEq, Eq)]
+#[derive(Clone, Copy, Debug, PartialEq, Eq)]
 pub enum OpeningError {
     /// A read brought another number of bytes than it asked for.
     OtherLength,
@@ -26,6 +26,13 @@ pub enum OpeningError {
 }
 
 impl OpeningError {
+    /// The number of the refusal, which is its check's.
+    pub fn number(self) -> u8
+        ensures { result ≡ refusal_number self }
+    {
+        self.check().number()
+    }
+
     /// The check that the share fails: of the extension block, where that is empty or another, and
     /// else of the layout.
     pub fn check(&self) -> Check

@@ -1,4 +1,4 @@
--- The checks of a share one by one.
+-- The checks of a share one by one, and the numbers of what fails them.
 use Rattle.std.specs.Prelude.{ℕ, List}
 use Rattle.cap_text.specs.Cap.{VerifyCapValue}
 use Rattle.ueb.specs.Shape.{Contents}
@@ -22,6 +22,20 @@ check_of faults.CiphertextTree = checks.CiphertextTree
 check_of faults.BlockTree = checks.BlockTree
 check_of faults.ShareHashes = checks.ShareHashes
 check_of faults.Data = checks.Data
+
+-- the number of the refusal of a share that does not pass a check
+abbrev pub check_number : Check → ℕ
+check_number checks.Layout = 40
+check_number checks.Unused = 41
+check_number checks.Ueb = 42
+check_number checks.CiphertextTree = 43
+check_number checks.BlockTree = 44
+check_number checks.ShareHashes = 45
+check_number checks.Data = 46
+
+-- the number of a fault
+abbrev pub fault_number : ShareFault → ℕ
+fault_number fault = check_number (check_of fault)
 
 -- the share reads as one of this number, and its sections pass a test
 abbrev pub ReadsWith : VerifyCapValue → ℕ → List ℕ → (Contents → Sections → Type 0) → Type 0

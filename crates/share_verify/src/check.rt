@@ -1,13 +1,14 @@
 //! The checks of a share.
 
 ghost use Rattle.std.specs.Prelude.{◌≡◌};
-ghost use Rattle.share_verify.specs.Checks.{FirstFaultsFail, SoundSharesPass, check_of};
+ghost use Rattle.share_verify.specs.Checks.{FirstFaultsFail, SoundSharesPass, check_number};
+ghost use Rattle.share_verify.specs.Checks.{check_of, fault_number};
 ghost use Rattle.share_verify.specs.Inputs.{SoundSharesLead};
 
 use crate::fault::ShareFault;
 
 /// A check of a share, by what it is about.
-#[derive(Clone, Copy, PartialEq, Eq)]
+#[derive(Clone, Copy, Debug, PartialEq, Eq)]
 pub enum Check {
     /// The layout: the header, the offsets of the sections and the numbers of the share hashes.
     Layout,
@@ -25,7 +26,31 @@ pub enum Check {
     Data,
 }
 
+impl Check {
+    /// The number of the refusal of a share that does not pass the check.
+    pub fn number(self) -> u8
+        ensures { result ≡ check_number self }
+    {
+        match self {
+            Check::Layout => 40,
+            Check::Unused => 41,
+            Check::Ueb => 42,
+            Check::CiphertextTree => 43,
+            Check::BlockTree => 44,
+            Check::ShareHashes => 45,
+            Check::Data => 46,
+        }
+    }
+}
+
 impl ShareFault {
+    /// The number of the fault, which is its check's.
+    pub fn number(self) -> u8
+        ensures { result ≡ fault_number self }
+    {
+        self.check().number()
+    }
+
     /// The check that the fault is of.
     pub fn check(&self) -> Check
         ensures { result ≡ check_of self.now }

@@ -5,9 +5,9 @@ ghost use Rattle.std.specs.List.{IsDistinct};
 ghost use Rattle.tagged_hash.specs.ConvergentKey.{IsSecret};
 ghost use Rattle.ueb.specs.Limits.{max_file_size, min_file_size};
 ghost use Rattle.file_encoding.specs.Params.{HasTooManySegments, IsEncodable, parameters_of};
-ghost use Rattle.sources.specs.Change.{HasChanged};
 ghost use Rattle.sources.specs.Source.{HasFailedMore};
-ghost use Rattle.file_streaming.specs.Prepared.{IsPreparedFrom, share_length};
+ghost use Rattle.file_streaming.specs.Prepared.{IsPreparedFrom, PassesDiffer, key_for};
+ghost use Rattle.file_streaming.specs.Prepared.{share_length};
 ghost use Rattle.upload_core.specs.Moves.{Begins};
 ghost use Rattle.upload_core.specs.declared.status.ServerInfo.{ServerInfo};
 ghost use Rattle.streamed_upload.specs.Ready.{ReadyStream, goal_of};
@@ -64,7 +64,8 @@ pub fn prepare_stream<S: Source + Drop>(
     ensures too_many { IsErrOf result PrepareError.TooManySegments
         → HasTooManySegments (S.size source) params.now }
     ensures changed { IsErrOf result PrepareError.SourceChanged
-        → (after : S) × HasChanged S.gives source (S.size source) after }
+        → (after : S) × PassesDiffer S.gives (S.size source) source
+        (λ file. key_for file secret.now (parameters_of params.now)) after }
     ensures fault { IsErrOf result PrepareError.SourceFault
         → (after : S) × HasFailedMore (S.failures source) (S.failures after) }
     ensures refused { (IsEncodable (S.size source) params.now → ⊥) → IfErr result (λ e.

@@ -1,5 +1,6 @@
 -- what public contracts rest on
 pub mod State
+pub mod PieceFault
 pub mod Pieces
 pub mod Acknowledged
 pub mod Transfers

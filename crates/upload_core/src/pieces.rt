@@ -4,6 +4,7 @@ ghost use Rattle.std.specs.Prelude.{◌≡◌, ◌+◌, ◌<◌, ◌≤◌, ℕ,
 ghost use Rattle.std.specs.Prelude.{IfOk, IfErr};
 ghost use Rattle.tagged_hash.specs.TaggedHash.{share_digest};
 ghost use Rattle.upload_core.specs.Pieces.{HaveOneLength, length_of, piece_of};
+ghost use Rattle.upload_core.specs.PieceFault.{fault_number};
 ghost use Rattle.upload_core.specs.declared.pieces.PieceFault.{PieceFault};
 
 use std::alloc::{AllocError, Global};
@@ -12,14 +13,27 @@ use tagged_hash::{Tag, share_digest, tagged_eight};
 use wire::message::Digest;
 
 /// Why a piece of a share could not be had.
-#[derive(Clone, Copy, PartialEq, Eq)]
+#[derive(Clone, Copy, Debug, PartialEq, Eq)]
 pub enum PieceFault {
-    /// An allocation was refused (number 1).
+    /// An allocation was refused.
     OutOfMemory,
-    /// The source has not the bytes any more that its shares were made of (number 74).
+    /// The source has not the bytes any more that its shares were made of.
     SourceChanged,
-    /// The source could not be read (number 75).
+    /// The source could not be read.
     SourceFault,
+}
+
+impl PieceFault {
+    /// The number of the fault.
+    pub fn number(self) -> u8
+        ensures { result ≡ fault_number self }
+    {
+        match self {
+            PieceFault::OutOfMemory => 1,
+            PieceFault::SourceChanged => 74,
+            PieceFault::SourceFault => 75,
+        }
+    }
 }
 
 /// A source of the pieces of an upload's shares, by relations of its own: what each call gives,

@@ -1,4 +1,5 @@
 -- what public contracts rest on
+pub mod CodeError
 pub mod Shares
 pub mod Rows
 pub mod ShareValue

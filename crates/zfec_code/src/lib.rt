@@ -10,6 +10,7 @@ ghost use Rattle.std.specs.Prelude.{IfErr, OnOk, OnErr, IsErrOf, ◌⊎◌};
 ghost use Rattle.zfec_code.specs.Shares.{IsShareOf, Parameters, AreParameters, HaveLengths};
 ghost use Rattle.zfec_code.specs.Shares.{AreSharesOf};
 ghost use Rattle.zfec_code.specs.declared.CodeError.TheVariants.{OutOfMemory};
+ghost use Rattle.zfec_code.specs.CodeError.{refusal_number};
 ghost use Rattle.zfec_code.specs.Laws.{FormulaGivesShares, PrimariesAreUnique};
 ghost use Rattle.zfec_code.specs.Laws.{ShareValuesAreUnique};
 ghost use Rattle.zfec_code.specs.Rows.{AreDistinct, primary_points};
@@ -33,17 +34,31 @@ pub const MAX_SHARES: u16 = 256;
 /// Why a call is refused.
 #[derive(Clone, Copy, Debug, PartialEq, Eq)]
 pub enum CodeError {
-    /// No memory was left (number 1).
+    /// No memory was left.
     OutOfMemory,
-    /// k is 0, or above n, or n is above 256 (number 2).
+    /// k is 0, or above n, or n is above 256.
     BadParameters,
-    /// Two shares have one number (number 3).
+    /// Two shares have one number.
     RepeatedShare,
-    /// A share's number is not below n (number 4).
+    /// A share's number is not below n.
     ShareOutOfRange,
-    /// There are not k shares, their lengths differ, or the output is not k times as long as one
-    /// (number 5).
+    /// There are not k shares, their lengths differ, or the output is not k times as long as one.
     LengthMismatch,
+}
+
+impl CodeError {
+    /// The number of the refusal.
+    pub fn number(self) -> u8
+        ensures { result ≡ refusal_number self }
+    {
+        match self {
+            CodeError::OutOfMemory => 1,
+            CodeError::BadParameters => 2,
+            CodeError::RepeatedShare => 3,
+            CodeError::ShareOutOfRange => 4,
+            CodeError::LengthMismatch => 5,
+        }
+    }
 }
 
 impl From<AllocError> for CodeError {
