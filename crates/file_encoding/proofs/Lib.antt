@@ -34,3 +34,4 @@ pub mod Binding
 pub mod RemadePassing
 pub mod RemadeOwn
 pub mod RemadeEnough
+pub mod GoodShares

@@ -15,6 +15,7 @@ use Rattle.merkle.specs.Tree.{leaves_among, tree_root}
 use Rattle.share_layout.specs.Pieces.{pieces}
 use Rattle.share_verify.specs.TreeSection.{hashes_in}
 use Rattle.share_verify.specs.Verify.{IsSound}
+use Rattle.share_verify.proofs.Faults.{same_block}
 use Rattle.share_verify.proofs.SectionLemmas.{leaves_in_tree}
 use Rattle.share_verify.specs.CapBlock.{IsUebFor, geometry_by}
 use Rattle.proved_parts.specs.FileOf.{segment_hashes}
@@ -79,7 +80,7 @@ blocks_more g shares done new positions index n b d inside there pushed named re
 -- what the shares that are taken have in common, where they agree with the extension block of one
 module _ (cap : VerifyCapValue) (numbers : List ℕ) (strings : List (List ℕ)) (taken : List TakenShare) (takes : Takes cap numbers strings taken)
     (positions : List ℕ) (at : positions ≡ offsets_of taken) (block : List ℕ) (u : Contents)
-    (one_block : (m : ℕ) → m < length positions → (other : List ℕ) → LocatesUeb (get_or strings (get_or positions m 0) []) other → block ≡ other)
+    (located : (m : ℕ) → m < length positions → LocatesUeb (get_or strings (get_or positions m 0) []) block)
     (one_ueb : (v : Contents) → IsUebFor cap block v → u ≡ v) where
   -- any share
   any : TakenShare
@@ -94,7 +95,7 @@ module _ (cap : VerifyCapValue) (numbers : List ℕ) (strings : List (List ℕ))
   block_at_position : (k : ℕ) (d : TakenShare) → k < length taken → block ≡ (get_or taken k d).sections.extension_block
   block_at_position k d inside =
       let t : TakenShare = get_or taken k d in
-      one_block k (omega (arith, inside, count)) t.sections.extension_block
+      same_block (get_or strings (get_or positions k 0) []) block t.sections.extension_block (located k (omega (arith, inside, count)))
       (subst (λ p. LocatesUeb (get_or strings p []) t.sections.extension_block) (sym (position_at k d inside)) (takes.lowest.each k d inside).sound.reads.located)
 
   contents_at : (k : ℕ) (d : TakenShare) → k < length taken → u ≡ (get_or taken k d).contents

@@ -1,4 +1,5 @@
 -- what public contracts rest on
+pub mod Refusals
 pub mod Encoding
 pub mod Inputs
 pub mod Params
@@ -12,6 +13,7 @@ pub mod Decoded
 pub mod RegenerateError
 pub mod Binding
 pub mod RemadeLaws
+pub mod GoodShares
 -- words of private clauses
 pub mod Drafts
 pub mod Blocks

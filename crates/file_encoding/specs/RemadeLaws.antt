@@ -82,7 +82,7 @@ pub record AllPass (cap : VerifyCapValue) (numbers : List ℕ) (strings : List (
     pub sound : (i : ℕ) → i < length numbers
         → IsSoundShare cap (slice_index numbers i) (slice_index_or strings i [])
 
--- a law: shares are lacking where fewer than needed are given
+-- a law: where all strings pass and are as many as are needed, shares are not lacking
 abbrev pub FewLack : Type 0
 FewLack = (cap : VerifyCapValue) (numbers : List ℕ) (strings : List (List ℕ))
     → AllPass cap numbers strings → cap.needed ≤ length numbers → ¬ LacksShares cap numbers strings

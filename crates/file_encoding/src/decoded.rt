@@ -2,7 +2,7 @@
 
 ghost use Rattle.std.specs.Prelude.{◌≡◌, ◌<◌, ◌⊎◌, ℕ, List, [], All, length, map, slice_index};
 ghost use Rattle.std.specs.Prelude.{◌≤◌, slice_index_or, false, IfOk, IfErr, IsErrAnd};
-ghost use Rattle.std.specs.Prelude.{IsErrOf, IsTrue};
+ghost use Rattle.std.specs.Prelude.{◌↔◌, IsErrOf, IsTrue};
 ghost use Rattle.cap_text.specs.Cap.{VerifyCapValue};
 ghost use Rattle.ueb.specs.Limits.{max_length};
 ghost use Rattle.share_layout.specs.Geometry.{segment_count};
@@ -10,6 +10,8 @@ ghost use Rattle.share_layout.specs.Offsets.{LocatesUeb};
 ghost use Rattle.share_layout.specs.Share.{IsShare, Sections};
 ghost use Rattle.file_encoding.specs.Decoded.{IsDecodedFrom, decoded_state};
 ghost use Rattle.file_encoding.specs.Decoding.{AreBlocks};
+ghost use Rattle.file_encoding.specs.Encoding.{Parameters};
+ghost use Rattle.file_encoding.specs.GoodShares.{AreEnoughGoodShares};
 ghost use Rattle.file_encoding.specs.LowestShares.{HaveBlocks, TakesAt};
 ghost use Rattle.file_encoding.specs.Reading.{AreInconsistent, GivesCiphertext, HasWrongSegment};
 ghost use Rattle.file_encoding.specs.Reading.{LacksShares};
@@ -72,6 +74,10 @@ pub fn decode_shares(
 ) -> Result<DecodedFile, ReadError>
     ensures decoded { IfOk result (λ file. IsDecodedFrom cap.now (map (λ s. s.0) shares.now)
         (map (λ s. s.1.now) shares.now) file) }
+    // Enough good shares of an encoding are always decoded, but where no memory is left.
+    ensures good { (file secret : List ℕ) (p : Parameters) → AreEnoughGoodShares file secret p
+        cap.now (map (λ s. s.0) shares.now) (map (λ s. s.1.now) shares.now)
+        → IfErr result (λ e. e ≡ ReadError.OutOfMemory) }
     ensures not_enough { IsErrOf result ReadError.NotEnoughShares
         → LacksShares cap.now (map (λ s. s.0) shares.now) (map (λ s. s.1.now) shares.now) }
     // Of too few shares nothing else comes, but where no memory is left.
@@ -162,9 +168,9 @@ fn decode_blocks(
 // Whether the shares at these positions have this extension block.
 fn agree(shares: &[(u16, &[u8])], positions: &[usize], extension_block: &[u8]) -> bool
     requires { All (λ p. p < length shares.now) positions.now }
-    ensures yes { IsTrue result → (m : ℕ) → m < length positions.now → (block : List ℕ)
+    ensures yes { IsTrue result → (m : ℕ) → m < length positions.now
         → LocatesUeb (slice_index_or (map (λ s. s.1.now) shares.now)
-        (slice_index positions.now m) []) block → extension_block.now ≡ block }
+        (slice_index positions.now m) []) extension_block.now }
     ensures no { result ≡ false → (m : ℕ) × (m < length positions.now)
         × ¬ LocatesUeb (slice_index_or (map (λ s. s.1.now) shares.now)
         (slice_index positions.now m) []) extension_block.now }
@@ -180,9 +186,7 @@ fn agree(shares: &[(u16, &[u8])], positions: &[usize], extension_block: &[u8]) -
 
 // Whether a share has this extension block, by its own header.
 fn has_block(share: &[u8], extension_block: &[u8]) -> bool
-    ensures yes { IsTrue result → (block : List ℕ) → LocatesUeb share.now block
-        → extension_block.now ≡ block }
-    ensures no { result ≡ false → ¬ LocatesUeb share.now extension_block.now }
+    ensures { IsTrue result ↔ LocatesUeb share.now extension_block.now }
 {
     match locate_ueb(share) {
         Ok(other) => other == extension_block,

@@ -1,20 +1,35 @@
 //! Why a file is not encoded.
 
 ghost use Rattle.std.specs.Prelude.{◌≡◌};
+ghost use Rattle.file_encoding.specs.Refusals.{encode_refusal_number};
 
 use std::alloc::{AllocError, AllocFailed};
 
 /// Why a file is not encoded.
 #[derive(Clone, Copy, Debug, PartialEq, Eq)]
 pub enum EncodeError {
-    /// No memory was left (number 1).
+    /// No memory was left.
     OutOfMemory,
-    /// A parameter is outside its range (number 2).
+    /// A parameter is outside its range.
     BadParameters,
-    /// The file has more than `ueb::MAX_FILE_SIZE` bytes (number 30).
+    /// The file has more than `ueb::MAX_FILE_SIZE` bytes.
     TooLarge,
-    /// The file has more than `ueb::MAX_SEGMENTS` segments of this size (number 31).
+    /// The file has more than `ueb::MAX_SEGMENTS` segments of this size.
     TooManySegments,
+}
+
+impl EncodeError {
+    /// The number of the refusal.
+    pub fn number(self) -> u8
+        ensures { result ≡ encode_refusal_number self }
+    {
+        match self {
+            EncodeError::OutOfMemory => 1,
+            EncodeError::BadParameters => 2,
+            EncodeError::TooLarge => 30,
+            EncodeError::TooManySegments => 31,
+        }
+    }
 }
 
 impl From<AllocError> for EncodeError {

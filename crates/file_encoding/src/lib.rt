@@ -28,5 +28,5 @@ pub use laws::{
 pub use params::{MAX_CHOSEN_SEGMENT_SIZE, MAX_SECRET_SIZE, Params};
 pub use reading::{ReadError, read_ciphertext, read_from};
 pub use repair::{RegenerateError, regenerate, regenerate_all};
-pub use share::Share;
+pub use share::{Share, slices_of};
 pub use share_verify::{ShareFault, verify_share};

@@ -4,6 +4,7 @@ ghost use Rattle.std.specs.Prelude.{◌≡◌, ◌⊎◌, map, IfOk, IsErrAnd, I
 ghost use Rattle.cap_text.specs.Cap.{verify_cap_of};
 ghost use Rattle.file_encoding.specs.Reading.{AreInconsistent, GivesCiphertext, IsReadFrom};
 ghost use Rattle.file_encoding.specs.Reading.{LacksShares};
+ghost use Rattle.file_encoding.specs.Refusals.{read_refusal_number};
 
 use crate::decoded::decode_shares;
 use crate::encoding::crypt;
@@ -13,13 +14,26 @@ use std::alloc::{AllocError, AllocFailed, Global};
 /// Why shares do not give their file.
 #[derive(Clone, Copy, Debug, PartialEq, Eq)]
 pub enum ReadError {
-    /// No memory was left (number 1).
+    /// No memory was left.
     OutOfMemory,
-    /// Fewer shares pass every check than are needed (number 71).
+    /// Fewer shares pass every check than are needed.
     NotEnoughShares,
     /// The shares pass, but two of their extension blocks differ, or a segment that they decode to
-    /// is not the one of its leaf (number 72).
+    /// is not the one of its leaf.
     Inconsistent,
+}
+
+impl ReadError {
+    /// The number of the refusal.
+    pub fn number(self) -> u8
+        ensures { result ≡ read_refusal_number self }
+    {
+        match self {
+            ReadError::OutOfMemory => 1,
+            ReadError::NotEnoughShares => 71,
+            ReadError::Inconsistent => 72,
+        }
+    }
 }
 
 impl From<AllocError> for ReadError {

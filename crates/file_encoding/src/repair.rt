@@ -1,13 +1,18 @@
 // All shares of a file, made anew of others without the key.
 
 ghost use Rattle.std.specs.Prelude.{◌≡◌, ◌≤◌, ◌<◌, ◌⊎◌, ◌↔◌, ℕ, List, map, IfOk, IfErr, IsErrAnd};
-ghost use Rattle.std.specs.Prelude.{IsErrOf, IsTrue};
+ghost use Rattle.std.specs.Prelude.{[], IsErrOf, IsTrue, MatchResult, slice_index_or};
 ghost use Rattle.cap_text.specs.Cap.{VerifyCapValue};
 ghost use Rattle.merkle.specs.Tree.{tree_root};
+ghost use Rattle.share_verify.specs.Verify.{IsSoundShare};
 ghost use Rattle.file_encoding.specs.Decoded.{AreMade, IsDecodedFrom};
+ghost use Rattle.file_encoding.specs.Encoding.{Parameters, encoding_of};
+ghost use Rattle.file_encoding.specs.GoodShares.{AreEnoughGoodShares};
 ghost use Rattle.file_encoding.specs.Reading.{LacksShares};
+ghost use Rattle.file_encoding.specs.Refusals.{regenerate_refusal_number};
 ghost use Rattle.file_encoding.specs.Regenerated.{AreRegenerated, CannotRegenerate};
 ghost use Rattle.file_encoding.specs.Regenerated.{IsRegenerated};
+ghost use Rattle.file_encoding.specs.RemadeLaws.{ArePassing};
 
 use crate::decoded::{DecodedFile, decode_shares};
 use crate::encoding::begin_file;
@@ -21,15 +26,28 @@ use std::alloc::Global;
 /// Why a share is not made anew.
 #[derive(Clone, Copy, Debug, PartialEq, Eq)]
 pub enum RegenerateError {
-    /// No memory was left (number 1).
+    /// No memory was left.
     OutOfMemory,
-    /// The file has no share of this number (number 2).
+    /// The file has no share of this number.
     BadNumber,
-    /// Fewer shares pass every check than are needed (number 71).
+    /// Fewer shares pass every check than are needed.
     NotEnoughShares,
-    /// The shares pass, but they contradict one another, or are no code word of the file (number
-    /// 72).
+    /// The shares pass, but they contradict one another, or are no code word of the file.
     Inconsistent,
+}
+
+impl RegenerateError {
+    /// The number of the refusal.
+    pub fn number(self) -> u8
+        ensures { result ≡ regenerate_refusal_number self }
+    {
+        match self {
+            RegenerateError::OutOfMemory => 1,
+            RegenerateError::BadNumber => 2,
+            RegenerateError::NotEnoughShares => 71,
+            RegenerateError::Inconsistent => 72,
+        }
+    }
 }
 
 impl From<ReadError> for RegenerateError {
@@ -56,6 +74,14 @@ pub fn regenerate(
 ) -> Result<Vec<u8>, RegenerateError>
     ensures share { IfOk result (λ share. IsRegenerated cap.now (map (λ s. s.0) shares.now)
         (map (λ s. s.1.now) shares.now) num share.items) }
+    // Of enough good shares of an encoding it is the encoding's own, and always comes, but where no
+    // memory is left.
+    ensures own { (file secret : List ℕ) (p : Parameters) → AreEnoughGoodShares file secret p
+        cap.now (map (λ s. s.0) shares.now) (map (λ s. s.1.now) shares.now)
+        → num < cap.now.total → MatchResult result
+        (λ share. share.items ≡ slice_index_or (encoding_of file secret p).shares num [])
+        (λ e. e ≡ RegenerateError.OutOfMemory) }
+    ensures passes { IfOk result (λ share. IsSoundShare cap.now num share.items) }
     ensures bad_number { IsErrOf result RegenerateError.BadNumber ↔ (cap.now.total ≤ num) }
     // Of too few shares nothing else comes, but where no memory is left.
     ensures lacking { num < cap.now.total → LacksShares cap.now (map (λ s. s.0) shares.now)
@@ -88,6 +114,13 @@ pub fn regenerate_all(
 ) -> Result<Vec<Share>, ReadError>
     ensures made { IfOk result (λ made. AreRegenerated cap.now (map (λ s. s.0) shares.now)
         (map (λ s. s.1.now) shares.now) made.items) }
+    // Of enough good shares of an encoding they are the encoding's own, and always come, but where
+    // no memory is left.
+    ensures own { (file secret : List ℕ) (p : Parameters) → AreEnoughGoodShares file secret p
+        cap.now (map (λ s. s.0) shares.now) (map (λ s. s.1.now) shares.now) → MatchResult result
+        (λ made. made.items ≡ (encoding_of file secret p).shares)
+        (λ e. e ≡ ReadError.OutOfMemory) }
+    ensures pass { IfOk result (λ made. ArePassing cap.now made.items) }
     ensures not_enough { IsErrOf result ReadError.NotEnoughShares
         → LacksShares cap.now (map (λ s. s.0) shares.now) (map (λ s. s.1.now) shares.now) }
     // Of too few shares nothing else comes, but where no memory is left.
@@ -112,6 +145,16 @@ impl DecodedFile {
         ensures regenerated { (cap : VerifyCapValue) (numbers : List ℕ)
             (strings : List (List ℕ)) → IsDecodedFrom cap numbers strings self.now
             → IfOk result (λ shares. AreRegenerated cap numbers strings shares.items) }
+        // Of enough good shares of an encoding they are the encoding's own, and always come, but
+        // where no memory is left.
+        ensures own { (cap : VerifyCapValue) (numbers : List ℕ) (strings : List (List ℕ))
+            → IsDecodedFrom cap numbers strings self.now → (file secret : List ℕ)
+            (p : Parameters) → AreEnoughGoodShares file secret p cap numbers strings
+            → MatchResult result (λ shares. shares.items ≡ (encoding_of file secret p).shares)
+            (λ e. e ≡ ReadError.OutOfMemory) }
+        ensures pass { (cap : VerifyCapValue) (numbers : List ℕ) (strings : List (List ℕ))
+            → IsDecodedFrom cap numbers strings self.now
+            → IfOk result (λ shares. ArePassing cap shares.items) }
         ensures inconsistent { (cap : VerifyCapValue) (numbers : List ℕ)
             (strings : List (List ℕ)) → IsDecodedFrom cap numbers strings self.now
             → IsErrOf result ReadError.Inconsistent → CannotRegenerate cap numbers strings }

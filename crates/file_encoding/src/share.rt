@@ -1,7 +1,8 @@
 //! A share of a file, as its bytes.
 
-ghost use Rattle.std.specs.Prelude.{◌≡◌, ℕ, List};
+ghost use Rattle.std.specs.Prelude.{◌≡◌, ℕ, List, map, IfOk};
 
+use std::alloc::{AllocError, Global};
 use std::marker::Model;
 
 /// A share's bytes.
@@ -37,4 +38,19 @@ impl Share {
     {
         self.bytes
     }
+}
+
+/// Strings that come with the numbers of the shares that they are said to be, as slices. None is
+/// copied.
+pub fn slices_of(alloc: Global, shares: &[(u16, Vec<u8>)]) -> Result<Vec<(u16, &[u8])>, AllocError>
+    ensures numbers { IfOk result
+        (λ slices. map (λ s. s.0) slices.items ≡ map (λ s. s.0) shares.now) }
+    ensures bytes { IfOk result
+        (λ slices. map (λ s. s.1.now) slices.items ≡ map (λ s. s.1.items) shares.now) }
+{
+    let mut slices = Vec::with_capacity(alloc, shares.len())?;
+    for share in shares {
+        slices.push((share.0, share.1.as_slice()))?;
+    }
+    Ok(slices)
 }

@@ -1,7 +1,8 @@
-use Rattle.std.proofs.Common.{◌≡◌, length, map, ap, ◌∙◌, arith}
+use Rattle.std.proofs.Common.{◌≡◌, length, map, refl, ap, ◌∙◌, arith}
 use Rattle.std.proofs.lemmas.List.{length-map}
 use Rattle.file_encoding.specs.LowestShares.{TakesAt}
 use Rattle.file_encoding.specs.Reading.{TakenShare}
+use Rattle.file_encoding.proofs.GoodShares.{not_inconsistent, not_lacking, only_memory}
 use Rattle.file_encoding.proofs.LowestShares.{enough_positions}
 use Rattle.file_encoding.proofs.Reread.{inside_shares}
 use Rattle.file_encoding.proofs.decoded.decode_shares.Goals as goal
@@ -46,3 +47,13 @@ pub returns-clause-lacking : goal.returns-clause-lacking
 returns-clause-lacking c = λ lacks.
     absurd (enough_positions c.args.cap.now (map (λ s. s.0) c.args.shares.now) (map (λ s. s.1.now) c.args.shares.now) c.in_ok-positions.positions.items c.in_ok-positions.ensures
     (omega (arith, c.if-len-from.false, c.from.ensures, c.needed.ensures.value, c.len.ensures, c.in_ok-positions.positions.ok)) lacks)
+
+pub returns-then-len-from-clause-good : goal.returns-then-len-from-clause-good
+returns-then-len-from-clause-good c = λ file secret p good.
+    absurd (not_lacking file secret p c.args.cap.now (map (λ s. s.0) c.args.shares.now) (map (λ s. s.1.now) c.args.shares.now) good
+    (returns-then-len-from-clause-not_enough c refl))
+
+pub returns-clause-good : goal.returns-clause-good
+returns-clause-good c = λ file secret p good.
+    only_memory c.decode_taken.result c.decode_taken.ensures.no_other
+    (λ wrong. not_inconsistent file secret p c.args.cap.now (map (λ s. s.0) c.args.shares.now) (map (λ s. s.1.now) c.args.shares.now) good (c.decode_taken.ensures.inconsistent wrong))

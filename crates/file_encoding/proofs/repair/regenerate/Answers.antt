@@ -1,9 +1,11 @@
-use Rattle.std.proofs.Common.{◌≡◌, ℕ, ◌<◌, Err, length, map, get_or, Result, Ok, IsErrAnd, IsErrOf, rules, refl, sym, ap, ◌∙◌, arith}
+use Rattle.std.proofs.Common.{[], ◌≡◌, ℕ, ◌<◌, Err, length, map, get_or, Result, Ok, List, MatchResult, IsErrAnd, IsErrOf, rules, refl, sym, ap, subst, ◌∙◌, arith}
 use Rattle.file_encoding.specs.declared.reading.ReadError.{ReadError}
 use Rattle.file_encoding.specs.declared.reading.ReadError.TheVariants as all
 use Rattle.file_encoding.specs.declared.repair.RegenerateError.{RegenerateError}
 use Rattle.file_encoding.specs.declared.repair.RegenerateError.TheVariants.{Inconsistent}
 use Rattle.file_encoding.specs.RegenerateError.{refusal_of_all}
+use Rattle.file_encoding.specs.declared.repair.RegenerateError.TheVariants.{OutOfMemory}
+use Rattle.share_verify.specs.Verify.{IsSoundShare}
 use Rattle.std.proofs.lemmas.List.{get_or_default}
 use Rattle.file_encoding.proofs.Making.{length-regenerated}
 use Rattle.file_encoding.proofs.repair.regenerate.Goals as goal
@@ -42,3 +44,23 @@ pub returns-in_err-made-clause-inconsistent : goal.returns-in_err-made-clause-in
 returns-in_err-made-clause-inconsistent c = λ is.
     let e : refusal_of_all c.in_err-made.field-0.0 ≡ Inconsistent = told c.from_residual.result c.in_err-made.field-0.0 Inconsistent c.from_residual.ensures.1 is in
     c.in_err-made.ensures.inconsistent (ap Err (only_inconsistent c.in_err-made.field-0.0 e))
+
+pub returns-clause-own : goal.returns-clause-own
+unfolding returns-clause-share
+returns-clause-own c = λ file secret p good below.
+    (returns-clause-share c).is ∙ ap (λ (shares : List (List ℕ)). get_or shares c.args.num []) (c.in_ok-made.ensures.own file secret p good)
+
+pub returns-clause-passes : goal.returns-clause-passes
+unfolding returns-clause-share
+returns-clause-passes c =
+    subst (λ (share : List ℕ). IsSoundShare c.args.cap.now c.args.num share) (sym (returns-clause-share c).is)
+    (c.in_ok-made.ensures.pass.sound c.args.num (omega (arith, c.if-num-total.false, c.total.ensures.value)))
+
+told_memory : {T : Type 0} (P : T → Type 0) (r : Result T RegenerateError) (e : ReadError) → IsErrAnd r (λ refusal. refusal ≡ refusal_of_all e) → e ≡ all.OutOfMemory
+    → MatchResult r P (λ refusal. refusal ≡ OutOfMemory)
+told_memory P (Ok value) e gives is = absurd (search rules)
+told_memory P (Err refusal) e gives is = gives ∙ ap refusal_of_all is
+
+pub returns-in_err-made-clause-own : goal.returns-in_err-made-clause-own
+returns-in_err-made-clause-own c = λ file secret p good below.
+    told_memory _ c.from_residual.result c.in_err-made.field-0.0 c.from_residual.ensures.1 (c.in_err-made.ensures.own file secret p good)

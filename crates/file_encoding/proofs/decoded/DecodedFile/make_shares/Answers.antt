@@ -1,4 +1,4 @@
-use Rattle.std.proofs.Common.{◌≡◌, ℕ, List, length, map, ap, sym, subst, ◌∙◌, arith}
+use Rattle.std.proofs.Common.{◌≡◌, ℕ, List, length, map, refl, ap, sym, subst, ◌∙◌, arith}
 use Rattle.merkle.specs.Tree.{tree_nodes, tree_root}
 use Rattle.share_layout.specs.Geometry.{Geometry}
 use Rattle.proved_parts.specs.FileOf.{segment_hashes}
@@ -8,7 +8,9 @@ use Rattle.file_encoding.specs.Decoded.{AreMade, DecodedState, IsWholeText}
 use Rattle.file_encoding.specs.Padded.{padded_leaves, plain_segments}
 use Rattle.file_encoding.specs.declared.draft.Begun.{Begun}
 use Rattle.file_encoding.proofs.DecodedFiles.{leaf_count, other_regenerated, regenerated}
+use Rattle.file_encoding.proofs.GoodShares.{can_regenerate, only_own}
 use Rattle.file_encoding.proofs.Making.{count, length-tree, shares_are, some_segments, total_is, tree_is}
+use Rattle.file_encoding.proofs.RemadePassing.{regenerated_pass}
 use Rattle.file_encoding.proofs.decoded.DecodedFile.make_shares.Goals as goal
 
 pub build-requires-clause-some : goal.build-requires-clause-some
@@ -75,3 +77,14 @@ returns-clause-made c =
 pub returns-clause-regenerated : goal.returns-clause-regenerated
 returns-clause-regenerated c = λ cap numbers strings from.
     regenerated cap numbers strings c.args.self.now (subst IsWholeText c.self.view_is c.self.invariant) from _ (returns-clause-made c)
+
+pub returns-clause-own : goal.returns-clause-own
+returns-clause-own c = λ cap numbers strings from file secret p good.
+    only_own file secret p cap numbers strings good _ (returns-clause-regenerated c cap numbers strings from)
+
+pub returns-clause-pass : goal.returns-clause-pass
+returns-clause-pass c = λ cap numbers strings from. regenerated_pass cap numbers strings _ (returns-clause-regenerated c cap numbers strings from)
+
+pub returns-then-not-is_root-clause-own : goal.returns-then-not-is_root-clause-own
+returns-then-not-is_root-clause-own c = λ cap numbers strings from file secret p good.
+    absurd (can_regenerate file secret p cap numbers strings good (returns-then-not-is_root-clause-inconsistent c cap numbers strings from refl))
