@@ -1,5 +1,5 @@
 -- A file that was made ready for its upload, of which only hashes are kept.
-use Rattle.std.specs.Prelude.{◌≡◌, ℕ, ◌+◌, List, length, map}
+use Rattle.std.specs.Prelude.{◌≡◌, ◌≢◌, ◌⊎◌, ℕ, ◌+◌, List, length, map}
 use Rattle.std.specs.List.{range_with_len}
 use Rattle.aes_ctr.specs.CounterMode.{xored}
 use Rattle.tagged_hash.specs.ConvergentKey.{convergent_key_of}
@@ -13,6 +13,7 @@ use Rattle.share_verify.specs.Pieces.{block_hashes}
 use Rattle.proved_parts.specs.FileOf.{segment_hashes}
 use Rattle.file_encoding.specs.Encoding.{Parameters, blocks_of, ciphertext_encoding}
 use Rattle.file_encoding.specs.Encoding.{extension_block_contents}
+use Rattle.sources.specs.Change.{HasEndedEarly}
 use Rattle.sources.specs.Source.{IsReadTwice}
 
 -- the geometry, the cap, the extension block, the leaves of the ciphertext tree and of each share's
@@ -79,3 +80,17 @@ pub record IsPreparedFrom {S : Type 0} (gives : S → ℕ → List ℕ → S →
   pub reading : IsReadTwice gives size old first file new
   pub one_key : key_for first secret p ≡ key_for file secret p
   pub is : prepared ≡ prepared_of file secret p
+
+-- a source of so many bytes was read twice, and the two passes had two keys
+pub record HadTwoKeys {S : Type 0} (gives : S → ℕ → List ℕ → S → Type 0) (size : ℕ) (old : S)
+    (key : List ℕ → List ℕ) (new : S) : Type 0 where
+  pub first : List ℕ
+  pub second : List ℕ
+  pub reading : IsReadTwice gives size old first second new
+  pub two_keys : key first ≢ key second
+
+-- two passes over a source differ: it ended early, or they had two keys
+abbrev pub PassesDiffer : {S : Type 0} → (S → ℕ → List ℕ → S → Type 0) → ℕ → S
+    → (List ℕ → List ℕ) → S → Type 0
+PassesDiffer gives size old key new =
+    HasEndedEarly gives old size new ⊎ HadTwoKeys gives size old key new

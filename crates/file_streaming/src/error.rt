@@ -1,7 +1,7 @@
 //! Why a file is not made ready.
 
 ghost use Rattle.std.specs.Prelude.{◌≡◌};
-ghost use Rattle.file_streaming.specs.PrepareError.{error_of};
+ghost use Rattle.file_streaming.specs.PrepareError.{error_of, refusal_number};
 
 use sources::PartFault;
 use std::alloc::{AllocError, AllocFailed};
@@ -9,16 +9,31 @@ use std::alloc::{AllocError, AllocFailed};
 /// Why a file is not made ready for its upload.
 #[derive(Clone, Copy, Debug, PartialEq, Eq)]
 pub enum PrepareError {
-    /// No memory was left (number 1).
+    /// No memory was left.
     OutOfMemory,
-    /// The file has more than `ueb::MAX_FILE_SIZE` bytes (number 30).
+    /// The file has more than `ueb::MAX_FILE_SIZE` bytes.
     TooLarge,
-    /// The file has more than `ueb::MAX_SEGMENTS` segments of this size (number 31).
+    /// The file has more than `ueb::MAX_SEGMENTS` segments of this size.
     TooManySegments,
-    /// The source brought different bytes for one offset, or ended early (number 74).
+    /// Two passes over the source had two keys, or it ended early.
     SourceChanged,
-    /// A read of the source failed (number 75).
+    /// A read of the source failed.
     SourceFault,
+}
+
+impl PrepareError {
+    /// The number of the refusal.
+    pub fn number(self) -> u8
+        ensures { result ≡ refusal_number self }
+    {
+        match self {
+            PrepareError::OutOfMemory => 1,
+            PrepareError::TooLarge => 30,
+            PrepareError::TooManySegments => 31,
+            PrepareError::SourceChanged => 74,
+            PrepareError::SourceFault => 75,
+        }
+    }
 }
 
 impl From<AllocError> for PrepareError {

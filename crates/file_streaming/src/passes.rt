@@ -3,10 +3,10 @@
 ghost use Rattle.std.specs.Prelude.{◌≡◌, ◌⊎◌, [], IfErr, IfOk, IsErrOf};
 ghost use Rattle.tagged_hash.specs.ConvergentKey.{IsSecret};
 ghost use Rattle.tagged_hash.specs.TaggedHasher.{HoldsFile};
-ghost use Rattle.sources.specs.Change.{HasChanged};
 ghost use Rattle.sources.specs.Source.{HasFailedMore};
 ghost use Rattle.file_streaming.specs.Gathering.{AreBuffers};
-ghost use Rattle.file_streaming.specs.Passes.{AreTwoPasses, IsOtherPass, IsSecondPass};
+ghost use Rattle.file_streaming.specs.Passes.{AreTwoPasses, IsOtherPass, IsSecondPass, key_by};
+ghost use Rattle.file_streaming.specs.Prepared.{PassesDiffer};
 
 use crate::error::PrepareError;
 use crate::first_pass::read_key;
@@ -110,7 +110,8 @@ pub(crate) fn read_twice<S: Source>(
     ensures passes { IfOk result
         (λ p. AreTwoPasses S.gives source.old geometry.now secret.now p source.new) }
     ensures changed { IsErrOf result PrepareError.SourceChanged
-        → HasChanged S.gives source.old geometry.now.size source.new }
+        → PassesDiffer S.gives geometry.now.size source.old (key_by geometry.now secret.now)
+        source.new }
     ensures fault { IsErrOf result PrepareError.SourceFault
         → HasFailedMore (S.failures source.old) (S.failures source.new) }
     ensures size { S.size source.new ≡ S.size source.old }

@@ -7,11 +7,11 @@ ghost use Rattle.tagged_hash.specs.ConvergentKey.{IsSecret};
 ghost use Rattle.ueb.specs.Limits.{max_file_size, min_file_size};
 ghost use Rattle.ueb.specs.Shape.{IsFile, IsSegmentSize};
 ghost use Rattle.file_encoding.specs.Params.{HasTooManySegments, IsEncodable, parameters_of};
-ghost use Rattle.sources.specs.Change.{HasChanged};
 ghost use Rattle.sources.specs.Source.{HasFailedMore};
 ghost use Rattle.block_making.specs.Making.{AreSlots};
 ghost use Rattle.file_streaming.specs.Passes.{IsPassOf};
-ghost use Rattle.file_streaming.specs.Prepared.{IsPreparedFrom, prepared_by, share_length};
+ghost use Rattle.file_streaming.specs.Prepared.{IsPreparedFrom, PassesDiffer, key_for};
+ghost use Rattle.file_streaming.specs.Prepared.{prepared_by, share_length};
 
 use crate::error::PrepareError;
 use crate::finishing::{Finished, finish};
@@ -136,8 +136,8 @@ fn file_slots(alloc: Global, geometry: &Geometry) -> Result<BlockSlots, AllocErr
 ///
 /// The secret has at most 64 bytes, and the source at least `ueb::MIN_FILE_SIZE`. Refuses
 /// `TooLarge` and `TooManySegments`, in this order, before the first read; then `SourceChanged`
-/// where two reads of one offset differed or the source ended early, `SourceFault` where a read
-/// failed, and `OutOfMemory`.
+/// where the two passes had two keys or the source ended early, `SourceFault` where a read failed,
+/// and `OutOfMemory`.
 pub fn prepare<S: Source>(
     alloc: Global,
     source: &mut S,
@@ -156,7 +156,8 @@ pub fn prepare<S: Source>(
     ensures too_many { IsErrOf result PrepareError.TooManySegments
         → HasTooManySegments (S.size source.old) params.now }
     ensures changed { IsErrOf result PrepareError.SourceChanged
-        → HasChanged S.gives source.old (S.size source.old) source.new }
+        → PassesDiffer S.gives (S.size source.old) source.old
+        (λ file. key_for file secret.now (parameters_of params.now)) source.new }
     ensures fault { IsErrOf result PrepareError.SourceFault
         → HasFailedMore (S.failures source.old) (S.failures source.new) }
     // A file that has no encoding is refused for its size alone, and nothing of it is read.

@@ -14,8 +14,11 @@ use share_layout::Geometry;
 use std::alloc::{AllocError, Global};
 use tagged_hash::{Tag, TaggedHasher, TaggedHashers};
 
-/// The hashers of at most eight shares, whose numbers follow one another: eight side by side, and
-/// fewer one by one.
+// Eight shares side by side take less time than so many one after the other.
+const WORTH_LANES: usize = 5;
+
+/// The hashers of at most eight shares, whose numbers follow one another: side by side, and where
+/// they are few one by one.
 #[derive(Drop)]
 pub(crate) enum WholeHashers {
     Eight(TaggedHashers),
@@ -27,7 +30,7 @@ impl WholeHashers {
     fn new(alloc: Global, count: usize) -> Result<WholeHashers, AllocError>
         ensures { IfOk result (λ x. (j : ℕ) → j < 8 → j < count → IsGivenAt x j []) }
     {
-        if count < 8 {
+        if count < WORTH_LANES {
             Ok(WholeHashers::Each(begin_each(alloc, count)?))
         } else {
             Ok(WholeHashers::Eight(TaggedHashers::new(Tag::WholeShare)))
