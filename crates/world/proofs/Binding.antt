@@ -162,7 +162,7 @@ module _ (w : WorldState) (c : IsConsistent w) (no_clash : HasNoClashInTests w) 
         let none = no_clash_of (IsHashedOrTested w) (these ++ those) no_clash (λ input among. elim (Contains-append_cases these those input among) [
           | inl here ↦
               tested_among w of.number of.operation _ input of.at of.task
-              record { server = server; share = share; good = good; contents = u; sections = sections; sound = good.sound.2; hashed = here }
+              record { server = server; share = share; reads = settled_of check.requests.entries server share; settled = λ read at. at; good = good; contents = u; sections = sections; sound = good.sound.2; hashed = here }
           | inr there ↦ own_among input there
         ]) in
         file_shares_are_bound (these ++ those) none file secret (parameters_of p) shape (Contains-append_right these those) share good.bytes u sections

@@ -1,5 +1,5 @@
 -- What was answered stays, whatever comes.
-use Rattle.std.proofs.Common.{◌≡◌, ℕ, List, [], ◌∷◌, ◌++◌, length, Some, Contains, refl, sym, subst, ap, ◌∙◌, inl, inr, ◌⊎◌}
+use Rattle.std.proofs.Common.{◌≡◌, ℕ, List, [], ◌∷◌, ◌++◌, length, Some, Contains, refl, sym, subst, ap, ◌∙◌, inl, inr}
 use Rattle.std.specs.Prelude.{slice_get, slice_set}
 use Rattle.std.proofs.lemmas.List.{append_assoc}
 use Rattle.std.proofs.lemmas.List.Elements.{Contains-append_left}
@@ -9,21 +9,28 @@ use Rattle.share_store.specs.Memory.{MemoryState}
 use Rattle.server_core.specs.ServerState.{ServerState}
 use Rattle.server_core.specs.Sound.{ClosedStay}
 use Rattle.upload_core.specs.declared.status.UploadStatus.TheVariants.{Happy}
+use Rattle.tagged_hash.specs.Clash.{HasNoClashIn}
 use Rattle.download_segments.specs.declared.piece.Piece.{Piece}
+use Rattle.download_shares.specs.declared.holding.Blame.{Blame}
+use Rattle.download_core.specs.declared.status.DownloadStatus.{DownloadStatus}
 use Rattle.world_operations.specs.declared.message.Sent.{Sent}
 use Rattle.world_operations.specs.declared.operation.Operation.{Operation}
 use Rattle.world_operations.specs.declared.task.Task.{Task}
 use Rattle.world_operations.specs.declared.task.Task.TheVariants.{Uploading, Downloading, Checking, Gone}
 use Rattle.request_record.specs.Follow.{Said, StillAsks}
 use Rattle.world_operations.specs.Follow.{Moves}
-use Rattle.world_operations.specs.Given.{IsHashedBy}
+use Rattle.world_operations.specs.Given.{IsHashedBy, IsTestedBy}
 use Rattle.world_operations.specs.declared.job.Job.{Job}
 use Rattle.world_operations.specs.Jobs.{HasOneKey, Uploads}
-use Rattle.world_operations.specs.Tasks.{HasShares, IsHappyTask, requests_of}
+use Rattle.world_operations.specs.Tasks.{HasBlamed, HasEnded, HasShares, IsHappyTask, requests_of}
+use Rattle.world_operations.specs.declared.upload_pieces.UploadPieces.TheVariants.{Whole}
 use Rattle.world_operations.proofs.Positions.{append_none, get_push_old, get_set_back, member_at, position_of_member, same_some}
 use Rattle.world.specs.State.{WorldState}
 use Rattle.world.specs.Step.{with_life}
-use Rattle.world.specs.Headline.{IsGone, IsHashed, IsLater, StaysAt, closed, downloaded, started}
+use Rattle.world.specs.Headline.{IsHashed, closed, downloaded, started}
+use Rattle.world.specs.Later.{IsGone, IsLater, NothingClashedBefore, StaysAt}
+use Rattle.world.specs.Repairs.{IsHashedInAll, repaired, told}
+use Rattle.world.specs.Started.{IsHashedOrTested, hashed, tested}
 use Rattle.world.proofs.Lives.{HaveOtherLives}
 use Rattle.world.proofs.Happy.{Up}
 
@@ -36,9 +43,12 @@ pub record GrowsAs (old new : Operation) : Type 0 where
   pub sent_before : new.sent_before ≡ old.sent_before
   pub gone : IsGone old.task → IsGone new.task
   pub asked : (position : ℕ) (r : Request) → slice_get (requests_of old.task).entries position ≡ Some r → StillAsks (requests_of new.task).entries position r
+  pub ended : (status : DownloadStatus) → HasEnded old.task status → HasEnded new.task status
+  pub blamed : (position : ℕ) (b : Blame) → HasBlamed old.task position b → HasBlamed new.task position b
   pub hashed : (input : List ℕ) → IsHashedBy old.task input → IsHashedBy new.task input
+  pub tested : (input : List ℕ) → IsTestedBy old.task input → IsTestedBy new.task input
   pub happy : (pairs : List Pair) → IsHappyTask old.task pairs → IsHappyTask new.task pairs
-  pub shares : (pairs : List Pair) (these : List (List ℕ)) → IsHappyTask old.task pairs → HasShares old.task these → HasShares new.task these
+  pub shares : (these : List (List ℕ)) → HasShares old.task these → HasShares new.task these
   pub pieces : List Piece
   pub given : new.given ≡ old.given ++ pieces
 
@@ -46,7 +56,7 @@ abbrev pub AllGrow : List Operation → List Operation → Type 0
 AllGrow old new = (i : ℕ) (op : Operation) → slice_get old i ≡ Some op → (next : Operation) × (slice_get new i ≡ Some next) × GrowsAs op next
 
 still_asks : (task : Task) (position : ℕ) (r : Request) → slice_get (requests_of task).entries position ≡ Some r → StillAsks (requests_of task).entries position r
-still_asks task position r at = record { request = r; at = at; server = refl; asked = refl }
+still_asks task position r at = record { request = r; at = at; server = refl; asked = refl; answered = λ said e. e }
 
 same_operation : (op : Operation) → GrowsAs op op
 same_operation op = record {
@@ -55,9 +65,12 @@ same_operation op = record {
   sent_before = refl;
   gone = λ h. h;
   asked = λ position r at. still_asks op.task position r at;
+  ended = λ status h. h;
+  blamed = λ position b h. h;
   hashed = λ input h. h;
+  tested = λ input h. h;
   happy = λ pairs h. h;
-  shares = λ pairs these h k. k;
+  shares = λ these h. h;
   pieces = [];
   given = sym (append_none op.given);
 }
@@ -82,9 +95,12 @@ lives_grow old new h i op e = (let f = h.on i op e in (
     sent_before = refl;
     gone = λ k. k;
     asked = λ position r at. still_asks op.task position r at;
+    ended = λ status k. k;
+    blamed = λ position b k. k;
     hashed = λ input k. k;
+    tested = λ input k. k;
     happy = λ pairs k. k;
-    shares = λ pairs these h k. k;
+    shares = λ these k. k;
     pieces = [];
     given = sym (append_none op.given);
   },
@@ -102,9 +118,12 @@ moves_grow New old new before after m =
       sent_before = m.same.sent_before;
       gone = λ h. (h.0, goes.gone h.0 h.1);
       asked = λ position r at. goes.follows.keeps position r at;
+      ended = goes.ended;
+      blamed = goes.blamed;
       hashed = goes.hashed;
+      tested = goes.tested;
       happy = goes.happy;
-      shares = λ pairs these h k. goes.shares these k;
+      shares = goes.shares;
       pieces = m.same.pieces;
       given = m.same.given;
     }
@@ -141,6 +160,18 @@ happy_upload (Downloading d) pairs h = absurd h
 happy_upload (Checking c) pairs h = absurd h
 happy_upload (Gone number) pairs h = absurd h
 
+-- it is an upload of these shares
+record IsUploadWith (t : Task) (shares : List (List ℕ)) : Type 0 where
+  pub upload : Up
+  pub task : t ≡ Uploading upload
+  pub pieces : upload.pieces ≡ Whole shares
+
+upload_with : (t : Task) (shares : List (List ℕ)) → HasShares t shares → IsUploadWith t shares
+upload_with (Uploading u) shares h = record { upload = u; task = refl; pieces = h }
+upload_with (Downloading d) shares h = absurd h
+upload_with (Checking c) shares h = absurd h
+upload_with (Gone number) shares h = absurd h
+
 hashed_later : (old new : WorldState) → AllStay old.servers new.servers → AllGrow old.operations new.operations → (input : List ℕ) → IsHashed old input → IsHashed new input
 hashed_later old new servers operations input (started op file secret p among uploads one_key of) =
     let at = position_of_member old.operations op among in
@@ -155,6 +186,30 @@ hashed_later old new servers operations input (closed m among of) =
     let f = servers at.0 m at.1 in
     closed f.0 (member_at new.servers at.0 f.0 f.1) record { id = of.id; share = of.share; found = f.2 of.id of.share of.found; is = of.is }
 
+tested_later : (old new : WorldState) → AllStay old.servers new.servers → AllGrow old.operations new.operations → (input : List ℕ) → IsHashedOrTested old input → IsHashedOrTested new input
+tested_later old new servers operations input (hashed h) = hashed (hashed_later old new servers operations input h)
+tested_later old new servers operations input (tested op among by) =
+    let at = position_of_member old.operations op among in
+    let f = operations at.0 op at.1 in
+    tested f.0 (member_at new.operations at.0 f.0 f.1) (f.2.tested input by)
+
+made_later : (old new : WorldState) → AllStay old.servers new.servers → AllGrow old.operations new.operations → (input : List ℕ) → IsHashedInAll old input → IsHashedInAll new input
+made_later old new servers operations input (told h) = told (hashed_later old new servers operations input h)
+made_later old new servers operations input (repaired op among by) =
+    let at = position_of_member old.operations op among in
+    let f = operations at.0 op at.1 in
+    let t = upload_with f.0.task by.shares (f.2.shares by.shares (subst (λ (k : Task). HasShares k by.shares) (sym by.task) by.shares_are)) in
+    repaired f.0 (member_at new.operations at.0 f.0 f.1) record {
+      cap = by.cap;
+      happy = by.happy;
+      upload = t.upload;
+      job = f.2.job ∙ by.job;
+      task = t.task;
+      shares = by.shares;
+      shares_are = t.pieces;
+      hashed = by.hashed;
+    }
+
 stays_on : (b c : WorldState) → AllGrow b.operations c.operations → (number : ℕ) (old : Operation) → StaysAt b number old → StaysAt c number old
 stays_on b c grow number old s =
     let f = grow number s.operation s.at in record {
@@ -167,13 +222,23 @@ stays_on b c grow number old s =
       asked = λ position r at.
           let still = s.asked position r at in
           let later = f.2.asked position still.request still.at in
-          record { request = later.request; at = later.at; server = later.server ∙ still.server; asked = later.asked ∙ still.asked };
+          record {
+            request = later.request;
+            at = later.at;
+            server = later.server ∙ still.server;
+            asked = later.asked ∙ still.asked;
+            answered = λ said e. later.answered said (still.answered said e);
+          };
+      ended = λ status h. f.2.ended status (s.ended status h);
+      blamed = λ position b h. f.2.blamed position b (s.blamed position b h);
     }
 
 pub later_from : (old new : WorldState) → AllStay old.servers new.servers → AllGrow old.operations new.operations → ((more : List Sent) × (new.sent ≡ old.sent ++ more))
     → (length new.servers ≡ length old.servers) × (length new.heard ≡ length old.heard) → IsLater old new
 later_from old new servers operations sent nodes = record {
   hashed = hashed_later old new servers operations;
+  tested = tested_later old new servers operations;
+  made = made_later old new servers operations;
   operations = λ number operation s. stays_on old new operations number operation s;
   given = λ cap position byte g.
       let f = operations g.number g.operation g.at in record {
@@ -207,7 +272,7 @@ later_from old new servers operations sent nodes = record {
         operation = f.0;
         upload = t.upload;
         repair_of = record { at = f.1; job = f.2.job ∙ r.repair_of.job; task = t.task };
-        shares_are = subst (λ (k : Task). HasShares k shares) t.task (f.2.shares pairs shares happy_task (subst (λ (k : Task). HasShares k shares) (sym r.repair_of.task) r.shares_are));
+        shares_are = subst (λ (k : Task). HasShares k shares) t.task (f.2.shares shares (subst (λ (k : Task). HasShares k shares) (sym r.repair_of.task) r.shares_are));
         status = t.status;
       };
   kept = λ server index share bytes k.
@@ -233,6 +298,8 @@ same_world w = later_from w w (none_change w.servers) (none_grow w.operations) (
 pub later_still : (a b c : WorldState) → IsLater a b → IsLater b c → IsLater a c
 later_still a b c f g = record {
   hashed = λ input h. g.hashed input (f.hashed input h);
+  tested = λ input h. g.tested input (f.tested input h);
+  made = λ input h. g.made input (f.made input h);
   operations = λ number operation s. g.operations number operation (f.operations number operation s);
   given = λ cap position byte x. g.given cap position byte (f.given cap position byte x);
   uploaded = λ file secret p pairs x. g.uploaded file secret p pairs (f.uploaded file secret p pairs x);
@@ -242,4 +309,15 @@ later_still a b c f g = record {
   sent = g.sent ∙ ap (λ (l : List Sent). l ++ g.more) f.sent ∙ append_assoc a.sent f.more g.more;
   honest = g.honest ∙ f.honest;
   liars = g.liars ∙ f.liars;
+}
+
+-- no clash among more inputs is none among fewer
+fewer_clash : (Few Many : List ℕ → Type 0) → ((input : List ℕ) → Few input → Many input) → HasNoClashIn Many → HasNoClashIn Few
+fewer_clash Few Many more none first second one other same = none first second (more first one) (more second other) same
+
+pub nothing_clashed_before : (old new : WorldState) → IsLater old new → NothingClashedBefore old new
+nothing_clashed_before old new later = record {
+  hashed = fewer_clash (IsHashed old) (IsHashed new) later.hashed;
+  tested = fewer_clash (IsHashedOrTested old) (IsHashedOrTested new) later.tested;
+  made = fewer_clash (IsHashedInAll old) (IsHashedInAll new) later.made;
 }

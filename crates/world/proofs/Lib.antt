@@ -3,6 +3,7 @@ pub mod Happy
 pub mod Told
 pub mod Hashed
 pub mod Keep
+mod Contradicting
 pub mod Repaired
 pub mod Agree
 pub mod Binding

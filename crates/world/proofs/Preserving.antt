@@ -30,7 +30,7 @@ use Rattle.world_operations.proofs.Positions.{get_set_same, length_set, member_n
 use Rattle.world.specs.State.{WorldState, new_server, new_world, node_count, nodes_of, shelved}
 use Rattle.world.specs.Step.{IsSpoken, answer_to, new_operation}
 use Rattle.world.specs.Consistent.{CameFrom, IsConsistent, Preserves}
-use Rattle.world.specs.Headline.{IsLater}
+use Rattle.world.specs.Later.{IsLater}
 use Rattle.world.proofs.Lives.{HaveOtherLives, lives_changed}
 use Rattle.world.proofs.Changes.{answered, operation_begins, operation_moves, said_by_liar, same_sent, sent_more, server_changed}
 use Rattle.world.proofs.Later.{later_from, later_still, lives_grow, moves_grow, moves_send, no_more, none_change, none_grow, one_grows, one_more, one_stays, same_world}

@@ -56,6 +56,7 @@ use Rattle.world.specs.Repairs.{told as hashed_too}
 use Rattle.world.proofs.Acked as acked
 use Rattle.world.proofs.Happy.{Up}
 use Rattle.world.proofs.Hashed.{encoding_among, share_among}
+use Rattle.world.proofs.Contradicting.{repairs_never_contradict}
 use Rattle.world.proofs.Told.{IsToldOf, request_of}
 
 -- ---- uploads of shares, whatever they are for
@@ -289,4 +290,5 @@ repairs_trusted w c = record {
   repairs_are_acknowledged = repairs_are_acknowledged w c;
   repairs_keep = repairs_keep w c;
   repairs_make_own = repairs_make_own w c;
+  repairs_never_contradict = repairs_never_contradict w c;
 }

@@ -31,7 +31,7 @@ by_life lives.Forgotten (statuses.Unhappy reached wanted) e = e
 by_life lives.Forgotten statuses.Done e = e
 by_life lives.Forgotten statuses.NotEnoughShares e = e
 by_life lives.Forgotten statuses.Inconsistent e = e
-by_life lives.Forgotten statuses.Failed e = e
+by_life lives.Forgotten (statuses.Failed fault) e = e
 
 by_status : (s : CheckStatus) → check_status s ≡ statuses.Done → s ≡ checks.Done
 by_status checks.Done e = refl

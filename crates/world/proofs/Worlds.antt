@@ -8,7 +8,8 @@ use Rattle.world.specs.declared.event.WorldError.{WorldError}
 use Rattle.world.specs.State.{WorldState, WorldValue, new_server, new_world}
 use Rattle.world.specs.Binding.{IsBound}
 use Rattle.world.specs.Consistent.{IsKept, Preserves}
-use Rattle.world.specs.Headline.{IsLater, IsTrusted}
+use Rattle.world.specs.Headline.{IsTrusted}
+use Rattle.world.specs.Later.{IsLater}
 use Rattle.world.specs.Taking.{AreTaken, IsRun, StepGives}
 use Rattle.world.proofs.Later.{later_still, same_world}
 use Rattle.world.proofs.Preserving.{new_consistent}

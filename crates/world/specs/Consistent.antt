@@ -22,8 +22,8 @@ use Rattle.world_operations.specs.Follow.{IsRequestBy}
 use Rattle.world_operations.specs.Given.{AreGivenBy}
 use Rattle.world_operations.specs.Jobs.{IsFor}
 use Rattle.world_operations.specs.Tasks.{IsRightTask, requests_of}
-use Rattle.world.specs.Headline.{IsLater}
 use Rattle.world.specs.History.{AnswersComeAfter, HasHistory}
+use Rattle.world.specs.Later.{IsLater}
 use Rattle.world.specs.State.{WorldState, shelved}
 
 -- an answer of an honest server belongs to a request that was sent to it, and what it tells is so

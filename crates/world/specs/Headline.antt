@@ -1,10 +1,10 @@
 -- The headline: what holds of every world, however its nodes lie and whatever comes in which order.
-use Rattle.std.specs.Prelude.{◌≡◌, ◌⊎◌, ℕ, ◌+◌, ◌<◌, ◌≤◌, List, [], ◌++◌, Some, length}
+use Rattle.std.specs.Prelude.{◌≡◌, ℕ, ◌+◌, ◌<◌, ◌≤◌, List, [], Some, length}
 use Rattle.std.specs.Prelude.{slice_get, slice_index_or, Contains}
 use Rattle.tagged_hash.specs.Clash.{HasNoClashIn}
 use Rattle.tagged_hash.specs.TaggedHash.{tagged_input}
 use Rattle.tagged_hash.specs.declared.tag.Tag.TheVariants.{WholeShare}
-use Rattle.cap_text.specs.Cap.{ReadCapValue, VerifyCapValue}
+use Rattle.cap_text.specs.Cap.{ReadCapValue}
 use Rattle.wire.specs.declared.message.Message.{Message}
 use Rattle.wire.specs.declared.message.ShareId.{ShareId}
 use Rattle.wire.specs.Frames.{IsBodyOf}
@@ -25,14 +25,10 @@ use Rattle.download_segments.specs.declared.piece.Piece.{Piece}
 use Rattle.world_operations.specs.declared.job.Job.TheVariants.{Download}
 use Rattle.world_operations.specs.declared.message.Sent.{Sent}
 use Rattle.world_operations.specs.declared.operation.Operation.{Operation}
-use Rattle.world_operations.specs.declared.task.Task.{Task}
-use Rattle.world_operations.specs.declared.task.Task.TheVariants.{Uploading, Gone}
+use Rattle.world_operations.specs.declared.task.Task.TheVariants.{Uploading}
 use Rattle.world_operations.specs.declared.upload_pieces.UploadPieces.{UploadPieces}
-use Rattle.request_record.specs.Follow.{StillAsks}
 use Rattle.world_operations.specs.Given.{IsHashedBy}
 use Rattle.world_operations.specs.Jobs.{HasOneKey, Uploads}
-use Rattle.world_operations.specs.Tasks.{requests_of}
-use Rattle.world.specs.Repaired.{IsRepaired}
 use Rattle.world.specs.State.{WorldState}
 
 -- ---- what was hashed
@@ -194,40 +190,3 @@ pub record IsTrusted (w : WorldState) : Type 0 where
   pub acknowledged_keep : HasNoClash w → AcknowledgedKeep w
   pub downloads_agree : HasNoClash w → DownloadsAgree w
   pub files_are_given : HasNoClash w → FilesAreGiven w
-
--- no memory was found for its machine
-abbrev pub IsGone : Task → Type 0
-IsGone task = (number : ℕ) × (task ≡ Gone number)
-
--- An operation stands at its position, as it was or further on: of the same node, for the same job
--- and begun at the same moment. What it asked stays asked. A machine that is gone stays gone.
-pub record StaysAt (w : WorldState) (number : ℕ) (old : Operation) : Type 0 where
-  pub operation : Operation
-  pub at : slice_get w.operations number ≡ Some operation
-  pub node : operation.node ≡ old.node
-  pub job : operation.job ≡ old.job
-  pub sent_before : operation.sent_before ≡ old.sent_before
-  pub gone : IsGone old.task → IsGone operation.task
-  pub asked : (position : ℕ) (r : Request)
-      → slice_get (requests_of old.task).entries position ≡ Some r
-      → StillAsks (requests_of operation.task).entries position r
-
--- What was answered stays: a later world has all that was hashed, every operation, every byte that
--- was handed out, every upload and every repair that answered Happy, every share that was closed,
--- and all that was sent, and its nodes are the same.
-pub record IsLater (old new : WorldState) : Type 0 where
-  pub hashed : (input : List ℕ) → IsHashed old input → IsHashed new input
-  pub operations : (number : ℕ) (operation : Operation)
-      → StaysAt old number operation → StaysAt new number operation
-  pub given : (cap : ReadCapValue) (position byte : ℕ) → IsGiven old cap position byte
-      → IsGiven new cap position byte
-  pub uploaded : (file secret : List ℕ) (p : UploadParameters) (pairs : List Pair)
-      → IsUploaded old file secret p pairs → IsUploaded new file secret p pairs
-  pub repaired : (cap : VerifyCapValue) (happy : ℕ) (shares : List (List ℕ)) (pairs : List Pair)
-      → IsRepaired old cap happy shares pairs → IsRepaired new cap happy shares pairs
-  pub kept : (server : ℕ) (index : List ℕ) (share : ℕ) (bytes : List ℕ)
-      → Keeps old server index share bytes → Keeps new server index share bytes
-  pub more : List Sent
-  pub sent : new.sent ≡ old.sent ++ more
-  pub honest : length new.servers ≡ length old.servers
-  pub liars : length new.heard ≡ length old.heard

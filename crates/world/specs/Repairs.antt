@@ -1,5 +1,5 @@
 -- Beside the headline: what holds of the repairs of every world.
-use Rattle.std.specs.Prelude.{◌≡◌, ℕ, ◌+◌, ◌<◌, ◌≤◌, List, [], Some, length, slice_get}
+use Rattle.std.specs.Prelude.{◌≡◌, ◌≢◌, ℕ, ◌+◌, ◌<◌, ◌≤◌, List, [], Some, length, slice_get}
 use Rattle.std.specs.Prelude.{slice_index_or, Contains}
 use Rattle.tagged_hash.specs.Clash.{HasNoClashIn}
 use Rattle.cap_text.specs.Cap.{VerifyCapValue, verify_cap_of}
@@ -13,14 +13,20 @@ use Rattle.file_upload.specs.Prepared.{prepared_of}
 use Rattle.file_upload.specs.Shares.{shares_goal}
 use Rattle.upload_core.specs.Acknowledged.{acked_answer, acked_pairs}
 use Rattle.upload_core.specs.Sending as upload_sends
+use Rattle.world_operations.specs.declared.job.Job.{Job}
+use Rattle.world_operations.specs.declared.job.Job.TheVariants.{NoRepair}
+use Rattle.world_operations.specs.declared.job.Unmade.TheVariants.{Inconsistent}
 use Rattle.world_operations.specs.declared.message.Sent.{Sent}
 use Rattle.world_operations.specs.declared.operation.Operation.{Operation}
+use Rattle.world_operations.specs.declared.task.Task.{Task}
 use Rattle.world_operations.specs.declared.upload_pieces.UploadPieces.{UploadPieces}
 use Rattle.world_operations.specs.declared.upload_pieces.UploadPieces.TheVariants.{Whole}
 use Rattle.world_operations.specs.Jobs.{HasOneKey, Uploads}
 use Rattle.world.specs.Headline.{IsHashed, Keeps}
 use Rattle.world.specs.Repaired.{IsHashedByRepair, IsRepairOf, IsRepaired}
+use Rattle.world.specs.Started.{HasNoClashInTests, IsStarted}
 use Rattle.world.specs.State.{WorldState}
+use Rattle.world.specs.Step.{RepairBegins}
 
 -- What was hashed, also for repairs: all that the headline speaks of, and the shares that they
 -- made.
@@ -108,6 +114,14 @@ RepairsMakeOwn w =
     → IsRepairOf w position (verify_cap_of (prepared_of file secret p).cap) happy repair upload
     → upload.pieces ≡ Whole (prepared_of file secret p).shares
 
+-- No repair that begins of what a check found, where the upload of a file was started with the
+-- check's cap, is over at once since the good shares contradict one another.
+abbrev pub RepairsNeverContradict : WorldState → Type 0
+RepairsNeverContradict w =
+    (file secret : List ℕ) (p : UploadParameters) (node number happy : ℕ) (job : Job) (first : Task)
+    → IsStarted w file secret p → RepairBegins w node number happy job first
+    → job ≢ NoRepair (verify_cap_of (prepared_of file secret p).cap) Inconsistent
+
 -- What holds of the repairs of one world. It holds of every world.
 pub record AreTrustedRepairs (w : WorldState) : Type 0 where
   pub repairs_pass : RepairsPass w
@@ -115,3 +129,4 @@ pub record AreTrustedRepairs (w : WorldState) : Type 0 where
   pub repairs_are_acknowledged : RepairsAreAcknowledged w
   pub repairs_keep : HasNoClashInAll w → RepairsKeep w
   pub repairs_make_own : HasNoClashInAll w → RepairsMakeOwn w
+  pub repairs_never_contradict : HasNoClashInTests w → RepairsNeverContradict w

@@ -1,5 +1,8 @@
 //! Events, and why one is refused.
 
+ghost use Rattle.std.specs.Prelude.{◌≡◌};
+ghost use Rattle.world.specs.Refusals.{refusal_number};
+
 use proved_parts::Bytes;
 use std::alloc::{AllocError, AllocFailed};
 use wire::message::NodeId;
@@ -43,8 +46,20 @@ pub enum WorldError {
     Stopped,
 }
 
+impl WorldError {
+    /// The number of the refusal.
+    pub fn number(self) -> u8
+        ensures { result ≡ refusal_number self }
+    {
+        match self {
+            WorldError::OutOfMemory => 1,
+            WorldError::BadEvent => 80,
+            WorldError::Stopped => 81,
+        }
+    }
+}
+
 impl From<AllocError> for WorldError {
-    ghost use Rattle.std.specs.Prelude.{◌≡◌};
     ghost use Rattle.world.specs.declared.event.WorldError.TheVariants.{OutOfMemory};
 
     ghost from_gives = { λ _ error. error ≡ OutOfMemory };
@@ -55,7 +70,6 @@ impl From<AllocError> for WorldError {
 }
 
 impl<T: Drop> From<AllocFailed<T>> for WorldError {
-    ghost use Rattle.std.specs.Prelude.{◌≡◌};
     ghost use Rattle.world.specs.declared.event.WorldError.TheVariants.{OutOfMemory};
 
     ghost from_gives = { λ _ error. error ≡ OutOfMemory };

@@ -13,6 +13,7 @@
 #![tactic(auto)]
 
 pub mod event;
+pub mod laws;
 pub mod liar;
 mod nodes;
 mod parts;

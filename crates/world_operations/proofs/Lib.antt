@@ -1,6 +1,8 @@
 pub mod Positions
+mod Tests
 pub mod TaskMoves
 pub mod Frames
 pub mod Beginnings
 pub mod Uploads
 pub mod Sending
+pub mod Changing

@@ -1,5 +1,7 @@
 -- How a machine goes on: what it is for stays, its record goes on, and each frame that it sends is of one of its requests.
-use Rattle.std.proofs.Common.{◌≡◌, ◌≢◌, ℕ, List, Option, Some, None, Result, Ok, Err, OnOk, OnErr, IsOk, true≢false, refl, sym, subst, ap, ◌∙◌, inl, inr, ◌⊎◌}
+use Rattle.lemmas.proofs.Positions.{get_left}
+use Rattle.std.proofs.Common.{◌≡◌, ◌≢◌, ℕ, List, [], ◌++◌, Option, Some, None, Result, Ok, Err, OnOk, OnErr, IsOk, true≢false, refl, sym, subst, ap, ◌∙◌, inl, inr, ◌⊎◌}
+use Rattle.std.specs.Prelude.{slice_get}
 use Rattle.cap_text.specs.Cap.{ReadCapValue, VerifyCapValue, verify_cap_of}
 use Rattle.placement.specs.Matching.{Pair}
 use Rattle.wire.specs.declared.message.Body.{Body}
@@ -19,6 +21,10 @@ use Rattle.upload_core.specs.Sending as upload_sends
 use Rattle.download_core.specs.Hashed.{StaysGiven, StaysHashed}
 use Rattle.download_core.specs.State.{DownloadState}
 use Rattle.download_core.proofs.HashedLemmas.{sent_hashed, sent_stays, taken_hashed, taken_stays}
+use Rattle.download_core.specs.Tested.{StaysTested}
+use Rattle.download_core.proofs.TestedLemmas.{sent_tested, taken_tested}
+use Rattle.download_core.specs.declared.status.DownloadStatus.TheVariants as downloads
+use Rattle.download_shares.specs.declared.holding.Blame.{Blame}
 use Rattle.download_segments.specs.declared.piece.Piece.{Piece}
 use Rattle.download_core.specs.Moves as download
 use Rattle.download_core.specs.Sending as download_sends
@@ -46,6 +52,8 @@ use Rattle.all_asked.proofs.Records.{asked_after_asks, asked_after_message}
 use Rattle.all_asked.proofs.Downloads.{downloads_ask_all}
 use Rattle.request_record.specs.Follow.{Follows, IsSaid, Nothing, Said}
 use Rattle.world_operations.specs.Follow.{GoesOn}
+use Rattle.world_operations.proofs.Positions.{append_none}
+use Rattle.world_operations.proofs.Tests.{tests_stay}
 use Rattle.request_record.proofs.FollowLaws.{follows_asks, follows_itself, follows_message, follows_on, follows_same, follows_tick}
 
 pub goes_on : (New : Said) (a b c : Task) → GoesOn New a b → GoesOn Nothing b c → GoesOn New a c
@@ -57,12 +65,28 @@ goes_on New a b c f g = record {
   shares = λ these h. g.shares these (f.shares these h);
   given = λ p h. g.given p (f.given p h);
   hashed = λ input h. g.hashed input (f.hashed input h);
+  tested = λ input h. g.tested input (f.tested input h);
+  ended = λ status h. g.ended status (f.ended status h);
+  blamed = λ position b h. g.blamed position b (f.blamed position b h);
   asked = λ servers h. g.asked servers (f.asked servers h);
   gone = λ number e. g.gone number (f.gone number e);
 }
 
 pub goes_nowhere : (New : Said) (a : Task) → GoesOn New a a
-goes_nowhere New a = record { follows = follows_itself New (requests_of a); index = refl; is_for = λ e h. h; happy = λ pairs h. h; shares = λ these h. h; given = λ p h. h; hashed = λ input h. h; asked = λ servers h. h; gone = λ number e. e }
+goes_nowhere New a = record {
+  follows = follows_itself New (requests_of a);
+  index = refl;
+  is_for = λ e h. h;
+  happy = λ pairs h. h;
+  shares = λ these h. h;
+  given = λ p h. h;
+  hashed = λ input h. h;
+  tested = λ input h. h;
+  ended = λ status h. h;
+  blamed = λ position b h. h;
+  asked = λ servers h. h;
+  gone = λ number e. e;
+}
 
 pub same_goes : (New : Said) (a b : Task) → b ≡ a → GoesOn New a b
 same_goes New a b e = subst (GoesOn New a) (sym e) (goes_nowhere New a)
@@ -95,6 +119,9 @@ upload_goes New u v pieces same f = record {
   shares = pieces;
   given = λ p h. h;
   hashed = λ input h. h;
+  tested = λ input h. h;
+  ended = λ status h. h;
+  blamed = λ position b h. h;
   asked = λ servers h. tt;
   gone = λ number e. absurd cc;
 }
@@ -193,13 +220,25 @@ upload_takes u v f (upload_sends.sends position server asked body first there te
 asks_follow : (New : Said) (old r new : RequestsState) (asks : List (ℕ × Asked)) → Follows New old r → new ≡ asked_all asks r → Follows New old new
 asks_follow New old r new asks f is = subst (Follows New old) (sym is) (asks_more New old r asks f)
 
+-- how it ended stays, and whom it blamed
+record StaysTold (d e : DownloadState) : Type 0 where
+  pub ended : d.status ≢ downloads.Running → e.status ≡ d.status
+  pub others : List Blame
+  pub blamed : e.blamed ≡ d.blamed ++ others
+
+told_same : (d e : DownloadState) → e.status ≡ d.status → e.blamed ≡ d.blamed → StaysTold d e
+told_same d e status blamed = record { ended = λ over. status; others = []; blamed = blamed ∙ sym (append_none d.blamed) }
+
+told_moved : (r : RequestsState) (d e : DownloadState) → download.GoesOn r d e → StaysTold d e
+told_moved r d e a = record { ended = λ over. ap (λ (x : DownloadState). x.status) (a.ended over); others = a.same.others; blamed = a.same.blamed }
+
 -- whom it asked it asked still, unless it is done
 abbrev StaysAsked : DownloadState → DownloadState → Type 0
 StaysAsked d e = (servers : List ℕ) → DownloadAsksAll servers d → DownloadAsksAll servers e
 
 download_goes : (New : Said) (d e : DownloadState) → e.cap ≡ d.cap → (e.from ≡ d.from) × (e.to ≡ d.to) → Follows New d.requests e.requests → StaysGiven d e → StaysHashed d e
-    → StaysAsked d e → GoesOn New (Downloading d) (Downloading e)
-download_goes New d e same range f stays hashed asked = record {
+    → StaysTested d e → StaysTold d e → StaysAsked d e → GoesOn New (Downloading d) (Downloading e)
+download_goes New d e same range f stays hashed tested told asked = record {
   follows = f;
   index = ap (λ (c : ReadCapValue). (verify_cap_of c).storage_index) same;
   is_for = kept;
@@ -207,6 +246,9 @@ download_goes New d e same range f stays hashed asked = record {
   shares = λ these h. h;
   given = stays;
   hashed = hashed;
+  tested = tested;
+  ended = λ status h. (told.ended (λ running. h.1 (sym h.0 ∙ running)) ∙ h.0, h.1);
+  blamed = λ position b h. ap (λ (l : List Blame). slice_get l position) told.blamed ∙ get_left d.blamed told.others position b h;
   asked = asked;
   gone = λ number e. absurd cc;
 }
@@ -220,27 +262,31 @@ download_goes New d e same range f stays hashed asked = record {
     kept (jobs.Check cap) h = absurd h
 
 download_moves : (New : Said) (d e : DownloadState) (r : RequestsState) → Follows New d.requests r → download.GoesOn r d e → StaysAsked d e → GoesOn New (Downloading d) (Downloading e)
-download_moves New d e r f a asked = download_goes New d e a.same.cap a.same.range (asks_follow New d.requests r e.requests a.asks f a.requests) a.same.stays a.same.hashed asked
+download_moves New d e r f a asked = download_goes New d e a.same.cap a.same.range (asks_follow New d.requests r e.requests a.asks f a.requests) a.same.stays a.same.hashed a.same.tested
+    (told_moved r d e a) asked
 
 -- one that finds no memory at a tick
 download_stops : (now : ℕ) (d e : DownloadState) → download.StopsAt now d e → GoesOn Nothing (Downloading d) (Downloading e)
 download_stops now d e a = download_goes Nothing d e a.same.cap a.same.range (elim a.requests [
   | inl same ↦ follows_same Nothing d.requests e.requests (ap (λ (r : RequestsState). r.session) same) (ap (λ (r : RequestsState). r.entries) same)
   | inr on ↦ asks_follow Nothing d.requests (after_tick now d.requests) e.requests on.0 (follows_tick now d.requests) on.1
-]) a.same.stays a.same.hashed (λ servers h. downloads_ask_all.stops now servers d e a h)
+]) a.same.stays a.same.hashed a.same.tested record { ended = λ over. ap (λ (x : DownloadState). x.status) (a.ended over); others = a.same.others; blamed = a.same.blamed }
+    (λ servers h. downloads_ask_all.stops now servers d e a h)
 
 download_ticks : (now : ℕ) (d e : DownloadState) → download.TicksOn now d e → GoesOn Nothing (Downloading d) (Downloading e)
 download_ticks now d e a = download_moves Nothing d e (after_tick now d.requests) (follows_tick now d.requests) a (λ servers h. downloads_ask_all.ticks now servers d e a h)
 
 download_same : (d e : DownloadState) → e.cap ≡ d.cap → (e.from ≡ d.from) × (e.to ≡ d.to) → e.requests.session ≡ d.requests.session → e.requests.entries ≡ d.requests.entries
-    → StaysGiven d e → StaysHashed d e → StaysAsked d e → GoesOn Nothing (Downloading d) (Downloading e)
-download_same d e cap range session entries stays hashed asked = download_goes Nothing d e cap range (follows_same Nothing d.requests e.requests session entries) stays hashed asked
+    → StaysGiven d e → StaysHashed d e → StaysTested d e → StaysTold d e → StaysAsked d e → GoesOn Nothing (Downloading d) (Downloading e)
+download_same d e cap range session entries stays hashed tested told asked =
+    download_goes Nothing d e cap range (follows_same Nothing d.requests e.requests session entries) stays hashed tested told asked
 
 download_takes : (d e : DownloadState) (f : Option (ℕ × Message)) → download_sends.Takes d f e → GoesOn Nothing (Downloading d) (Downloading e)
 download_takes d e None t = same_goes Nothing (Downloading d) (Downloading e) (ap Downloading t.1)
 download_takes d e (Some f) t = (let is = t.3 in
     download_same d e (ap (λ (x : DownloadState). x.cap) is) (ap (λ (x : DownloadState). x.from) is, ap (λ (x : DownloadState). x.to) is)
     (ap (λ (x : DownloadState). x.requests.session) is) (ap (λ (x : DownloadState). x.requests.entries) is) (sent_stays d e (Some f) t) (sent_hashed d e (Some f) t)
+    (sent_tested d e (Some f) t) (told_same d e (ap (λ (x : DownloadState). x.status) is) (ap (λ (x : DownloadState). x.blamed) is))
     (λ servers h. downloads_ask_all.sends (Some f) servers d e t h))
 
 download_hands : (d e : DownloadState) (p : Option Piece) → download.TakesPiece d p e → GoesOn Nothing (Downloading d) (Downloading e)
@@ -248,6 +294,7 @@ download_hands d e None t = same_goes Nothing (Downloading d) (Downloading e) (a
 download_hands d e (Some p) t = (let is = t.1 in
     download_same d e (ap (λ (x : DownloadState). x.cap) is) (ap (λ (x : DownloadState). x.from) is, ap (λ (x : DownloadState). x.to) is)
     (ap (λ (x : DownloadState). x.requests.session) is) (ap (λ (x : DownloadState). x.requests.entries) is) (taken_stays d e (Some p) t) (taken_hashed d e (Some p) t)
+    (taken_tested d e (Some p) t) (told_same d e (ap (λ (x : DownloadState). x.status) is) (ap (λ (x : DownloadState). x.blamed) is))
     (λ servers h. downloads_ask_all.hands (Some p) servers d e t h))
 
 abbrev StaysAskedBy : CheckState → CheckState → Type 0
@@ -262,6 +309,9 @@ check_goes New c e same f asked = record {
   shares = λ these h. h;
   given = λ p h. h;
   hashed = λ input h. h;
+  tested = tests_stay New c e same f;
+  ended = λ status h. h;
+  blamed = λ position b h. h;
   asked = asked;
   gone = λ number e. absurd cc;
 }

@@ -8,18 +8,22 @@ use Rattle.request_record.specs.Asking.{Spells, fresh}
 use Rattle.request_record.specs.Follow.{Follows, Nothing, Said}
 use Rattle.server_core.specs.Sound.{is_request}
 use Rattle.download_segments.specs.declared.piece.Piece.{Piece}
+use Rattle.download_shares.specs.declared.holding.Blame.{Blame}
+use Rattle.download_core.specs.declared.status.DownloadStatus.{DownloadStatus}
 use Rattle.world_operations.specs.declared.job.Job.{Job}
 use Rattle.world_operations.specs.declared.message.Sent.{Sent}
 use Rattle.world_operations.specs.declared.operation.Operation.{Operation}
 use Rattle.world_operations.specs.declared.task.Task.{Task}
 use Rattle.world_operations.specs.declared.task.Task.TheVariants.{Gone}
 use Rattle.world_operations.specs.Asked.{HasAsked}
-use Rattle.world_operations.specs.Given.{AreGivenBy, IsGivenBy, IsHashedBy}
+use Rattle.world_operations.specs.Given.{AreGivenBy, IsGivenBy, IsHashedBy, IsTestedBy}
 use Rattle.world_operations.specs.Jobs.{IsFor}
-use Rattle.world_operations.specs.Tasks.{HasShares, IsHappyTask, index_of, requests_of}
+use Rattle.world_operations.specs.Tasks.{HasBlamed, HasEnded, HasShares, IsHappyTask, index_of}
+use Rattle.world_operations.specs.Tasks.{requests_of}
 
 -- A machine goes on: it is for the same, its record follows, an upload keeps its shares and stays
--- Happy, and what a download gave and hashed stays so. Servers that it asked which shares they hold
+-- Happy, what a download gave and hashed stays so, and so does what a download or a check tested.
+-- How a download ended, and whom it blamed, stays. Servers that it asked which shares they hold
 -- stay asked. One that is gone stays gone.
 pub record GoesOn (New : Said) (old new : Task) : Type 0 where
   pub follows : Follows New (requests_of old) (requests_of new)
@@ -29,6 +33,9 @@ pub record GoesOn (New : Said) (old new : Task) : Type 0 where
   pub shares : (these : List (List ℕ)) → HasShares old these → HasShares new these
   pub given : (p : Piece) → IsGivenBy old p → IsGivenBy new p
   pub hashed : (input : List ℕ) → IsHashedBy old input → IsHashedBy new input
+  pub tested : (input : List ℕ) → IsTestedBy old input → IsTestedBy new input
+  pub ended : (status : DownloadStatus) → HasEnded old status → HasEnded new status
+  pub blamed : (position : ℕ) (b : Blame) → HasBlamed old position b → HasBlamed new position b
   pub asked : (servers : List ℕ) → HasAsked servers old → HasAsked servers new
   pub gone : (number : ℕ) → old ≡ Gone number → new ≡ Gone number
 

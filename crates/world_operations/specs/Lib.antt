@@ -1,4 +1,5 @@
 -- what public contracts rest on
+pub mod StartError
 pub mod Tasks
 pub mod Jobs
 pub mod Given

@@ -3,7 +3,6 @@ use Rattle.std.specs.Prelude.{◌≡◌, ◌≢◌, ℕ, Bool, true, false, List
 use Rattle.std.specs.Prelude.{Option, Some, None}
 use Rattle.wire.specs.declared.message.Message.{Message}
 use Rattle.wire.specs.Frames.{IsMessage, spelling}
-use Rattle.sources.specs.Change.{HasChanged}
 use Rattle.sources.specs.Texts.{Changing as TwoTexts, GivesChanging}
 use Rattle.file_encoding.specs.Params.{UploadParameters, parameters_of}
 use Rattle.file_streaming.specs.Prepared.{IsPreparedFrom}
@@ -32,7 +31,7 @@ use Rattle.world_operations.specs.declared.upload_pieces.UploadPieces.TheVariant
 use Rattle.world_operations.specs.declared.task.Task.{Task}
 use Rattle.world_operations.specs.declared.task.Task.TheVariants.{Uploading, Downloading}
 use Rattle.world_operations.specs.declared.task.Task.TheVariants.{Checking, Gone}
-use Rattle.world_operations.specs.Jobs.{changing}
+use Rattle.world_operations.specs.Jobs.{HasOneKey, changing}
 use Rattle.world_operations.specs.Tasks.{requests_of}
 use Rattle.world_operations.specs.UploadPieces.{fails, gives}
 
@@ -47,10 +46,9 @@ pub record BeginsChanging (file other : List ℕ) (after : ℕ) (secret : List �
   pub begins : upload.Begins (kept_goal stream.kept) p.happy servers session now u.course
   pub pieces : u.pieces ≡ Streamed stream
 
--- it has failed as it began: two reads of one position differed
-abbrev pub FailsChanging : List ℕ → List ℕ → ℕ → Type 0
-FailsChanging file other after =
-    (new : TwoTexts) × HasChanged GivesChanging (changing file other after) (length file) new
+-- it has failed as it began: the two passes over its source have two keys
+abbrev pub FailsChanging : Job → Type 0
+FailsChanging job = HasOneKey job → ⊥
 
 -- a task begins as its job says, with all of these servers
 abbrev pub Begins : Job → List ServerInfo → List ℕ → ℕ → ℕ → Task → Type 0
@@ -60,7 +58,7 @@ Begins (jobs.Upload file secret p) servers nodes session now (Uploading u) =
 Begins (jobs.Changing file other after secret p) servers nodes session now (Uploading u) =
     BeginsChanging file other after secret p servers session now u
 Begins (jobs.Changing file other after secret p) servers nodes session now (Gone number) =
-    (number ≡ session) × FailsChanging file other after
+    (number ≡ session) × FailsChanging (jobs.Changing file other after secret p)
 Begins (jobs.Download cap from to) servers nodes session now (Downloading d) =
     download.Begins cap from to nodes session now d
 Begins (jobs.Check cap) servers nodes session now (Checking c) =

@@ -1,5 +1,6 @@
 -- What became of an operation.
 use Rattle.std.specs.Prelude.{ℕ, length}
+use Rattle.upload_core.specs.declared.pieces.PieceFault.TheVariants.{OutOfMemory, SourceChanged}
 use Rattle.upload_core.specs.declared.status.UploadStatus.{UploadStatus}
 use Rattle.upload_core.specs.declared.status.UploadStatus.TheVariants as uploads
 use Rattle.download_core.specs.declared.status.DownloadStatus.{DownloadStatus}
@@ -32,34 +33,35 @@ happy_of (Check cap) = 0
 happy_of (Repair cap happy) = happy
 happy_of (NoRepair cap why) = 0
 
--- An upload tells how many pairs it names, or the happiness that it reached and the one wanted.
+-- An upload tells how many pairs it names, the happiness that it reached and the one wanted, or why
+-- it failed.
 abbrev pub upload_status : ℕ → UploadStatus → Status
 upload_status wanted uploads.Running = Running
 upload_status wanted (uploads.Happy pairs) = Happy (length pairs)
 upload_status wanted (uploads.Unhappy reached blocking) = Unhappy reached wanted
-upload_status wanted (uploads.Failed fault) = Failed
+upload_status wanted (uploads.Failed fault) = Failed fault
 
 abbrev pub download_status : DownloadStatus → Status
 download_status downloads.Running = Running
 download_status downloads.Done = Done
 download_status downloads.NotEnoughShares = NotEnoughShares
 download_status downloads.Inconsistent = Inconsistent
-download_status downloads.Failed = Failed
+download_status downloads.Failed = Failed OutOfMemory
 
 abbrev pub check_status : CheckStatus → Status
 check_status checks.Running = Running
 check_status checks.Done = Done
-check_status checks.Failed = Failed
+check_status checks.Failed = Failed OutOfMemory
 
 -- why a repair ended at once
 abbrev pub unmade_status : Unmade → Status
 unmade_status unmade.NotEnoughShares = NotEnoughShares
 unmade_status unmade.Inconsistent = Inconsistent
 
--- without a machine an operation failed, but for a repair that made no shares
+-- Without a machine is a repair that made no shares, or an upload whose source changed as it began.
 abbrev pub gone_status : Job → Status
 gone_status (NoRepair cap why) = unmade_status why
-gone_status job = Failed
+gone_status job = Failed SourceChanged
 
 -- what the machine of a job came to
 abbrev pub machine_status : Job → Task → Status
@@ -68,10 +70,10 @@ machine_status job (Downloading d) = download_status d.status
 machine_status job (Checking c) = check_status c.status
 machine_status job (Gone number) = gone_status job
 
--- A restart forgets what runs, and leaves what ended as it is. What was refused failed.
+-- A restart forgets what runs, and leaves what ended as it is. What was refused found no memory.
 abbrev pub lived : Life → Status → Status
 lived lives.Live status = status
-lived lives.Refused status = Failed
+lived lives.Refused status = Failed OutOfMemory
 lived lives.Forgotten Running = Forgotten
 lived lives.Forgotten status = status
 

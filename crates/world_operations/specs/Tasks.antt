@@ -1,5 +1,5 @@
 -- What the kinds of operation have in common.
-use Rattle.std.specs.Prelude.{◌≡◌, ℕ, Bool, true, false, List, [], ⊤}
+use Rattle.std.specs.Prelude.{◌≡◌, ◌≢◌, ℕ, Bool, true, false, List, [], ⊤, Some, slice_get}
 use Rattle.cap_text.specs.Cap.{verify_cap_of}
 use Rattle.request_record.specs.Asking.{fresh}
 use Rattle.request_record.specs.Record.{RequestsState}
@@ -7,6 +7,7 @@ use Rattle.placement.specs.Matching.{Pair}
 use Rattle.upload_core.specs.declared.status.UploadStatus.{UploadStatus}
 use Rattle.upload_core.specs.declared.status.UploadStatus.TheVariants as uploads
 use Rattle.upload_core.specs.Right as upload
+use Rattle.download_shares.specs.declared.holding.Blame.{Blame}
 use Rattle.download_core.specs.declared.status.DownloadStatus.{DownloadStatus}
 use Rattle.download_core.specs.declared.status.DownloadStatus.TheVariants as downloads
 use Rattle.download_core.specs.Right as download
@@ -78,3 +79,17 @@ HasShares (Uploading u) shares = u.pieces ≡ Whole shares
 HasShares (Downloading d) shares = ⊥
 HasShares (Checking c) shares = ⊥
 HasShares (Gone number) shares = ⊥
+
+-- it is a download that ended so
+abbrev pub HasEnded : Task → DownloadStatus → Type 0
+HasEnded (Downloading d) status = (d.status ≡ status) × (status ≢ downloads.Running)
+HasEnded (Uploading u) status = ⊥
+HasEnded (Checking c) status = ⊥
+HasEnded (Gone number) status = ⊥
+
+-- it is a download that blames a server for a share, at this position of its list
+abbrev pub HasBlamed : Task → ℕ → Blame → Type 0
+HasBlamed (Downloading d) position b = slice_get d.blamed position ≡ Some b
+HasBlamed (Uploading u) position b = ⊥
+HasBlamed (Checking c) position b = ⊥
+HasBlamed (Gone number) position b = ⊥

@@ -15,7 +15,7 @@ use crate::job::{Job, Unmade};
 use crate::task::Task;
 use crate::upload_pieces::UploadPieces;
 use cap_text::VerifyCap;
-use file_encoding::{ReadError, Share, regenerate_all};
+use file_encoding::{ReadError, Share, regenerate_all, slices_of};
 use file_upload::shares::{SharesError, prepare_shares};
 use std::alloc::{AllocError, Global};
 use upload_core::Upload;
@@ -75,20 +75,6 @@ fn make_shares(
 {
     let strings = slices_of(alloc, good)?;
     regenerate_all(alloc, cap, &strings)
-}
-
-// The same shares, of which none is copied.
-fn slices_of(alloc: Global, good: &[(u16, Vec<u8>)]) -> Result<Vec<(u16, &[u8])>, AllocError>
-    ensures numbers { IfOk result
-        (λ strings. map (λ s. s.0) strings.items ≡ map (λ s. s.0) good.now) }
-    ensures bytes { IfOk result
-        (λ strings. map (λ s. s.1.now) strings.items ≡ map (λ s. s.1.items) good.now) }
-{
-    let mut strings = Vec::with_capacity(alloc, good.len())?;
-    for share in good {
-        strings.push((share.0, share.1.as_slice()))?;
-    }
-    Ok(strings)
 }
 
 // The upload of shares that pass begins.

@@ -10,10 +10,11 @@ use crate::operation::{Life, Operation};
 use crate::task::Task;
 use checker::status::CheckStatus;
 use download_core::status::DownloadStatus;
+use upload_core::pieces::PieceFault;
 use upload_core::status::UploadStatus;
 
 /// What became of an operation.
-#[derive(Clone, Copy, Debug, PartialEq, Eq)]
+#[derive(Clone, Copy, PartialEq, Eq)]
 pub enum Status {
     Running,
     /// A restart of its node forgot it while it ran.
@@ -26,7 +27,9 @@ pub enum Status {
     Done,
     NotEnoughShares,
     Inconsistent,
-    Failed,
+    /// By this cause: a piece of a share could not be had, two passes over the source of an upload
+    /// differed as it began, or a call found no memory.
+    Failed(PieceFault),
 }
 
 impl Operation {
@@ -37,7 +40,7 @@ impl Operation {
         let status = machine_status(&self.job, &self.task);
         match self.life {
             Life::Live => status,
-            Life::Refused => Status::Failed,
+            Life::Refused => Status::Failed(PieceFault::OutOfMemory),
             Life::Forgotten if status == Status::Running => Status::Forgotten,
             Life::Forgotten => status,
         }
@@ -62,7 +65,7 @@ fn gone_status(job: &Job) -> Status
 {
     match job {
         Job::NoRepair(_, why) => unmade_status(*why),
-        _ => Status::Failed,
+        _ => Status::Failed(PieceFault::SourceChanged),
     }
 }
 
@@ -93,7 +96,7 @@ fn upload_status(wanted: u16, status: &UploadStatus) -> Status
         UploadStatus::Running => Status::Running,
         UploadStatus::Happy(pairs) => Status::Happy(pairs.as_slice().len()),
         UploadStatus::Unhappy(reached, _) => Status::Unhappy(*reached, wanted),
-        UploadStatus::Failed(_) => Status::Failed,
+        UploadStatus::Failed(fault) => Status::Failed(*fault),
     }
 }
 
@@ -105,7 +108,7 @@ fn download_status(status: DownloadStatus) -> Status
         DownloadStatus::Done => Status::Done,
         DownloadStatus::NotEnoughShares => Status::NotEnoughShares,
         DownloadStatus::Inconsistent => Status::Inconsistent,
-        DownloadStatus::Failed => Status::Failed,
+        DownloadStatus::Failed => Status::Failed(PieceFault::OutOfMemory),
     }
 }
 
@@ -115,6 +118,6 @@ fn check_status(status: CheckStatus) -> Status
     match status {
         CheckStatus::Running => Status::Running,
         CheckStatus::Done => Status::Done,
-        CheckStatus::Failed => Status::Failed,
+        CheckStatus::Failed => Status::Failed(PieceFault::OutOfMemory),
     }
 }

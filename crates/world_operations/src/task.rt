@@ -17,6 +17,7 @@ ghost use Rattle.world_operations.specs.Jobs.{MayStart, changing};
 ghost use Rattle.world_operations.specs.Moves.{Advances, Begins, GivesUp, Takes, TakesPiece};
 ghost use Rattle.world_operations.specs.Moves.{TicksOn};
 ghost use Rattle.world_operations.specs.Moves.{task_calls};
+ghost use Rattle.world_operations.specs.StartError.{refusal_number};
 ghost use Rattle.world_operations.specs.Tasks.{IsRightTask, requests_of, runs};
 
 use crate::job::Job;
@@ -39,12 +40,24 @@ use upload_core::status::{ServerInfo, UploadStatus};
 use wire::message::{Message, NodeId};
 
 /// Why an operation is not started.
-#[derive(Clone, Copy, PartialEq, Eq)]
+#[derive(Clone, Copy, Debug, PartialEq, Eq)]
 pub enum StartError {
     /// There was not enough memory.
     OutOfMemory,
     /// The job is none that may be started.
     Refused,
+}
+
+impl StartError {
+    /// The number of the refusal.
+    pub fn number(self) -> u8
+        ensures { result ≡ refusal_number self }
+    {
+        match self {
+            StartError::OutOfMemory => 1,
+            StartError::Refused => 80,
+        }
+    }
 }
 
 impl From<AllocError> for StartError {
@@ -249,8 +262,8 @@ fn begin_upload(
     }
 }
 
-// Begins the upload of a source that changes. It has failed where two reads of one position
-// differed.
+// Begins the upload of a source that changes. It has failed where the two passes over it had two
+// keys.
 fn begin_changing(
     alloc: Global,
     file: &[u8],

@@ -1,5 +1,6 @@
 pub mod Script
 pub mod Refused
+pub mod ScriptError
 -- what public contracts rest on
 pub mod Events
 pub mod Playing

@@ -39,7 +39,7 @@ status_text Running job given = codes "running"
 status_text Forgotten job given = codes "forgotten"
 status_text NotEnoughShares job given = codes "not-enough"
 status_text Inconsistent job given = codes "inconsistent"
-status_text Failed job given = codes "failed"
+status_text (Failed fault) job given = codes "failed"
 
 -- the line of an operation, by its number
 abbrev pub operation_line : ℕ → Operation → List ℕ

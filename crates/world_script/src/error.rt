@@ -2,6 +2,7 @@
 
 ghost use Rattle.std.specs.Prelude.{◌≡◌, ◌<◌, ◌+◌, ◌^◌};
 ghost use Rattle.world_script.specs.Script.{error_at};
+ghost use Rattle.world_script.specs.ScriptError.{refusal_number};
 
 use std::alloc::{AllocError, AllocFailed};
 
@@ -12,6 +13,18 @@ pub enum ScriptError {
     OutOfMemory,
     /// The line of this number, from 1 on, spells no command that may stand there.
     BadScript(usize),
+}
+
+impl ScriptError {
+    /// The number of the refusal.
+    pub fn number(self) -> u8
+        ensures { result ≡ refusal_number self }
+    {
+        match self {
+            ScriptError::OutOfMemory => 1,
+            ScriptError::BadScript(_) => 93,
+        }
+    }
 }
 
 impl From<AllocError> for ScriptError {

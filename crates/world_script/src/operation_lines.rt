@@ -48,7 +48,7 @@ fn status_text(alloc: Global, operation: &Operation) -> Result<String, AllocErro
         Status::Forgotten => String::from_str(alloc, "forgotten"),
         Status::NotEnoughShares => String::from_str(alloc, "not-enough"),
         Status::Inconsistent => String::from_str(alloc, "inconsistent"),
-        Status::Failed => String::from_str(alloc, "failed"),
+        Status::Failed(_) => String::from_str(alloc, "failed"),
     }
 }
 

@@ -23,3 +23,6 @@ returns-clause-given c = λ all.
     let goes : GoesOn Nothing c.args.task.now c.take_piece.new.self = handed c.args.task.now c.take_piece.new.self c.take_piece.result c.take_piece.ensures.takes in
     subst (AreGivenBy c.take_piece.new.self) (sym c.in_ok-push.ensures.ok)
     (given_more c.take_piece.new.self c.args.given.now c.in-Some.piece (λ p among. goes.given p (all p among)) c.in-Some.ensures.given)
+
+pub returns-in_default-clause-goes : goal.returns-in_default-clause-goes
+returns-in_default-clause-goes c = handed c.args.task.now c.take_piece.new.self c.take_piece.result c.take_piece.ensures.takes

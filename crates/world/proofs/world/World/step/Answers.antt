@@ -1,6 +1,7 @@
 use Rattle.std.proofs.Common.{subst}
 use Rattle.world.specs.Binding.{IsBound}
-use Rattle.world.specs.Headline.{IsLater, IsTrusted}
+use Rattle.world.specs.Headline.{IsTrusted}
+use Rattle.world.specs.Later.{IsLater}
 use Rattle.world.specs.State.{WorldValue, state_of}
 use Rattle.world.specs.Repairs.{AreTrustedRepairs}
 use Rattle.world.proofs.Later.{same_world}

@@ -1,8 +1,0 @@
-use Rattle.std.proofs.Common.{◌≡◌, map, take, ℕ, Bor, Vec, Global, List}
-use Rattle.world_operations.proofs.repair.slices_of.Given as goal
-
-abbrev pub invariant-loop-share : goal.invariant-loop-share
-invariant-loop-share l = record {
-  numbers : map (λ (s : ℕ × Bor (List ℕ)). s.0) l.strings.items ≡ map (λ (s : ℕ × Vec ℕ Global). s.0) (take l.share-index l.good);
-  bytes : map (λ (s : ℕ × Bor (List ℕ)). s.1.now) l.strings.items ≡ map (λ (s : ℕ × Vec ℕ Global). s.1.items) (take l.share-index l.good);
-}
