@@ -2,17 +2,21 @@
 
 ghost use Rattle.std.specs.Prelude.{◌≡◌, ◌≤◌, ◌<◌, ◌^◌, IfOk};
 
+use grid_marks::{
+    MAX_SERVERS, add_servers, adopt_grid, can_be_marked, grid_servers_count, make_grid, mark_grid,
+    replace_server,
+};
 use grid_rules::{Fault, Limit, told_path};
 use grid_servers::{
-    Durability, MAX_SERVERS, add_servers, adopt_grid, at_path, can_be_marked, draw_secret,
-    grid_secret, grid_servers_count, keep_secret, make_grid, mark_grid, read_secret_file,
-    replace_server, secret_path, standing_servers,
+    Durability, draw_secret, grid_secret, keep_secret, read_secret_file, secret_path,
+    standing_servers,
 };
 use grid_telling::{Progress, note_limits};
 use grid_words::{InitWords, Marking};
 use std::io::{self, ErrorKind, IsTerminal, Write};
 use std::random::RandomSource;
 use std::rt::{Clock, Files};
+use user_files::at_path;
 
 /// How many servers a new grid has, if nothing else is said.
 const USUAL_SERVERS: u64 = 10;

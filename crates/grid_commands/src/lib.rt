@@ -1,33 +1,29 @@
 //! The commands of `grid`, which keeps files on a grid of servers that need not be trusted.
 //!
 //! `grid` takes the words of the command line and two writers, and gives the exit status. An `init`
-//! marks the folders of a grid and of its servers. A `put` is an upload, a `get` one download or
-//! several in `grid_gets`, a `check` a check, and a `repair` a check and an upload, which
-//! `local_grid` carries on; a `scrub` reads the servers' folders; `world` runs a script, whose text
-//! is read whole before anything runs. Which words there are stands in `grid_words`, and what is
-//! told in `grid_rules` and `grid_telling`.
+//! marks the folders of a grid and of its servers. A `put`, a `check` and a `repair` work on
+//! shares, in `grid_shares`; a `get` is one download or several, in `grid_gets`; a `scrub` reads
+//! the servers' folders; `world` runs a script, whose text is read whole before anything runs.
+//! Which words there are stands in `grid_words`, and what is told in `grid_rules` and
+//! `grid_telling`.
 #![tactic(auto)]
 
-mod check;
 mod faults;
 mod init;
-mod mending;
-mod placing;
-mod put;
-mod repair;
 mod running;
 mod script;
 mod scrub;
-mod streaming;
 
-ghost use Rattle.std.specs.Prelude.{◌≡◌, IfOk};
+ghost use Rattle.std.specs.Prelude.{◌≡◌, IfOk, OnOk};
+ghost use Rattle.std.specs.Io.KnownBytes.{Appends};
 
 use clap::error::ErrorKind;
 use grid_gets::get;
 use grid_rules::{Fault, cap_lines, read_cap, reason_line};
+pub use grid_shares::Environment;
+use grid_shares::{Outcome, check, put, repair};
 use grid_telling::{Failure, Progress, print};
 use grid_words::{Request, read_words};
-use put::Outcome;
 use std::alloc::Global;
 use std::convert::AsStr;
 use std::io::{self, IsTerminal};
@@ -42,18 +38,6 @@ const DONE: u8 = 0;
 const WRONG_WORDS: u8 = 2;
 
 const FAILED: u8 = 7;
-
-// What is told of a cap that holds its file.
-const LITERAL: &[u8] = b"literal\n";
-
-/// What a command takes from outside its words.
-#[derive(Clone, Copy)]
-pub struct Environment<'a> {
-    /// Whether a grid has to be one that `init` marked, as with `--known`.
-    pub known: bool,
-    /// The folder in which a pipe is kept that a `put` cannot hold.
-    pub temporary: &'a str,
-}
 
 /// Runs the command that `words` asks for, of which the first is the program's name. Its result
 /// goes to `out`, and a fault, as one line with its number and name, to `err`. A `get` writes as it
@@ -164,14 +148,12 @@ where
 {
     match request {
         Request::Init(words) => done(print(out, &init::init(rt, words, progress)?)),
-        Request::Put(words) => stored(out, &put::put(rt, words, environment, progress)?),
+        Request::Put(words) => told(out, &put(rt, words, environment, progress)?),
         Request::Get(words) => {
             done(get(rt, words, words.known || environment.known, out, progress))
         }
-        Request::Check(words) => check::check(rt, words, environment, out, progress),
-        Request::Repair(words) => {
-            stored(out, &repair::repair(rt, words, environment, progress)?)
-        }
+        Request::Check(words) => told(out, &check(rt, words, environment, progress)?),
+        Request::Repair(words) => told(out, &repair(rt, words, environment, progress)?),
         Request::Scrub(words) => scrub::scrub(rt, words, environment, out, progress),
         Request::World(path) => script::world(rt, path, out),
         Request::Describe(text) => done(print(out, &describe(rt.alloc(), text)?)),
@@ -183,9 +165,11 @@ fn done(written: Result<(), Failure>) -> Result<u8, Failure> {
     written.map(|()| DONE)
 }
 
-// Writes what was stored, and gives the exit status.
-fn stored<O: io::Write>(out: &mut O, outcome: &Outcome) -> Result<u8, Failure>
-    ensures { IfOk result (λ status. status ≡ outcome.now.status) }
+// Writes what a command came to, and gives the exit status.
+fn told<O: io::Write>(out: &mut O, outcome: &Outcome) -> Result<u8, Failure>
+    ensures status { IfOk result (λ status. status ≡ outcome.now.status) }
+    ensures text { OnOk result (Appends (O.contents out.old) (O.contents out.new)
+        outcome.now.text.items) }
 {
     print(out, &outcome.text)?;
     Ok(outcome.status)

@@ -2,10 +2,10 @@
 
 use crate::running::run_text;
 use grid_rules::{Fault, world_status};
-use grid_servers::{at_path, read_at_most};
 use grid_telling::{Failure, print};
 use std::io::Write;
 use std::rt::Files;
+use user_files::{at_path, read_at_most};
 
 /// The greatest script, in bytes.
 const MAX_SCRIPT_SIZE: u64 = 1 << 40;

@@ -4,9 +4,9 @@
 ghost use Rattle.std.specs.Prelude.{◌<◌, length, IfOk, IfSome};
 
 use crate::Environment;
-use crate::check::asked_servers;
+use grid_marks::{server_folder, try_mark};
 use grid_rules::{Fault, Scrubbed, Verb, finding_json, finding_line, is_memory, server_name};
-use grid_servers::{server_folder, try_mark};
+use grid_servers::asked_servers;
 use grid_telling::{Counting, Failure, Progress, print};
 use grid_words::ScrubWords;
 use share_scrub::{Action, Finding, Handling, Scrub, State};

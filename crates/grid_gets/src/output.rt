@@ -4,13 +4,13 @@ use crate::target::{
     Found, MOST_LINKS, MOST_PARTS, Target, folder_of, found_of, part_name, target_of,
 };
 use grid_rules::Fault;
-use grid_servers::at_path;
 use grid_telling::Failure;
 use std::fs;
 use std::fs::{File, OpenFile, OpenOptions};
 use std::io::{self, ErrorKind, Write};
 use std::path::Path;
 use std::rt::Files;
+use user_files::at_path;
 
 /// What the bytes are written to: a new file beside the one that is to have them, which is renamed
 /// once it is whole, and stays where it does not get whole, but for one that has no byte; or what

@@ -30,15 +30,23 @@ fn words(rt: &HostRuntime) -> io::Result<Vec<String>> {
     Ok(env::args(rt)?.collect(rt.alloc())?)
 }
 
+// Whether a variable could not be read for want of memory.
+fn is_refused(variable: &Result<String, VarError>) -> bool {
+    matches!(variable, Err(VarError::OutOfMemory))
+}
+
 // Runs the command of these words.
 fn run(rt: &HostRuntime, words: &[String]) -> u8 {
     let known = env::var(rt, KNOWN);
     let temporary = env::var(rt, TEMPORARY);
+    if is_refused(&known) || is_refused(&temporary) {
+        let error = io::Error::from(io::ErrorKind::OutOfMemory);
+        return refuse_words(rt.alloc(), &error, &mut rt.stderr());
+    }
     let environment = Environment {
-        // where it cannot be read for want of memory, the stricter way is taken
         known: match &known {
             Ok(value) => value.as_str() == YES,
-            Err(error) => matches!(error, VarError::OutOfMemory),
+            Err(_) => false,
         },
         temporary: match &temporary {
             Ok(folder) => folder.as_str(),

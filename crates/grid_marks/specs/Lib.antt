@@ -1,2 +1,3 @@
 -- What public contracts rest on.
 pub mod Marks
+pub mod Servers

@@ -14,8 +14,8 @@ use std::alloc::Global;
 /// What tells a grid from all others.
 pub type Identity = [u8; 16];
 
-/// The greatest number in a mark.
-pub const MAX_NUMBER: u16 = 256;
+/// The greatest number of servers of a grid, and so the greatest in a mark.
+pub const MAX_SERVERS: u16 = 256;
 
 /// The identity that is made of a seed: the first 16 bytes of its SHA-256.
 pub fn identity_of(seed: &[u8]) -> Identity
@@ -75,13 +75,14 @@ impl Mark {
     pub fn read(alloc: Global, kind: Kind, text: &[u8]) -> Result<Option<Mark>, CapError>
         ensures value { IfOk result
             (λ read. IfSome read (λ mark. (mark.kind ≡ kind) × (text.now ≡ mark_text mark))) }
+        ensures number { IfOk result (λ read. IfSome read (λ mark. mark.number ≤ MAX_SERVERS)) }
         ensures only { (mark : Mark) → IsMark mark → mark.kind ≡ kind → text.now ≡ mark_text mark
             → IfOk result IsSome }
     {
         let Some(identity) = identity_in(text) else {
             return Ok(None);
         };
-        for number in 0..MAX_NUMBER + 1 {
+        for number in 0..MAX_SERVERS + 1 {
             let mark = Mark {
                 identity,
                 kind,

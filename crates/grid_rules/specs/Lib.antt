@@ -1,5 +1,6 @@
 -- what public contracts rest on
 pub mod Fault
+pub mod KeptNumbers
 pub mod CapLines
 pub mod Ending
 pub mod Limits

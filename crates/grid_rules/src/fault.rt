@@ -6,6 +6,7 @@ ghost use Rattle.grid_rules.specs.Fault.{fault_number, fault_of_cap, fault_of_en
 ghost use Rattle.grid_rules.specs.Fault.{fault_of_download, fault_of_loop, fault_of_piece};
 ghost use Rattle.grid_rules.specs.Fault.{fault_of_preparing, fault_of_reading, fault_of_shares};
 ghost use Rattle.grid_rules.specs.Fault.{fault_status};
+ghost use Rattle.grid_rules.specs.KeptNumbers.{NumbersAreKept};
 
 use cap_text::CapError;
 use download_core::status::DownloadError;
@@ -194,6 +195,12 @@ pub fn is_memory(error: &io::Error) -> bool
 {
     error.kind() == ErrorKind::OutOfMemory
 }
+
+/// The law that an error of a crate below keeps its number where it becomes a fault. It does
+/// nothing.
+pub fn numbers_are_kept()
+    ensures { NumbersAreKept }
+{}
 
 impl From<CapError> for Fault {
     ghost from_gives = { λ error fault. fault ≡ fault_of_cap error };

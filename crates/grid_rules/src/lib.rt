@@ -26,7 +26,7 @@ pub use checking::{report_lines, report_status};
 pub use checking_json::{missing_shares, report_json};
 pub use describing::{cap_lines, read_cap};
 pub use ending::{reached_happiness, reached_range_end, world_status};
-pub use fault::{Fault, is_memory};
+pub use fault::{Fault, is_memory, numbers_are_kept};
 pub use limits::Limit;
 pub use paths::told_path;
 pub use progress::{Amount, Remark, Verb, encoding_line, progress_line, seconds_left};

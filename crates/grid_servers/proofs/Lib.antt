@@ -1,5 +1,3 @@
-mod Comparing
-mod Copying
 mod Left
-mod Retrying
 mod Rising
+pub mod Standing

@@ -4,8 +4,6 @@ ghost use Rattle.std.specs.Prelude.{◌≡◌, ◌≤◌, ◌++◌, ◌∷◌, [
 ghost use Rattle.std.specs.String.{string_bytes};
 ghost use Rattle.grid_servers.specs.Secrets.{IsTextOf};
 
-use crate::files::{at_path, read_at_most};
-use crate::publishing::{NewFile, OWNER_ONLY, publish};
 use cap_text::to_base32;
 use file_encoding::MAX_SECRET_SIZE;
 use grid_rules::Fault;
@@ -14,6 +12,7 @@ use std::io::ErrorKind;
 use std::random::RandomSource;
 use std::rt::Files;
 use std::{fs, io};
+use user_files::{NewFile, OWNER_ONLY, at_path, publish, read_at_most};
 
 /// How many random bytes a secret is made of.
 const DRAWN_SIZE: usize = 32;

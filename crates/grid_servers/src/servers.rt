@@ -1,26 +1,30 @@
 //! The servers of a grid, each over its own folder.
 
-ghost use Rattle.std.specs.Prelude.{◌≡◌, ◌≤◌, ◌<◌, length, nat_eq, IfOk, OnOk};
+ghost use Rattle.std.specs.Prelude.{◌≡◌, ◌<◌, ℕ, [], None, get_or, length, nat_eq, IfOk, IfSome};
+ghost use Rattle.std.specs.Prelude.{OnOk};
 ghost use Rattle.std.specs.List.{IsDistinct};
+ghost use Rattle.share_folders.specs.Names.{in_folder};
+ghost use Rattle.grid_rules.specs.ReportLines.{server_name};
+ghost use Rattle.grid_servers.specs.Opened.{AllStand, AreOpened};
 ghost use Rattle.grid_servers.specs.Servers.{servers_without};
 
-use crate::files::if_there;
-use crate::folders::{MAX_SERVERS, server_folder};
-use crate::marks::{grid_mark, try_known};
-use grid_marks::Mark;
+use grid_marks::{MAX_SERVERS, Mark, grid_mark, is_grid, known_grid, server_folder, try_known};
 use grid_rules::{Fault, first_servers, is_memory, told_path};
 use local_grid::grid::LocalGrid;
 use local_grid::link::MemoryLink;
 use local_grid::node::Node;
 use server_core::server::{CAPACITY, Server};
-use share_folders::folder::{FolderStore, Purpose};
+use share_folders::disk::sync_readable_name;
+use share_folders::folder::{Durability, FolderStore, Purpose};
 use share_store::error::StoreError;
 use socket_links::{GridLink, SocketLink, SocketPair, connect, listen};
 use std::alloc::{AllocError, Global};
 use std::fs;
+use std::io::ErrorKind;
 use std::net::Net;
 use std::random::RandomSource;
 use std::rt::Files;
+use user_files::{at_path, if_there, sync_folder};
 use wire::message::NodeId;
 
 /// The session of a command's first operation. Each further one over the same links has the next.
@@ -65,6 +69,21 @@ where
     Ok(servers)
 }
 
+/// The servers of a grid that are asked, of which there is one at least. With `is_known` the grid
+/// has to be marked.
+pub fn asked_servers<R>(rt: &R, grid: &str, is_known: bool) -> Result<Vec<NodeId>, Fault>
+where
+    R: Files + AllocGlobal + Clone + Drop,
+    ensures some { IfOk result (λ servers. 0 < length servers.items) }
+    ensures distinct { IfOk result (λ servers. IsDistinct nat_eq servers.items) }
+{
+    is_grid(rt, grid)?;
+    if is_known {
+        known_grid(rt, grid)?;
+    }
+    some_servers(rt, grid)
+}
+
 /// Whether there is no grid yet: a folder that is not there, or has no mark and no server's folder.
 pub fn is_new_grid<R>(rt: &R, grid: &str) -> Result<bool, Fault>
 where
@@ -93,19 +112,25 @@ where
 }
 
 // Which servers have a name in a grid's folder, by their numbers: one look in place of one for each
-// server. A folder that cannot be read has none.
+// server. A folder that is not there has none, and one that cannot be read is a fault.
 fn named_servers<R>(rt: &R, grid: &str) -> Result<[bool; ALL_SERVERS], Fault>
 where
     R: Files + AllocGlobal + Clone + Drop,
 {
     let mut named = [false; ALL_SERVERS];
-    let Some(entries) = if_there(fs::read_dir(rt, grid))? else {
-        return Ok(named);
+    let entries = match fs::read_dir(rt, grid) {
+        Err(error) if error.kind() == ErrorKind::NotFound => return Ok(named),
+        outcome => at_path(rt.alloc(), outcome, grid)?,
     };
     for entry in entries {
-        if let Some(entry) = if_there(entry)? {
-            if let Some(server) = server_named(entry.file_name()) {
-                named[usize::from(server)] = true;
+        match entry {
+            // a name that is not UTF-8 is no server's
+            Err(error) if error.kind() == ErrorKind::InvalidFilename => {}
+            outcome => {
+                let entry = at_path(rt.alloc(), outcome, grid)?;
+                if let Some(server) = server_named(entry.file_name()) {
+                    named[usize::from(server)] = true;
+                }
             }
         }
     }
@@ -129,14 +154,21 @@ fn is_standing<R: Files + AllocGlobal>(
         return Ok(false);
     }
     let folder = server_folder(rt.alloc(), grid, server)?;
-    let found = if_there(fs::metadata(rt, folder.as_str()))?;
-    Ok(found.is_some_and(|file| file.is_dir()))
+    match fs::metadata(rt, folder.as_str()) {
+        Ok(found) => Ok(found.is_dir()),
+        Err(error) if is_memory(&error) => Err(Fault::OutOfMemory),
+        // one that cannot be asked stands there, and is silent
+        Err(error) => Ok(error.kind() != ErrorKind::NotFound),
+    }
 }
 
-/// These servers over their folders of a grid, which are made where they are not there. They are
-/// asked in memory or over sockets; one to which no connection is made is silent. Those that are
-/// opened for reading take no further shares. In a grid that knows its servers no folder is made,
-/// and one whose folder has not its mark is silent.
+/// These servers over their folders of a grid, which are made for writing where they are not there.
+/// Synced, their names are on the disk then: a fault of the grid's folder where that fails. They
+/// are asked in memory or over sockets; one to which no connection is made is silent, and so is one
+/// whose folder cannot be made or read. Those that are opened for reading take no further shares.
+/// In a grid that knows its servers no folder is made, and one whose folder has not its mark is
+/// silent.
+
 pub fn open_servers<R>(
     rt: &R,
     grid: &str,
@@ -146,6 +178,7 @@ pub fn open_servers<R>(
 ) -> Result<FolderGrid<R>, Fault>
 where
     R: Files + Net + RandomSource + AllocGlobal + Clone + Drop,
+    ensures { IfOk result (AreOpened grid.now) }
 {
     let links = open_links(rt, servers.len(), over_sockets)?;
     let opening = Opening {
@@ -153,6 +186,7 @@ where
         known: grid_mark(rt, grid)?,
         purpose,
     };
+    name_folders(rt, &opening, servers)?;
     let nodes = open_nodes(rt, &opening, servers, links)?;
     Ok(LocalGrid::new(rt.alloc(), nodes))
 }
@@ -166,7 +200,42 @@ struct Opening<'a> {
     purpose: Purpose,
 }
 
+// Has the folders of these servers stand, for writing, and synced puts their names on the disk, all
+// at once. A folder that cannot be made is found missing when its store is opened.
+fn name_folders<R>(rt: &R, opening: &Opening<'_>, servers: &[NodeId]) -> Result<(), Fault>
+where
+    R: Files + AllocGlobal,
+{
+    let Purpose::Writing(durability) = opening.purpose else {
+        return Ok(());
+    };
+    let grid = opening.grid;
+    if opening.known.is_none() && make_folders(rt, grid, servers)? {
+        let named = sync_readable_name(rt, grid, durability);
+        at_path(rt.alloc(), named, grid)?;
+    }
+    match durability {
+        Durability::Synced => at_path(rt.alloc(), sync_folder(rt, grid), grid),
+        Durability::Unsynced => Ok(()),
+    }
+}
+
+// Makes the folders of these servers that are not there and can be made, and says whether there was
+// one.
+fn make_folders<R>(rt: &R, grid: &str, servers: &[NodeId]) -> Result<bool, Fault>
+where
+    R: Files + AllocGlobal,
+{
+    let mut is_one_made = false;
+    for server in servers {
+        let folder = server_folder(rt.alloc(), grid, *server)?;
+        is_one_made |= if_there(fs::create_dir(rt, folder.as_str()))?.is_some();
+    }
+    Ok(is_one_made)
+}
+
 // The servers with these links, each at its number.
+#[tactic(auto, using(crate::proofs::Standing::none_stand))]
 fn open_nodes<R>(
     rt: &R,
     opening: &Opening<'_>,
@@ -175,6 +244,7 @@ fn open_nodes<R>(
 ) -> Result<Vec<Option<ServerNode<R>>>, Fault>
 where
     R: Files + Net + RandomSource + AllocGlobal + Clone + Drop,
+    ensures { IfOk result (λ nodes. AllStand opening.now.grid.now nodes.items) }
 {
     let mut nodes = Vec::new(rt.alloc());
     for (server, link) in servers.iter().zip(links) {
@@ -184,6 +254,7 @@ where
 }
 
 // Puts a server with its link at its number. One whose folder cannot be made or read is silent.
+#[tactic(auto, using(crate::proofs::Standing::set_stand, crate::proofs::Standing::still_stand))]
 fn add_node<R>(
     rt: &R,
     opening: &Opening<'_>,
@@ -193,13 +264,13 @@ fn add_node<R>(
 ) -> Result<(), Fault>
 where
     R: Files + Net + RandomSource + AllocGlobal + Clone + Drop,
+    requires { AllStand opening.now.grid.now nodes.old.items }
+    ensures { OnOk result (AllStand opening.now.grid.now nodes.new.items) }
 {
-    leave_out(nodes, server)?;
-    let node = match open_server(rt, opening, server)? {
-        Some(server) => Some(Node::new(server, link)),
-        None => None,
-    };
-    nodes.push(node)?;
+    make_room(nodes, server)?;
+    if let Some(opened) = open_server(rt, opening, server)? {
+        nodes[usize::from(server)] = Some(Node::new(opened, link));
+    }
     Ok(())
 }
 
@@ -234,18 +305,21 @@ where
     }
 }
 
-// No node stands at the numbers below this one that are left.
-fn leave_out<N: Drop>(nodes: &mut Vec<Option<N>>, server: NodeId) -> Result<(), AllocError>
-    ensures long { OnOk result (server ≤ length nodes.new.items) }
+// Makes room for the numbers up to this one, at which nothing stands that did not stand there.
+#[tactic(auto, using(crate::proofs::Standing::padded_itself, crate::proofs::Standing::padded_more))]
+fn make_room<N: Drop>(nodes: &mut Vec<Option<N>>, server: NodeId) -> Result<(), AllocError>
+    ensures long { OnOk result (server < length nodes.new.items) }
+    ensures same { OnOk result ((number : ℕ)
+        → get_or nodes.new.items number None ≡ get_or nodes.old.items number None) }
 {
-    for _ in nodes.len()..usize::from(server) {
+    for _ in nodes.len()..usize::from(server) + 1 {
         nodes.push(None)?;
     }
     Ok(())
 }
 
-// The server over its folder, if that can be made and read, and has its mark in a grid that knows
-// its servers.
+// The server over its folder, if that is there and can be read, and has its mark in a grid that
+// knows its servers.
 fn open_server<R>(
     rt: &R,
     opening: &Opening<'_>,
@@ -253,6 +327,8 @@ fn open_server<R>(
 ) -> Result<Option<Server<FolderStore<R>>>, Fault>
 where
     R: Files + RandomSource + AllocGlobal + Clone + Drop,
+    ensures { IfOk result (λ opened. IfSome opened (λ s. (s.store.folder
+        ≡ in_folder opening.now.grid.now (server_name server)) × (s.buckets ≡ []))) }
 {
     if let Some(known) = &opening.known {
         if if_there(try_known(rt, opening.grid, server, known))?.is_none() {
@@ -260,7 +336,7 @@ where
         }
     }
     let folder = server_folder(rt.alloc(), opening.grid, server)?;
-    match FolderStore::open(rt, folder.as_str(), opening.purpose) {
+    match FolderStore::open_standing(rt, folder.as_str(), opening.purpose) {
         Ok(store) => Ok(Some(serving(rt.alloc(), store))),
         Err(StoreError::StoreFault) => Ok(None),
         Err(StoreError::OutOfMemory) => Err(Fault::OutOfMemory),
@@ -271,6 +347,7 @@ where
 fn serving<R>(alloc: Global, store: FolderStore<R>) -> Server<FolderStore<R>>
 where
     R: Files + AllocGlobal + Clone + Drop,
+    ensures { (result.store ≡ store) × (result.buckets ≡ []) }
 {
     let readonly = store.is_readonly();
     Server::start(alloc, store, CAPACITY, readonly)

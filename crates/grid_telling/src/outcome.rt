@@ -1,10 +1,11 @@
 //! How a command ends that does not do all that was asked.
 
-ghost use Rattle.std.specs.Prelude.{◌≡◌};
+ghost use Rattle.std.specs.Prelude.{◌≡◌, OnOk};
+ghost use Rattle.std.specs.Io.KnownBytes.{Appends};
 
 use grid_rules::Fault;
 use std::alloc::AllocError;
-use std::io::Write;
+use std::io::{self, Write};
 
 /// Why a command ended without its result.
 #[derive(Drop)]
@@ -36,9 +37,20 @@ impl From<AllocError> for Failure {
 }
 
 /// Writes bytes of a result, and all that was written before them.
-pub fn print<O: Write>(out: &mut O, bytes: &[u8]) -> Result<(), Failure> {
-    if out.write_all(bytes).is_err() || out.flush().is_err() {
-        return Err(Failure::Writer);
+pub fn print<O: Write>(out: &mut O, bytes: &[u8]) -> Result<(), Failure>
+    ensures { OnOk result (Appends (O.contents out.old) (O.contents out.new) bytes.now) }
+{
+    match write_flushed(out, bytes) {
+        Ok(()) => Ok(()),
+        Err(_) => Err(Failure::Writer),
     }
-    Ok(())
+}
+
+// Writes bytes, and sends them on.
+#[tactic(auto, using(crate::proofs::Flushing::appended_kept))]
+fn write_flushed<O: Write>(out: &mut O, bytes: &[u8]) -> io::Result<()>
+    ensures { OnOk result (Appends (O.contents out.old) (O.contents out.new) bytes.now) }
+{
+    out.write_all(bytes)?;
+    out.flush()
 }

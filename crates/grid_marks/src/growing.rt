@@ -1,0 +1,229 @@
+//! How a grid that knows its servers gets a new disk for one, or servers more.
+
+ghost use Rattle.std.specs.Prelude.{◌≡◌, ◌↔◌, ◌≤◌, ◌<◌, ◌+◌, IfOk, IfSome, IfNone, IsOk, IsTrue};
+ghost use Rattle.grid_marks.specs.Servers.{IsAlike, IsPassedOver};
+
+use crate::folders::server_folder;
+use crate::init::{claim, part_path, replace_part};
+use crate::mark::{Kind, MAX_SERVERS, Mark};
+use crate::marking::{has_own_mark, mark_server, note_folder, note_seen, standing_folder};
+use crate::marks::{known_mark, mark_path};
+use grid_rules::{Fault, first_servers, told_path};
+use std::alloc::Global;
+use std::fs::Metadata;
+use std::io::ErrorKind;
+use std::random::RandomSource;
+use std::rt::Files;
+use std::{fs, io};
+use user_files::{at_path, sync_folder};
+use wire::message::NodeId;
+
+// What the name of a mark begins with that is not whole yet.
+const MARK_BEGUN: &[u8] = b"grid-mark.";
+
+/// Gives a server's folder, which is new and empty, the server's mark, as where its disk was lost.
+/// A folder `lost+found` may stand in it. The mark is on the disk then.
+///
+/// `UnknownGrid` where the grid has no mark, `BadParameters` where it has no such server, a fault
+/// of the folder where it does not stand, `SameFolder` and `OtherMark` where it has another mark,
+/// `NotEmpty` where it holds anything, and `SameFolder` where it is another server's folder too.
+/// Nothing is written then.
+pub fn replace_server<R>(rt: &R, grid: &str, server: NodeId) -> Result<(), Fault>
+where
+    R: Files + RandomSource + AllocGlobal + Clone + Drop,
+    ensures { IsOk result → server < MAX_SERVERS }
+{
+    let known = known_mark(rt, grid)?;
+    if server >= known.number {
+        return Err(Fault::BadParameters);
+    }
+    has_own_mark(rt, grid, server, &known)?;
+    refuse_full(rt, grid, server)?;
+    refuse_shared(rt, grid, server, &known)?;
+    mark_server(rt, grid, server, &known)
+}
+
+// Refuses a server's folder that does not stand, or is not empty.
+fn refuse_full<R>(rt: &R, grid: &str, server: NodeId) -> Result<(), Fault>
+where
+    R: Files + AllocGlobal + Clone + Drop,
+{
+    let alloc = rt.alloc();
+    let folder = server_folder(alloc, grid, server)?;
+    if at_path(alloc, is_empty(rt, folder.as_str()), folder.as_str())? {
+        return Ok(());
+    }
+    Err(Fault::NotEmpty(told_path(alloc, folder.as_str())?))
+}
+
+// Whether a folder holds nothing but what a new server's may.
+fn is_empty<R>(rt: &R, folder: &str) -> io::Result<bool>
+where
+    R: Files + AllocGlobal + Clone + Drop,
+{
+    for entry in fs::read_dir(rt, folder)? {
+        match entry {
+            Ok(entry) if is_passed_over(entry.file_name()) => {}
+            Ok(_) => return Ok(false),
+            Err(error) if error.kind() == ErrorKind::InvalidFilename => return Ok(false),
+            Err(error) => return Err(error),
+        }
+    }
+    Ok(true)
+}
+
+// Whether a new server's folder may hold this: what a file system makes, and its mark, also where
+// an earlier call was cut off.
+fn is_passed_over(name: &str) -> bool
+    ensures { IsTrue result ↔ IsPassedOver name.now }
+{
+    name == "lost+found" || name == "grid-mark" || name.as_bytes().starts_with(MARK_BEGUN)
+}
+
+// Refuses a server's folder that another server of the grid has too.
+fn refuse_shared<R>(rt: &R, grid: &str, server: NodeId, known: &Mark) -> Result<(), Fault>
+where
+    R: Files + AllocGlobal,
+{
+    let alloc = rt.alloc();
+    let mut folders = Vec::new(alloc);
+    let mut others = first_servers(alloc, known.number)?;
+    others.retain(|other| *other != server);
+    note_seen(rt, grid, others.as_slice(), &mut folders)?;
+    match standing_folder(rt, grid, server)? {
+        Some(folder) => note_folder(alloc, &mut folders, &folder, server),
+        None => Ok(()),
+    }
+}
+
+/// Has a grid that knows its servers know so many more, and gives how many they are then. Their
+/// folders are made where they are not there. The marks are on the disk when this ends; a call that
+/// was cut off leaves the old number, and can be made again.
+///
+/// `UnknownGrid` where the grid has no mark, `BadParameters` where the servers were more than 256,
+/// `SameFolder` and `OtherMark` as of `mark_grid`. `AlreadyGrid` where another call at the same
+/// time, or one that was cut off, adds another number of servers, and where another came to its end
+/// first.
+pub fn add_servers<R>(rt: &R, grid: &str, more: u16) -> Result<u16, Fault>
+where
+    R: Files + RandomSource + AllocGlobal + Clone + Drop,
+    ensures { IfOk result (λ servers. (more ≤ servers) × (servers ≤ MAX_SERVERS)) }
+{
+    let old = known_mark(rt, grid)?;
+    let Some(new) = grown(&old, more) else {
+        return Err(Fault::BadParameters);
+    };
+    refuse_new(rt, grid, &old, &new)?;
+    begin_growth(rt, grid, &old, &new)?;
+    for server in old.number..new.number {
+        mark_server(rt, grid, server, &new)?;
+    }
+    end_growth(rt, grid, &old, &new)?;
+    Ok(new.number)
+}
+
+// The mark of a grid with so many servers more. None where they are too many.
+fn grown(old: &Mark, more: u16) -> Option<Mark>
+    ensures fits { IfSome result (λ new. (new.identity ≡ old.now.identity)
+        × (new.kind ≡ Kind.Grid) × (new.number ≡ old.now.number + more)
+        × (new.number ≤ MAX_SERVERS)) }
+    ensures none { IfNone result (MAX_SERVERS < old.now.number + more) }
+{
+    let number = old.number.checked_add(more)?;
+    if number > MAX_SERVERS {
+        return None;
+    }
+    Some(Mark {
+        identity: old.identity,
+        kind: Kind::Grid,
+        number,
+    })
+}
+
+// Refuses new servers' folders that other servers have too, or that have another mark.
+fn refuse_new<R>(rt: &R, grid: &str, old: &Mark, new: &Mark) -> Result<(), Fault>
+where
+    R: Files + AllocGlobal,
+{
+    let alloc = rt.alloc();
+    let mut folders = Vec::new(alloc);
+    let known = first_servers(alloc, old.number)?;
+    note_seen(rt, grid, known.as_slice(), &mut folders)?;
+    for server in old.number..new.number {
+        if let Some(folder) = standing_folder(rt, grid, server)? {
+            note_folder(alloc, &mut folders, &folder, server)?;
+        }
+        has_own_mark(rt, grid, server, new)?;
+    }
+    Ok(())
+}
+
+/// What a mark that was begun with is to a call that makes a grid greater.
+#[derive(Clone, Copy)]
+enum Begun {
+    /// Its own: another call was cut off, or is about the same.
+    Same,
+    /// Of a call that came to its end.
+    Stale,
+    /// Of a call that adds another number of servers.
+    Other,
+}
+
+// What a mark that was begun with is to the growth from one mark to another.
+fn begun_as(begun: &Mark, old: &Mark, new: &Mark) -> Begun
+    ensures same { (result ≡ Begun.Same) ↔ IsAlike new.now begun.now }
+    ensures other { result ≡ Begun.Other → (begun.now.identity ≡ old.now.identity)
+        × (old.now.number < begun.now.number) }
+    ensures stale { result ≡ Begun.Stale → begun.now.identity ≡ old.now.identity
+        → begun.now.number ≤ old.now.number }
+{
+    let (one, wanted, known) = (begun.identity, new.identity, old.identity);
+    if one == wanted && begun.number == new.number {
+        return Begun::Same;
+    }
+    if one == known && begun.number > old.number {
+        return Begun::Other;
+    }
+    Begun::Stale
+}
+
+// Begins with a grid's new mark, or goes on with it.
+fn begin_growth<R>(rt: &R, grid: &str, old: &Mark, new: &Mark) -> Result<(), Fault>
+where
+    R: Files + RandomSource + AllocGlobal,
+{
+    let begun = claim(rt, grid, new)?;
+    match begun_as(&begun, old, new) {
+        Begun::Same => Ok(()),
+        Begun::Stale => {
+            replace_part(rt, grid, new)?;
+            Ok(())
+        }
+        Begun::Other => Err(Fault::AlreadyGrid),
+    }
+}
+
+// Puts a grid's new mark in the place of the old one, if that still stands there.
+fn end_growth<R>(rt: &R, grid: &str, old: &Mark, new: &Mark) -> Result<(), Fault>
+where
+    R: Files + RandomSource + AllocGlobal,
+{
+    if !is_alike(&known_mark(rt, grid)?, old) || !is_alike(&claim(rt, grid, new)?, new) {
+        return Err(Fault::AlreadyGrid);
+    }
+    let alloc = rt.alloc();
+    let (part, path) = (part_path(alloc, grid)?, mark_path(alloc, grid)?);
+    match fs::rename(rt, part.as_str(), path.as_str()) {
+        Ok(()) => at_path(alloc, sync_folder(rt, grid), grid),
+        Err(error) if error.kind() == ErrorKind::NotFound => Err(Fault::AlreadyGrid),
+        Err(error) => at_path(alloc, Err(error), path.as_str()),
+    }
+}
+
+// Whether two marks of a grid say the same.
+fn is_alike(one: &Mark, other: &Mark) -> bool
+    ensures { IsTrue result ↔ IsAlike other.now one.now }
+{
+    let (first, second) = (one.identity, other.identity);
+    first == second && one.number == other.number
+}

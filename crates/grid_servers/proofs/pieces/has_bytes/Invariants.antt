@@ -1,6 +1,0 @@
-use Rattle.std.proofs.Common.{◌<◌, length}
-use Rattle.grid_servers.proofs.Comparing.{IsLeft}
-use Rattle.grid_servers.proofs.pieces.has_bytes.Given as goal
-
-abbrev pub invariant-loop : goal.invariant-loop
-invariant-loop g l = IsLeft (g.F.Read.remaining l.fn.reader) (g.F.Read.remaining l.reader) l.bytes l.left × (0 < length l.buffer)

@@ -1,0 +1,111 @@
+-- What the end of an upload comes to.
+use Rattle.std.proofs.Common.{◌≡◌, ◌==◌, ℕ, List, [], ◌∷◌, length, true, refl, map, arith, Result, Ok, Err, IfOk, sym, subst, ◌∙◌}
+use Rattle.std.proofs.lemmas.Result.{IfOk-weaker}
+use Rattle.std.proofs.lemmas.Bool.{eqb-true}
+use Rattle.request_record.specs.Operations.{OperationCalls}
+use Rattle.share_store.specs.Calls.{Calls}
+use Rattle.share_folders.specs.Folder.{FolderState, folder_calls}
+use Rattle.upload_core.specs.Moves.{Begins}
+use Rattle.upload_core.specs.Right.{IsRight}
+use Rattle.upload_core.specs.Sending.{Uploading}
+use Rattle.upload_core.specs.declared.status.UploadStatus.{UploadStatus}
+use Rattle.upload_core.specs.declared.status.UploadStatus.TheVariants.{Running, Happy, Unhappy, Failed}
+use Rattle.local_grid.specs.Nodes.{Carries}
+use Rattle.local_grid.specs.Turns.{GridState}
+use Rattle.carried_operations.specs.Stored.{IsCarried, IsStored}
+use Rattle.carried_operations.proofs.Storing.{stored}
+use Rattle.grid_rules.specs.Ending.{ending_of}
+use Rattle.grid_rules.specs.Servers.{server_of}
+use Rattle.grid_rules.specs.declared.fault.Fault.{Fault}
+use Rattle.grid_servers.specs.Opened.{AreOpened}
+use Rattle.std.specs.List.{range_with_len}
+use Rattle.std.proofs.Common.{Bool}
+use Rattle.cap_text.specs.Cap.{ReadCapValue}
+use Rattle.grid_shares.specs.Placing.{ArePlaced, AreUploaded, MadeShares}
+use Rattle.file_encoding.specs.Params.{UploadParameters}
+use Rattle.file_upload.specs.Prepared.{Prepared, prepared_of}
+use Rattle.file_upload.specs.declared.prepared.FileUpload.{FileUpload}
+use Rattle.file_upload.specs.declared.prepared.FileUpload.TheVariants.{Shares}
+use Rattle.streamed_upload.specs.Ready as streamed
+use Rattle.streamed_upload.specs.Streamed.{Streaming}
+use Rattle.upload_core.specs.State.{Goal}
+use Rattle.grid_shares.specs.Puts.{IsPutOf, IsToldOf, made_of, streamed_of, whole_calls}
+use Rattle.grid_shares.specs.declared.Outcome.{Outcome}
+use Rattle.grid_shares.specs.declared.placing.Stored.{Stored}
+
+-- a list of no length is empty
+pub none_left : (xs : List ℕ) → (length xs == 0) ≡ true → xs ≡ []
+none_left [] e = refl
+none_left (x ∷ xs) e = absurd (omega (arith, eqb-true (length (x ∷ xs)) 0 e))
+
+module _ {P S L : Type 0} (operation : OperationCalls (Uploading P)) (calls : Calls S) (carries : Carries L) (begun ended : Uploading P) (old new : GridState S L) where
+  by_status : (wanted : ℕ) (status : UploadStatus) → status ≡ ended.course.status → IsCarried operation calls carries begun old ended new → IsRight ended.course
+      → IfOk (ending_of wanted status) (λ happiness. IsStored operation calls carries begun old new happiness)
+  by_status wanted Running is c right = tt
+  by_status wanted (Happy pairs) is c right = stored operation calls carries begun ended old new pairs c right (sym is)
+  by_status wanted (Unhappy few blocking) is c right = tt
+  by_status wanted (Failed fault) is c right = tt
+
+  -- a happiness that was reached
+  reached : (r : Result ℕ Fault) (wanted : ℕ) (status : UploadStatus) → r ≡ ending_of wanted status → status ≡ ended.course.status → IsCarried operation calls carries begun old ended new → IsRight ended.course
+      → IfOk r (λ happiness. IsStored operation calls carries begun old new happiness)
+  reached r wanted status e is c right = subst (λ (x : Result ℕ Fault). IfOk x (λ happiness. IsStored operation calls carries begun old new happiness)) (sym e) (by_status wanted status is c right)
+
+module _ {P L : Type 0} (operation : OperationCalls (Uploading P)) (carries : Carries L) (grid servers : List ℕ) (made : MadeShares P) where
+  -- shares whose upload was carried to its end
+  pub uploaded : (before after : GridState FolderState L) (begun ended : Uploading P) (now : ℕ) (r : Result ℕ Fault) (wanted : ℕ) (status : UploadStatus)
+      → r ≡ ending_of wanted status → status ≡ ended.course.status → IsRight ended.course → AreOpened grid before → now ≡ before.clock
+      → Begins made.goal made.happy (map server_of servers) 1 now begun.course → begun.pieces ≡ made.pieces → IsCarried operation folder_calls carries begun before ended after
+      → IfOk r (AreUploaded operation carries grid servers made)
+  uploaded before after begun ended now r wanted status e same right opened clock begins pieces carried =
+      IfOk-weaker r _ _ (λ happiness stored. record {
+        before = before;
+        opened = opened;
+        begun = begun;
+        begins = subst (λ (n : ℕ). Begins made.goal made.happy (map server_of servers) 1 n begun.course) clock begins;
+        pieces = pieces;
+        after = after;
+        stored = stored;
+      })
+      (reached operation folder_calls carries begun ended before after r wanted status e same carried right)
+
+  -- the same servers
+  pub used_as : (happiness : ℕ) (used : List ℕ) → servers ≡ used → AreUploaded operation carries grid servers made happiness → AreUploaded operation carries grid used made happiness
+  used_as happiness used same u = subst (λ (s : List ℕ). AreUploaded operation carries grid s made happiness) same u
+
+  -- what is told of shares that were placed on the first servers
+  pub put_of : (count : ℕ) (used : List ℕ) (s : Stored) (cap : ReadCapValue) (quiet : Bool) → used ≡ range_with_len 0 count → ArePlaced operation carries grid used made s
+      → (outcome : Outcome) → IsToldOf cap quiet s outcome → IsPutOf operation carries grid made cap quiet outcome
+  put_of count used s cap quiet first placed outcome told = record {
+    count = count;
+    stored = s;
+    placed = subst (λ (x : List ℕ). ArePlaced operation carries grid x made s) first placed;
+    told = told;
+  }
+
+same_shares : (p q : Prepared) → Shares p ≡ Shares q → p ≡ q
+same_shares p q e = cc
+
+-- what a file was encoded as, by the secret as it was given
+pub encoded_as : (r : Result FileUpload Fault) (encoded : FileUpload) (file given secret : List ℕ) (p : UploadParameters) → r ≡ Ok encoded → given ≡ secret
+    → IfOk r (λ u. u ≡ Shares (prepared_of file given p)) → encoded ≡ Shares (prepared_of file secret p)
+encoded_as r encoded file given secret p was same is =
+    subst (λ (s : List ℕ). encoded ≡ Shares (prepared_of file s p)) same (subst (λ (x : Result FileUpload Fault). IfOk x (λ u. u ≡ Shares (prepared_of file given p))) was is)
+
+module _ {L : Type 0} (carries : Carries L) (grid : List ℕ) (quiet : Bool) where
+  -- what is told of the shares of a file that was encoded whole
+  pub held_put : (encoded : FileUpload) (upload p : Prepared) (m : MadeShares (List (List ℕ))) (cap : ReadCapValue) → encoded ≡ Shares upload → encoded ≡ Shares p → m ≡ made_of upload → cap ≡ upload.cap
+      → (outcome : Outcome) → IsPutOf whole_calls carries grid m cap quiet outcome → IsPutOf whole_calls carries grid (made_of p) p.cap quiet outcome
+  held_put encoded upload p m cap is same made own outcome put =
+      subst (λ (q : Prepared). IsPutOf whole_calls carries grid (made_of q) q.cap quiet outcome) (same_shares upload p (sym is ∙ same))
+      (subst (λ (x : ReadCapValue). IsPutOf whole_calls carries grid (made_of upload) x quiet outcome) own
+      (subst (λ (x : MadeShares (List (List ℕ))). IsPutOf whole_calls carries grid x cap quiet outcome) made put))
+
+  -- those of a file that was read twice
+  pub streamed_put : {S : Type 0} (operation : OperationCalls (Uploading (Streaming S))) (m : MadeShares (Streaming S)) (cap : ReadCapValue) (happy : ℕ)
+      → m.goal ≡ streamed.goal_of m.pieces.kept → m.happy ≡ happy → cap ≡ m.pieces.kept.cap
+      → (outcome : Outcome) → IsPutOf operation carries grid m cap quiet outcome → IsPutOf operation carries grid (streamed_of m.pieces happy) m.pieces.kept.cap quiet outcome
+  streamed_put {S = S} operation m cap happy goal wanted own outcome put =
+      subst (λ (x : ReadCapValue). IsPutOf operation carries grid (streamed_of m.pieces happy) x quiet outcome) own
+      (subst (λ (n : ℕ). IsPutOf operation carries grid (record { pieces = m.pieces; goal = streamed.goal_of m.pieces.kept; happy = n }) cap quiet outcome) wanted
+      (subst (λ (x : Goal). IsPutOf operation carries grid (record { pieces = m.pieces; goal = x; happy = m.happy }) cap quiet outcome) goal put))

@@ -1,0 +1,56 @@
+-- What a check and a repair come to.
+use Rattle.std.proofs.Common.{◌≡◌, ℕ, List, ◌++◌, Bool, Option, Some, None, Result, Ok, Err, IfOk, IfSome, codes, decimal, sym, subst, ap, ◌∙◌}
+use Rattle.std.specs.Option.{ok_or}
+use Rattle.cap_text.specs.Cap.{VerifyCapValue}
+use Rattle.share_folders.specs.Folder.{FolderState, folder_calls}
+use Rattle.checker.specs.Good.{AreGoodShares}
+use Rattle.checker.specs.Moves.{Begins}
+use Rattle.checker.specs.Report.{IsReport}
+use Rattle.checker.specs.State.{CheckState}
+use Rattle.checker.specs.declared.status.Report.{Report}
+use Rattle.local_grid.specs.Nodes.{Carries}
+use Rattle.local_grid.specs.Turns.{GridState}
+use Rattle.carried_operations.specs.Checked.{IsCarried}
+use Rattle.grid_rules.specs.ReportLines.{report_status}
+use Rattle.grid_servers.specs.Opened.{AreOpened}
+use Rattle.grid_shares.specs.Checks.{IsCheckOf, IsChecked, check_text}
+use Rattle.grid_shares.specs.Placing.{ArePlaced, MadeShares}
+use Rattle.grid_shares.specs.Puts.{stored_status, whole_calls}
+use Rattle.grid_shares.specs.Repairs.{AreFoundBy, AreMadeOf, IsRepairOf}
+use Rattle.grid_shares.specs.declared.Outcome.{Outcome}
+use Rattle.grid_shares.specs.declared.placing.Stored.{Stored}
+
+-- what is there is handed out
+pub told_ok : {A E : Type 0} (o : Option A) (e : E) (r : Result A E) (P Q : A → Type 0) → r ≡ ok_or o e → ((a : A) → P a → Q a) → IfSome o P → IfOk r Q
+told_ok (Some a) e r P Q is weaker p = subst (λ (x : Result _ _). IfOk x Q) (sym is) (weaker a p)
+told_ok None e r P Q is weaker p = subst (λ (x : Result _ _). IfOk x Q) (sym is) tt
+
+module _ {L : Type 0} (carries : Carries L) (grid : List ℕ) (cap : VerifyCapValue) (servers : List ℕ) where
+  -- a check that was carried, and its report
+  pub checked : (begun ended : CheckState) (before after : GridState FolderState L) (now : ℕ) → AreOpened grid before → now ≡ before.clock → Begins cap servers 1 now begun
+      → IsCarried folder_calls carries begun before ended after → (r : Report) → IsReport ended.cap ended.requests.entries r → IsChecked carries grid cap servers r
+  checked begun ended before after now opened clock begins carried r report = record {
+    before = before;
+    opened = opened;
+    begun = begun;
+    begins = subst (λ (n : ℕ). Begins cap servers 1 n begun) clock begins;
+    ended = ended;
+    after = after;
+    carried = carried;
+    report = subst (λ (x : VerifyCapValue). IsReport x ended.requests.entries r) (carried.cap ∙ begins.of_cap) report;
+  }
+
+  -- good shares that a check found
+  pub found_by : (begun ended : CheckState) (before after : GridState FolderState L) (now : ℕ) → AreOpened grid before → now ≡ before.clock → Begins cap servers 1 now begun
+      → IsCarried folder_calls carries begun before ended after
+      → (numbers : List ℕ) (strings : List (List ℕ)) → AreGoodShares ended.cap ended.requests.entries numbers strings → AreFoundBy carries grid cap servers numbers strings
+  found_by begun ended before after now opened clock begins carried numbers strings good = record {
+    before = before;
+    opened = opened;
+    begun = begun;
+    begins = subst (λ (n : ℕ). Begins cap servers 1 n begun) clock begins;
+    ended = ended;
+    after = after;
+    carried = carried;
+    good = subst (λ (x : VerifyCapValue). AreGoodShares x ended.requests.entries numbers strings) (carried.cap ∙ begins.of_cap) good;
+  }

@@ -1,0 +1,40 @@
+-- What a check tells.
+use Rattle.std.specs.Prelude.{◌≡◌, ℕ, List, Bool, if◌then◌else◌}
+use Rattle.cap_text.specs.Cap.{VerifyCapValue}
+use Rattle.share_folders.specs.Folder.{FolderState, folder_calls}
+use Rattle.checker.specs.Moves.{Begins}
+use Rattle.checker.specs.Report.{IsReport}
+use Rattle.checker.specs.State.{CheckState}
+use Rattle.checker.specs.declared.status.Report.{Report}
+use Rattle.local_grid.specs.Nodes.{Carries}
+use Rattle.local_grid.specs.Turns.{GridState}
+use Rattle.carried_operations.specs.Checked.{IsCarried}
+use Rattle.grid_rules.specs.ReportJson.{report_json}
+use Rattle.grid_rules.specs.ReportLines.{report_lines, report_status}
+use Rattle.grid_servers.specs.Opened.{AreOpened}
+use Rattle.grid_shares.specs.declared.Outcome.{Outcome}
+
+-- A check of these servers of a grid, each over its own folder, was begun and carried to its end,
+-- and this is its report: by what they answered in its turns.
+pub record IsChecked {L : Type 0} (carries : Carries L) (grid : List ℕ) (cap : VerifyCapValue)
+    (servers : List ℕ) (r : Report) : Type 0 where
+  pub before : GridState FolderState L
+  pub opened : AreOpened grid before
+  pub begun : CheckState
+  pub begins : Begins cap servers 1 before.clock begun
+  pub ended : CheckState
+  pub after : GridState FolderState L
+  pub carried : IsCarried folder_calls carries begun before ended after
+  pub report : IsReport cap ended.requests.entries r
+
+-- the lines of a report, or its objects
+abbrev pub check_text : Report → ℕ → Bool → List ℕ
+check_text r total json = if json then report_json r total else report_lines r
+
+-- What is told of a cap's file, and the exit status.
+pub record IsCheckOf {L : Type 0} (carries : Carries L) (grid : List ℕ) (cap : VerifyCapValue)
+    (servers : List ℕ) (json strict : Bool) (outcome : Outcome) : Type 0 where
+  pub report : Report
+  pub checked : IsChecked carries grid cap servers report
+  pub told : outcome.text.items ≡ check_text report cap.total json
+  pub status_is : outcome.status ≡ report_status report strict

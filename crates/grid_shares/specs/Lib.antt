@@ -1,0 +1,5 @@
+-- what public contracts rest on
+pub mod Placing
+pub mod Puts
+pub mod Checks
+pub mod Repairs

@@ -1,0 +1,44 @@
+-- What is placed, and what placing it came to.
+use Rattle.std.specs.Prelude.{◌≡◌, ℕ, List, [], true, map}
+use Rattle.request_record.specs.Operations.{OperationCalls}
+use Rattle.upload_core.specs.Moves.{Begins}
+use Rattle.upload_core.specs.Sending.{Uploading}
+use Rattle.upload_core.specs.State.{Goal}
+use Rattle.share_folders.specs.Folder.{FolderState, folder_calls}
+use Rattle.local_grid.specs.Nodes.{Carries}
+use Rattle.local_grid.specs.Turns.{GridState}
+use Rattle.carried_operations.specs.Stored.{IsStored}
+use Rattle.grid_rules.specs.Servers.{server_of}
+use Rattle.grid_servers.specs.Opened.{AreOpened}
+use Rattle.grid_servers.specs.Servers.{servers_without}
+use Rattle.grid_shares.specs.declared.placing.Stored.{Stored}
+
+-- The shares of a file, all made: where their bytes come from, what they have to be, and how many
+-- servers are to hold one of their own.
+pub record MadeShares (P : Type 0) : Type 0 where
+  pub pieces : P
+  pub goal : Goal
+  pub happy : ℕ
+
+-- Shares were uploaded to these servers of a grid, each over its own folder: their upload was begun
+-- with all of these servers, and is stored with this happiness.
+pub record AreUploaded {P L : Type 0} (operation : OperationCalls (Uploading P))
+    (carries : Carries L) (grid : List ℕ) (servers : List ℕ) (made : MadeShares P)
+    (happiness : ℕ) : Type 0 where
+  pub before : GridState FolderState L
+  pub opened : AreOpened grid before
+  pub begun : Uploading P
+  pub begins : Begins made.goal made.happy (map server_of servers) 1 before.clock begun.course
+  pub pieces : begun.pieces ≡ made.pieces
+  pub after : GridState FolderState L
+  pub stored : IsStored operation folder_calls carries begun before after happiness
+
+-- Shares were placed on servers of a grid: uploaded to all of them but some at which what stood
+-- under the shares' names could not be set aside.
+pub record ArePlaced {P L : Type 0} (operation : OperationCalls (Uploading P))
+    (carries : Carries L) (grid : List ℕ) (servers : List ℕ) (made : MadeShares P)
+    (stored : Stored) : Type 0 where
+  pub stuck : List ℕ
+  pub none : stored.is_cleared ≡ true → stuck ≡ []
+  pub uploaded : AreUploaded operation carries grid (servers_without servers stuck) made
+      stored.happiness

@@ -1,0 +1,68 @@
+-- What a put tells.
+use Rattle.std.specs.Prelude.{◌≡◌, ℕ, List, ◌++◌, Bool, if◌then◌else◌, codes, decimal, length, map}
+use Rattle.std.specs.List.{range_with_len}
+use Rattle.cap_text.specs.Cap.{ReadCapValue}
+use Rattle.cap_text.specs.CapText.{lit_cap_text, read_cap_text}
+use Rattle.file_upload.specs.Prepared.{Prepared, goal_of}
+use Rattle.streamed_upload.specs.Ready as streamed
+use Rattle.streamed_upload.specs.Streamed.{GaveBytes, GaveNone, Streaming}
+use Rattle.request_record.specs.Operations.{OperationCalls}
+use Rattle.upload_core.specs.Calls.{upload_calls}
+use Rattle.upload_core.specs.Pieces.{piece_of}
+use Rattle.upload_core.specs.Sending.{Uploading}
+use Rattle.local_grid.specs.Nodes.{Carries}
+use Rattle.grid_shares.specs.Placing.{ArePlaced, MadeShares}
+use Rattle.grid_shares.specs.declared.Outcome.{Outcome}
+use Rattle.grid_shares.specs.declared.placing.Stored.{Stored}
+
+-- the line of a cap, and one that says how many servers hold a share of their own; or the first
+-- alone
+abbrev pub put_lines : ReadCapValue → ℕ → Bool → List ℕ
+put_lines cap happiness quiet = read_cap_text cap
+    ++ (if quiet then codes "\n" else codes "\nhappiness " ++ (decimal happiness ++ codes "\n"))
+
+-- the line of the cap that holds a file
+pub record IsLiteralOf (file : List ℕ) (outcome : Outcome) : Type 0 where
+  pub told : outcome.text.items ≡ lit_cap_text file ++ codes "\n"
+  pub done : outcome.status ≡ 0
+
+-- the exit status, by whether all was set aside that is none of the file's shares
+abbrev pub stored_status : Bool → ℕ
+stored_status is_cleared = if is_cleared then 0 else 5
+
+-- the lines of what was stored, and the exit status
+pub record IsToldOf (cap : ReadCapValue) (quiet : Bool) (stored : Stored) (outcome : Outcome)
+    : Type 0 where
+  pub told : outcome.text.items ≡ put_lines cap stored.happiness quiet
+  pub status_is : outcome.status ≡ stored_status stored.is_cleared
+
+-- Shares that were made are placed on the first servers of a grid, so many, and this is told.
+pub record IsPutOf {P L : Type 0} (operation : OperationCalls (Uploading P)) (carries : Carries L)
+    (grid : List ℕ) (made : MadeShares P) (cap : ReadCapValue) (quiet : Bool) (outcome : Outcome)
+    : Type 0 where
+  pub count : ℕ
+  pub stored : Stored
+  pub placed : ArePlaced operation carries grid (range_with_len 0 count) made stored
+  pub told : IsToldOf cap quiet stored outcome
+
+-- the shares of a file that was encoded whole
+abbrev pub made_of : Prepared → MadeShares (List (List ℕ))
+made_of p = record { pieces = p.shares; goal = goal_of p; happy = p.happy }
+
+-- those of a file that was read twice, which are made again from its source
+abbrev pub streamed_of : {S : Type 0} → Streaming S → ℕ → MadeShares (Streaming S)
+streamed_of s happy = record { pieces = s; goal = streamed.goal_of s.kept; happy = happy }
+
+-- the calls of an upload of whole shares
+abbrev pub whole_calls : OperationCalls (Uploading (List (List ℕ)))
+whole_calls = upload_calls
+    (λ shares share offset bytes after.
+    (bytes ≡ piece_of shares share offset (length bytes)) × (after ≡ shares))
+    (λ shares share offset len fault after. ⊥)
+
+-- those of an upload whose shares are made again from a source
+abbrev pub streamed_calls : {S : Type 0} → (S → ℕ → List ℕ → S → Type 0) → (S → ℕ)
+    → OperationCalls (Uploading (Streaming S))
+streamed_calls gives failures = upload_calls
+    (λ s share offset bytes after. GaveBytes gives s share offset bytes after)
+    (λ s share offset len fault after. GaveNone gives failures s fault after)

@@ -1,0 +1,53 @@
+-- What a repair tells.
+use Rattle.std.specs.Prelude.{◌≡◌, ℕ, List, ◌++◌, codes, decimal}
+use Rattle.cap_text.specs.Cap.{VerifyCapValue}
+use Rattle.file_encoding.specs.Regenerated.{AreRegenerated}
+use Rattle.file_encoding.specs.RemadeLaws.{ArePassing}
+use Rattle.file_upload.specs.Shares.{shares_goal}
+use Rattle.share_folders.specs.Folder.{FolderState, folder_calls}
+use Rattle.checker.specs.Good.{AreGoodShares}
+use Rattle.checker.specs.Moves.{Begins}
+use Rattle.checker.specs.State.{CheckState}
+use Rattle.local_grid.specs.Nodes.{Carries}
+use Rattle.local_grid.specs.Turns.{GridState}
+use Rattle.carried_operations.specs.Checked.{IsCarried}
+use Rattle.grid_servers.specs.Opened.{AreOpened}
+use Rattle.grid_shares.specs.Placing.{ArePlaced, MadeShares}
+use Rattle.grid_shares.specs.Puts.{stored_status, whole_calls}
+use Rattle.grid_shares.specs.declared.Outcome.{Outcome}
+use Rattle.grid_shares.specs.declared.placing.Stored.{Stored}
+
+-- A check of these servers of a grid, each over its own folder, was begun and carried to its end,
+-- and these are good shares that it found, with their numbers.
+pub record AreFoundBy {L : Type 0} (carries : Carries L) (grid : List ℕ) (cap : VerifyCapValue)
+    (servers numbers : List ℕ) (strings : List (List ℕ)) : Type 0 where
+  pub before : GridState FolderState L
+  pub opened : AreOpened grid before
+  pub begun : CheckState
+  pub begins : Begins cap servers 1 before.clock begun
+  pub ended : CheckState
+  pub after : GridState FolderState L
+  pub carried : IsCarried folder_calls carries begun before ended after
+  pub good : AreGoodShares cap ended.requests.entries numbers strings
+
+-- All shares of the cap's file, made anew of these, for so many servers. Each passes for the cap.
+pub record AreMadeOf (cap : VerifyCapValue) (happy : ℕ) (numbers : List ℕ)
+    (strings : List (List ℕ)) (made : MadeShares (List (List ℕ))) : Type 0 where
+  pub goal : made.goal ≡ shares_goal cap made.pieces
+  pub happy_is : made.happy ≡ happy
+  pub anew : AreRegenerated cap numbers strings made.pieces
+  pub passing : ArePassing cap made.pieces
+
+-- A check found good shares of a cap's file, of which all shares were made anew; these were placed
+-- on the same servers, and this is told.
+pub record IsRepairOf {L : Type 0} (carries : Carries L) (grid : List ℕ) (cap : VerifyCapValue)
+    (happy : ℕ) (servers : List ℕ) (outcome : Outcome) : Type 0 where
+  pub numbers : List ℕ
+  pub strings : List (List ℕ)
+  pub found : AreFoundBy carries grid cap servers numbers strings
+  pub made : MadeShares (List (List ℕ))
+  pub anew : AreMadeOf cap happy numbers strings made
+  pub stored : Stored
+  pub placed : ArePlaced whole_calls carries grid servers made stored
+  pub told : outcome.text.items ≡ codes "happiness " ++ (decimal stored.happiness ++ codes "\n")
+  pub status_is : outcome.status ≡ stored_status stored.is_cleared

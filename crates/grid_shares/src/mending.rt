@@ -1,0 +1,142 @@
+//! The way is cleared for the shares of a file, once all of them are made: what stands in the
+//! servers' folders under the names of its shares, and is none of them, is set aside.
+
+ghost use Rattle.std.specs.Prelude.{◌≡◌, None, Some, if◌then◌else◌, option_map};
+
+use crate::placing::Placing;
+use grid_marks::{server_folder, try_mark};
+use grid_rules::{Fault, is_memory, server_name, told_path};
+use grid_telling::Progress;
+use share_scrub::{Cleared, LeftShare, Wanted, clear_way};
+use share_store::error::StoreError;
+use std::alloc::Global;
+use std::io::{IsTerminal, Write};
+use std::rt::{Clock, Files};
+use std::time::SystemTime;
+use upload_core::status::UploadGoal;
+use wire::message::NodeId;
+
+// What the files of a share's storage index are held against: the length of the shares that were
+// made, and with `mend` their digests too.
+fn wanted_of<'a>(goal: &'a UploadGoal, mend: bool, now: SystemTime) -> Wanted<'a>
+    ensures index { result.index ≡ goal.now.cap.storage_index }
+    ensures length { result.length ≡ goal.now.share_length }
+    ensures digests { option_map (λ d. d.now) result.digests
+        ≡ (if mend then Some goal.now.digests else None) }
+{
+    Wanted {
+        index: *goal.cap().storage_index(),
+        length: goal.share_length().get(),
+        digests: if mend { Some(goal.digests()) } else { None },
+        now,
+    }
+}
+
+/// Clears the way for shares at each of the servers, and gives those at which a share could not be
+/// set aside, in their order. Each such share is told. A folder that cannot be read is passed over,
+/// and so is one without its mark in a grid that knows its servers: its server will be silent.
+pub(crate) fn clear_servers<R, E>(
+    rt: &R,
+    placing: &Placing<'_>,
+    goal: &UploadGoal,
+    progress: &mut Progress<'_, R, E>,
+) -> Result<Vec<NodeId>, Fault>
+where
+    R: Files + Clock + AllocGlobal + Clone + Drop,
+    E: Write + IsTerminal,
+{
+    // without a clock no open file is left over
+    let now = SystemTime::now(rt).unwrap_or(SystemTime::UNIX_EPOCH);
+    let wanted = wanted_of(goal, placing.mend, now);
+    let mut stuck = Vec::new(rt.alloc());
+    for server in placing.servers {
+        if !clear_server(rt, placing.grid, *server, &wanted, progress)? {
+            stuck.push(*server)?;
+        }
+    }
+    Ok(stuck)
+}
+
+// The same at one server. False where a share could not be set aside.
+fn clear_server<R, E>(
+    rt: &R,
+    grid: &str,
+    server: NodeId,
+    wanted: &Wanted<'_>,
+    progress: &mut Progress<'_, R, E>,
+) -> Result<bool, Fault>
+where
+    R: Files + Clock + AllocGlobal + Clone + Drop,
+    E: Write + IsTerminal,
+{
+    match try_mark(rt, grid, server) {
+        Ok(()) => {}
+        Err(error) if is_memory(&error) => return Err(Fault::OutOfMemory),
+        Err(_) => return Ok(true),
+    }
+    let folder = server_folder(rt.alloc(), grid, server)?;
+    match clear_way(rt, folder.as_str(), wanted, progress) {
+        Ok(cleared) => {
+            tell_cleared(rt.alloc(), server, folder.as_str(), &cleared, progress)?;
+            Ok(cleared.left.is_empty())
+        }
+        Err(StoreError::OutOfMemory) => Err(Fault::OutOfMemory),
+        Err(StoreError::StoreFault) => Ok(true),
+    }
+}
+
+// Tells what was done in a server's folder, and always what could not be done.
+fn tell_cleared<R, E>(
+    alloc: Global,
+    server: NodeId,
+    folder: &str,
+    cleared: &Cleared,
+    progress: &mut Progress<'_, R, E>,
+) -> Result<(), Fault>
+where
+    R: Clock + AllocGlobal,
+    E: Write + IsTerminal,
+{
+    let name = server_name(alloc, server)?;
+    if cleared.set_aside != 0 {
+        let count = cleared.set_aside;
+        let line = format!(in alloc; "{name} mended: damaged shares set aside: {count}\n")?;
+        progress.note(line.as_str());
+    }
+    if cleared.open_removed != 0 {
+        let count = cleared.open_removed;
+        let line = format!(in alloc; "{name} cleared: open shares removed: {count}\n")?;
+        progress.note(line.as_str());
+    }
+    for share in cleared.odd.as_slice() {
+        let line = format!(in alloc; "{name} share {share}: no regular file has its name\n")?;
+        progress.note(line.as_str());
+    }
+    tell_left(
+        alloc,
+        name.as_str(),
+        folder,
+        cleared.left.as_slice(),
+        progress,
+    )
+}
+
+// Tells the shares that could not be set aside, each with the system's reason.
+fn tell_left<R, E>(
+    alloc: Global,
+    name: &str,
+    folder: &str,
+    left: &[LeftShare],
+    progress: &mut Progress<'_, R, E>,
+) -> Result<(), Fault>
+where
+    R: Clock + AllocGlobal,
+    E: Write + IsTerminal,
+{
+    for LeftShare { share, reason } in left {
+        let path = told_path(alloc, folder)?;
+        let line = format!(in alloc; "{name} {share} not-set-aside: {reason} ({path})\n")?;
+        progress.tell(line.as_str());
+    }
+    Ok(())
+}
