@@ -45,7 +45,7 @@ fn multiples_are_added_byte_by_byte(rt: HostRuntime) -> Result<(), Fail> {
     Ok(())
 }
 
-// Bytes that differ from position to place.
+// Bytes that differ from position to position.
 fn sample(step: u8) -> [u8; 65] {
     let mut bytes = [0u8; 65];
     for i in 0..65 {

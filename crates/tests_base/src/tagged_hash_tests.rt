@@ -4,7 +4,8 @@
 use aes_ctr::Aes128;
 use std::test::Fail;
 use tagged_hash::{
-    KeyHasher, Tag, TaggedHasher, convergent_key, empty_leaf, pair, storage_index, tagged,
+    KeyHasher, Tag, TaggedHasher, WaitingHasher, convergent_key, empty_leaf, hashed_eight, pair,
+    storage_index, tagged,
 };
 
 #[test]
@@ -25,7 +26,12 @@ fn hashes_under_each_tag(rt: HostRuntime) {
     }
 }
 
-// 200 times the letter a, over several blocks of SHA-256.
+// The hash of 200 times the letter a under the tag of blocks, over several blocks of SHA-256.
+const LETTERS: [u8; 32] = [
+    0x70, 0x1c, 0x91, 0x79, 0xf7, 0xdd, 0x6f, 0xd7, 0x40, 0x07, 0xd8, 0xfb, 0x8b, 0x92, 0x85, 0x70,
+    0x08, 0x89, 0x0e, 0x39, 0xeb, 0x47, 0xdd, 0x57, 0x2d, 0x2b, 0x62, 0x49, 0x9d, 0xba, 0x11, 0xed,
+];
+
 #[test]
 fn pieces_make_one_message(rt: HostRuntime) {
     let message = [b'a'; 200];
@@ -34,12 +40,23 @@ fn pieces_make_one_message(rt: HostRuntime) {
     hasher.update(&message[..1]);
     hasher.update(&message[1..65]);
     hasher.update(&message[65..]);
-    let hash = [
-        0x70, 0x1c, 0x91, 0x79, 0xf7, 0xdd, 0x6f, 0xd7, 0x40, 0x07, 0xd8, 0xfb, 0x8b, 0x92, 0x85,
-        0x70, 0x08, 0x89, 0x0e, 0x39, 0xeb, 0x47, 0xdd, 0x57, 0x2d, 0x2b, 0x62, 0x49, 0x9d, 0xba,
-        0x11, 0xed,
-    ];
-    assert!(rt; hasher.finish() == hash);
+    assert!(rt; hasher.finish() == LETTERS);
+}
+
+// The same where the last letters wait, and are hashed beside what waits for seven others.
+#[test]
+fn what_waits_is_hashed_side_by_side(rt: HostRuntime) {
+    let message = [b'a'; 200];
+    let mut own = WaitingHasher::new(rt.alloc(), Tag::Block);
+    own.update(&message[..65]);
+    own.update(&message[65..]);
+    let mut other = WaitingHasher::new(rt.alloc(), Tag::Block);
+    other.update(b"b");
+    let eight = hashed_eight(&[&other, &other, &own, &other, &other, &other, &other, &other]);
+    let [_a, _b, third, fourth, _e, _f, _g, _h] = eight;
+    assert!(rt; third.finish() == LETTERS);
+    assert!(rt; fourth.finish() != LETTERS);
+    assert!(rt; own.finish() == LETTERS);
 }
 
 #[test]

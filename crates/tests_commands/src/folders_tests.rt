@@ -1,6 +1,7 @@
 //! Why a server cannot serve, of folders that are there, are missing, or are none.
 
-use grid_servers::{Durability, Purpose, folder_fault, make_grid, server_folder};
+use grid_marks::{folder_fault, make_grid, server_folder};
+use grid_servers::{Durability, Purpose};
 use std::io::ErrorKind;
 use std::test::Fail;
 use std::{fs, io};

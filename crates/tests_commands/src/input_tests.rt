@@ -1,7 +1,6 @@
 //! What is read of a file, of standard input, or of what can be read once.
 
 use grid_rules::Fault;
-use grid_servers::{Input, open_input};
 use std::alloc::{Allocator, Global};
 use std::fs::{Metadata, OpenOptions};
 use std::io::{BufRead, Lines, Read};
@@ -9,6 +8,7 @@ use std::random::RandomSource;
 use std::rt::Files;
 use std::test::Fail;
 use std::{fs, io};
+use user_files::{Input, open_input};
 
 // The host, where standard input is what stands at this path, at a position that is told by what
 // stands at another, and has these bytes left where it is read once.

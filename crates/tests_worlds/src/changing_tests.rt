@@ -3,6 +3,7 @@
 
 use crate::course::{goes, right_ones};
 use crate::steps::{Case, File, Liars, Step};
+use upload_core::pieces::PieceFault;
 use world_operations::status::Status;
 
 const ZEROS: File = File::Filled(0, 1, 1);
@@ -37,7 +38,7 @@ static CHANGING: [Case; 5] = [
             Step::Drain,
             Step::Download(0, OTHERS, 0, 56),
             Step::Drain,
-            Step::Ends(0, Status::Failed, 0, 0, 0),
+            Step::Ends(0, Status::Failed(PieceFault::SourceChanged), 0, 0, 0),
             Step::Ends(1, Status::NotEnoughShares, 0, 0, 0),
             Step::Ends(2, Status::NotEnoughShares, 0, 0, 0),
         ],
@@ -52,7 +53,7 @@ static CHANGING: [Case; 5] = [
             Step::Drain,
             Step::Download(0, OTHERS, 0, 56),
             Step::Drain,
-            Step::Ends(0, Status::Failed, 0, 0, 0),
+            Step::Ends(0, Status::Failed(PieceFault::SourceChanged), 0, 0, 0),
             Step::Ends(1, Status::NotEnoughShares, 0, 0, 0),
             Step::Ends(2, Status::NotEnoughShares, 0, 0, 0),
         ],
@@ -113,7 +114,7 @@ static NOT_KEPT: Case = Case {
         Step::Drain,
         Step::Download(0, OTHERS, 0, 56),
         Step::Drain,
-        Step::Ends(0, Status::Failed, 0, 0, 0),
+        Step::Ends(0, Status::Failed(PieceFault::SourceChanged), 0, 0, 0),
         Step::Ends(1, Status::NotEnoughShares, 0, 0, 0),
         Step::Ends(2, Status::NotEnoughShares, 0, 0, 0),
     ],

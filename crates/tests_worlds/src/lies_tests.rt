@@ -13,9 +13,9 @@ const OWN: File = File::Filled(0, 2, 3);
 // A file of the same size.
 const OTHER: File = File::Filled(255, 2, 3);
 
-// The shares of both have 36 bytes of header, 28 of data up to place 64, three trees of one node
-// each, and from position 160 on three share hashes. At position 262 stands the length of the
-// extension block, and at position 266 its text.
+// The shares of both have 36 bytes of header, 28 of data up to offset 64, three trees of one node
+// each, and from offset 160 on three share hashes. At offset 262 stands the length of the extension
+// block, and at offset 266 its text.
 
 // What a check finds.
 const UEB: Verdict = Verdict::Corrupt(Check::Ueb);
