@@ -107,5 +107,6 @@ int mkdir(const char *path, mode_t mode) { return mkdirat(AT_FDCWD, path, mode);
 int unlinkat(int dir, const char *path, int flags) { return path_fails("unlink", path) ? -1 : syscall(SYS_unlinkat, dir, path, flags); }
 int unlink(const char *path) { return unlinkat(AT_FDCWD, path, 0); }
 int statx(int dir, const char *restrict path, int flags, unsigned mask, struct statx *restrict to) {
-    return path_fails("statx", path) ? -1 : syscall(SYS_statx, dir, path, flags, mask, to);
+    if (path[0] ? path_fails("statx", path) : file_fails("statx", dir)) return -1;
+    return syscall(SYS_statx, dir, path, flags, mask, to);
 }

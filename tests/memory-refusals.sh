@@ -18,11 +18,16 @@ request_record/src/entries.rt:return Err(AllocError);
 download_file/src/reader.rt:return Err(AllocError);
 grid_rules/src/ending.rt:DownloadStatus::Failed => Err(Fault::OutOfMemory),
 grid_rules/src/fault.rt:return Fault::OutOfMemory;
-grid_commands/src/check.rt:check.report(rt.alloc())?.ok_or(Fault::OutOfMemory)
-grid_commands/src/lib.rt:_ => report(alloc, err, &Fault::OutOfMemory, false),
-grid_commands/src/repair.rt:check.good_shares(alloc)?.ok_or(Fault::OutOfMemory)
+grid_shares/src/checking.rt:check.report(rt.alloc())?.ok_or(Fault::OutOfMemory)
+grid_commands/src/lib.rt:_ => report(alloc, err, &Fault::OutOfMemory),
+grid_shares/src/repairing.rt:check.good_shares(rt.alloc())?.ok_or(Fault::OutOfMemory)
+grid_shares/src/repairing.rt:let report = check.report(rt.alloc())?.ok_or(Fault::OutOfMemory)?;
 grid_commands/src/scrub.rt:return Err(Failure::Fault(Fault::OutOfMemory));
+grid_main/src/main.rt:let error = io::Error::from(io::ErrorKind::OutOfMemory);
 upload_core/src/ending.rt:*status = UploadStatus::Failed(PieceFault::OutOfMemory);
+world_operations/src/status.rt:Life::Refused => Status::Failed(PieceFault::OutOfMemory),
+world_operations/src/status.rt:DownloadStatus::Failed => Status::Failed(PieceFault::OutOfMemory),
+world_operations/src/status.rt:CheckStatus::Failed => Status::Failed(PieceFault::OutOfMemory),
 world/src/world.rt:Err(WorldError::OutOfMemory)
 END
 )

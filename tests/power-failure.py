@@ -1,6 +1,6 @@
 """Makes each folder that a power failure can leave of a recorded run, and looks at its shares.
 
-    python3 power-failure.py RECORD ROOT
+    python3 power-failure.py RECORD ROOT [FILE NEW [OLD]]
 
 RECORD is what the library of record.c tells of a run below the folder ROOT, which stood before it
 and was empty. A power failure may come after any call. Then what was synced is there, and each
@@ -10,8 +10,13 @@ folders are made with all these parts, with none, with all but one, and with one
 
 A share is told closed once its folder was synced after the rename, or once the program wrote to
 standard output. It has to be there then, whole; and no file with a closed name may have other bytes
-than its name tells. Each fault has a line, up to ten of them. The last line counts the calls, the
-folders and the faults; the status is 0 where there are none, 2 where nothing was recorded.
+than its name tells.
+
+With FILE, a path in ROOT, the run is to give FILE the bytes of the file NEW; it had those of OLD
+before, or was not there. At each call FILE has to be one of both, and NEW's at the end.
+
+Each fault has a line, up to ten of them. The last line counts the calls, the folders and the
+faults; the status is 0 where there are none, 2 where nothing was recorded.
 """
 
 import base64
@@ -26,9 +31,9 @@ TAG = b"24:grid_core_whole_share_v1,"
 
 
 class File:
-    def __init__(self):
-        self.bytes = bytearray()
-        self.synced = 0
+    def __init__(self, data=b""):
+        self.bytes = bytearray(data)
+        self.synced = len(data)
         self.digests = {}
 
     def digest(self, length):
@@ -65,6 +70,14 @@ class Run:
         self.root = root
         self.files, self.by_inode = [], {}
         self.changes, self.entries, self.told = [], {}, set()
+        self.before, self.watched, self.wanted = {}, None, ()
+        self.found = 0
+
+    def watch(self, path, new, old=None):
+        """A file that is to be made, or replaced."""
+        self.watched, self.wanted = path, (old, new)
+        if old is not None:
+            self.entries[path] = self.before[path] = File(old)
 
     def take(self, words, data):
         call, rest = words[0], words[1:]
@@ -125,7 +138,7 @@ class Run:
 
     def faults(self, left_out):
         """What is wrong in the folder without these parts."""
-        folders, entries = {self.root}, {}
+        folders, entries = {self.root}, dict(self.before)
         for change in self.changes:
             if change not in left_out:
                 change.apply(folders, entries)
@@ -136,6 +149,11 @@ class Run:
             length = file.synced if file in left_out else len(file.bytes)
             if is_closed(path) and file.digest(length) != digest_in(path):
                 yield path, f"has {length} of {len(file.bytes)} bytes"
+        if self.watched:
+            file = there.get(self.watched)
+            length = file.synced if file in left_out else len(file.bytes) if file else 0
+            if (bytes(file.bytes[:length]) if file else None) not in self.wanted:
+                yield self.watched, "is neither the old one nor the new one"
 
     def stands(self, path, folders):
         """Whether all folders above a path are there."""
@@ -165,24 +183,41 @@ def calls_of(record):
         yield words, record.read(int(words[3])) if words[0] == b"write" else b""
 
 
-def main(record, root):
-    run, calls, folders, faults = Run(os.path.normpath(os.fsencode(root))), 0, 0, 0
+def contents(path):
+    with open(path, "rb") as file:
+        return file.read()
+
+
+def look(run, after):
+    """Makes the folders that can be left now, and gives how many they are."""
+    folders = 0
+    for left_out in run.choices():
+        folders += 1
+        for path, fault in run.faults(left_out):
+            run.found += 1
+            if run.found <= MOST_LINES:
+                print(f"{after}: {os.path.relpath(path, run.root).decode()} {fault}")
+    return folders
+
+
+def main(record, root, file=None, *watched):
+    run, calls, folders = Run(os.path.normpath(os.fsencode(root))), 0, 0
+    if file:
+        run.watch(os.path.normpath(os.fsencode(file)), *map(contents, watched))
     with open(record, "rb") as lines:
         for words, data in calls_of(lines):
             run.take(words, data)
             calls += 1
-            for left_out in run.choices():
-                folders += 1
-                for path, fault in run.faults(left_out):
-                    faults += 1
-                    if faults <= MOST_LINES:
-                        name = os.path.relpath(path, run.root).decode()
-                        print(f"after call {calls}, {words[0].decode()}: {name} {fault}")
-    print(f"calls {calls} folders {folders} told {len(run.told)} faults {faults}")
-    if not run.told:
+            folders += look(run, f"after call {calls}, {words[0].decode()}")
+    if file:
+        run.wanted = run.wanted[1:]
+        run.told.add(run.watched)
+        look(run, "at the end")
+    print(f"calls {calls} folders {folders} told {len(run.told)} faults {run.found}")
+    if not run.told or not calls:
         sys.exit(2)
-    sys.exit(1 if faults else 0)
+    sys.exit(1 if run.found else 0)
 
 
 if __name__ == "__main__":
-    main(sys.argv[1], sys.argv[2])
+    main(*sys.argv[1:])

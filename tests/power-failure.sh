@@ -1,5 +1,5 @@
 #!/bin/sh
-# What a power failure leaves of the shares of a `put`.
+# What a power failure leaves of the shares of a `put`, and of the file of a `get -o`.
 #
 #     tests/power-failure.sh [PROGRAM [WORD..]]
 #
@@ -10,7 +10,8 @@
 # (`tests/power-failure.py`). This is done for three puts into one grid, of two files and then of
 # the first again, and for a put that is killed after each of its calls and made again. The first
 # put makes the grid's folder and the one above it, in a folder that stands before, as a disk that
-# is mounted does.
+# is mounted does. It is also done for a `get -o FILE` where a file stands there, and where none
+# does: FILE is that one or the whole new one.
 #
 # It needs gcc, nm and python3. Each record has a line, `calls N folders N told N faults N`, after
 # lines for its first faults. The status is 0 where there are no faults, 1 where there are, 2 where
@@ -48,18 +49,23 @@ begin() {
     mkdir "$room/disk" || exit 2
 }
 
-# Puts a file, and records it. With a number it ends after so many calls.
+# Puts a file, and records it. With a number it ends after so many calls. That it made a grid is not
+# shown.
 puts() {
     put_file=$1 put_end=$2
     shift 2
     RECORD_ROOT=$room/disk RECORD_FILE=$room/record RECORD_END=$put_end LD_PRELOAD=$room/record.so \
-        "$program" put "$room/$put_file" --grid "$room/disk/above/grid" "$@" > /dev/null
+        "$program" put "$room/$put_file" --grid "$room/disk/above/grid" "$@" \
+        > /dev/null 2> "$room/err"
+    put_status=$?
+    grep -v '^made ' "$room/err" >&2
+    return $put_status
 }
 
 # Looks at what a power failure leaves of the record.
 status=0
 looks() {
-    python3 "$here/tests/power-failure.py" "$room/record" "$room/disk"
+    python3 "$here/tests/power-failure.py" "$room/record" "$room/disk" "$@"
     case $? in
         0) ;;
         1) status=1 ;;
@@ -72,6 +78,21 @@ for file in large small large; do
     puts "$file" 0 "$@" || exit 2
 done
 looks
+
+# Gets the large file to FILE, at which the small one stands or nothing.
+gets() {
+    RECORD_ROOT=$room/disk RECORD_FILE=$room/record LD_PRELOAD=$room/record.so \
+        "$program" get "$cap" --grid "$room/grid" -o "$room/disk/FILE" || exit 2
+}
+
+cap=$("$program" put "$room/large" --grid "$room/grid" -q 2> /dev/null) || exit 2
+begin
+cp "$room/small" "$room/disk/FILE" || exit 2
+gets
+looks "$room/disk/FILE" "$room/large" "$room/small"
+begin
+gets
+looks "$room/disk/FILE" "$room/large"
 
 end=0
 ended=9

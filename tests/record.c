@@ -4,8 +4,11 @@
    went well: `mkdir PATH`, `create INODE PATH`, `write INODE PLACE LENGTH` with the bytes after the line, `cut INODE LENGTH`,
    `rename FROM TO`, `remove PATH`, `sync INODE` of a file, `syncdir PATH` of a folder, and `told` where bytes go to standard output.
    Words are parted by tabs; a second name of a file is `link FROM TO`. With RECORD_END the program ends with status 9 right after so
-   many of these calls, as one that is killed. With RECORD_STOP it stops itself after so many of them and of the looks at names there,
-   until it is sent a CONT. */
+   many of these calls, as one that is killed.
+
+   With RECORD_STOP it stops itself after so many of them and of the looks there, until it is sent a CONT. A look is a name that is
+   asked, a folder that is read, and a file that is opened and was there: with RECORD_LOOKS each has a line `look PATH` too. With
+   RECORD_LATER the program ends, once it went on behind that stop, with status 9 right after so many renames, links and removals. */
 #define _GNU_SOURCE
 #include <errno.h>
 #include <fcntl.h>
@@ -24,6 +27,8 @@ static size_t root_length;
 static int record = -1;
 static long left = -1;
 static long until = -1;
+static long later = -1;
+static int is_behind, has_looks;
 
 __attribute__((constructor)) static void begin(void) {
     const char *file = getenv("RECORD_FILE");
@@ -32,6 +37,8 @@ __attribute__((constructor)) static void begin(void) {
     root_length = strlen(root);
     if (getenv("RECORD_END")) left = atol(getenv("RECORD_END"));
     if (getenv("RECORD_STOP")) until = atol(getenv("RECORD_STOP"));
+    if (getenv("RECORD_LATER")) later = atol(getenv("RECORD_LATER"));
+    has_looks = getenv("RECORD_LOOKS") != NULL;
     record = syscall(SYS_openat, AT_FDCWD, file, O_CREAT | O_WRONLY | O_APPEND | O_CLOEXEC, 0600);
 }
 
@@ -41,7 +48,10 @@ static void put(const void *bytes, size_t length) {
 
 /* A call is made: the program goes on, or stops here. */
 static void passed(void) {
-    if (until > 0 && --until == 0) kill(getpid(), SIGSTOP);
+    if (until > 0 && --until == 0) {
+        kill(getpid(), SIGSTOP);
+        is_behind = 1;
+    }
 }
 
 /* A call is recorded: the program goes on, or ends here. */
@@ -58,7 +68,21 @@ static void tell(const char *form, ...) {
     va_end(more);
     if (length < 0 || length >= (int)sizeof line) abort();
     put(line, length);
+    int is_moving = strncmp(line, "rename", 6) == 0 || strncmp(line, "link", 4) == 0 || strncmp(line, "remove", 6) == 0;
+    if (is_behind && is_moving && later > 0 && --later == 0) syscall(SYS_exit_group, 9);
     if (strncmp(line, "write", 5) != 0) done();
+}
+
+/* A look was made. */
+static void looked(const char *path) {
+    int error = errno;
+    if (has_looks) {
+        put("look\t", 5);
+        put(path, strlen(path));
+        put("\n", 1);
+    }
+    passed();
+    errno = error;
 }
 
 /* Whether a path is below the folder, or the folder itself. A relative one is made absolute. */
@@ -103,6 +127,7 @@ int openat(int dir, const char *path, int flags, ...) {
     int file = syscall(SYS_openat, dir, path, flags, mode);
     if (file >= 0 && is_new) tell("create\t%lu\t%s\n", (unsigned long)stat_of(file).st_ino, whole);
     if (file >= 0 && below && !is_new && (flags & O_TRUNC)) tell("cut\t%lu\t0\n", (unsigned long)stat_of(file).st_ino);
+    else if (below && !is_new) looked(whole);
     return file;
 }
 int open(const char *path, int flags, ...) {
@@ -190,10 +215,16 @@ int linkat(int dir, const char *from, int to_dir, const char *to, int flags) {
 }
 int link(const char *from, const char *to) { return linkat(AT_FDCWD, from, AT_FDCWD, to, 0); }
 
-/* A look at a name is not recorded, but the program may stop behind it. */
 int statx(int dir, const char *restrict path, int flags, unsigned mask, struct statx *restrict to) {
     char whole[4096];
     int outcome = syscall(SYS_statx, dir, path, flags, mask, to);
-    if (path[0] && is_below(dir, path, whole)) passed();
+    if (path[0] && is_below(dir, path, whole)) looked(whole);
     return outcome;
+}
+
+ssize_t getdents64(int file, void *to, size_t length) {
+    char whole[4096];
+    ssize_t got = syscall(SYS_getdents64, file, to, length);
+    if (is_open_below(file, whole)) looked(whole);
+    return got;
 }

@@ -15,11 +15,13 @@
 #   memory  malloc, calloc, realloc, reallocarray, memalign, aligned_alloc, posix_memalign: the run
 #           ends with status 7 and the line `grid: 1 OutOfMemory` on standard error, and nothing on
 #           standard output but, of `get`, a beginning of the file; or exactly as without.
-#   files   open, read, write, rename, mkdir, stat, the reading of folders and their like, which
-#           answer EIO: the run ends with status 7 and `grid: 90 FileFault PATH`; with status 7
-#           alone where the write to standard output itself failed; or exactly as without. At 1 of
-#           1, `get` may also end with status 5 and `grid: 71 NotEnoughShares` where the call was on
-#           a server's folder: what a server does not give counts as not there.
+#   files   open, read, write, rename, mkdir, stat, sync, the reading of folders and their like,
+#           which answer EIO: the run ends with status 7 and `grid: 90 FileFault PATH`, after a line
+#           with the system's reason; with status 7 and `grid: 99 OutputFault` where the write to
+#           standard output itself failed; or exactly as without. Where the call was on a server's
+#           folder, or put the name of one on the disk, `put` may end with fewer servers, or with
+#           status 4 and `grid: 70 Unhappy`, and `get` at 1 of 1 with status 5 and
+#           `grid: 71 NotEnoughShares`: what a server does not give counts as not there.
 # After each `put` a file under a closed name is, byte by byte, the share that stands there without
 # a fault. A script of a world, an upload, a download and a check of 56 bytes at 3 of 10, is run in
 # the same way where memory is refused: it ends with `grid: 1 OutOfMemory` too, or with an operation
@@ -54,7 +56,7 @@ program=${1:-$("$here/grid" --program)}
 [ -x "$program" ] || { echo "$program: no program" >&2; exit 2; }
 case $program in /*) ;; *) program=$PWD/$program ;; esac
 
-room=$(mktemp -d) || exit 2
+room=$(cd "$(mktemp -d)" && pwd -P) || exit 2
 trap 'rm -rf "$room"' EXIT
 trap 'exit 2' HUP INT TERM
 cd "$room" || exit 2
@@ -68,15 +70,17 @@ make_file() {
 runs=0
 differed=0
 
-# Runs a program with these words; of the calls of kind $1, call $2 fails. The folders that an ended
-# test left are removed: they are named by its process.
+# Runs a program with these words; of the calls of kind $1, call $2 fails. That a put made a grid is
+# not kept of what it tells. The folders that an ended test left are removed: they are named by its
+# process.
 run() {
     of=$1 at=$2
     shift 2
     rm -f mark
-    FAULT_KIND=$of FAULT_AT=$at FAULT_MARK=$room/mark LD_PRELOAD=$room/fault.so "$@" > out 2> err &
+    FAULT_KIND=$of FAULT_AT=$at FAULT_MARK=$room/mark LD_PRELOAD=$room/fault.so "$@" > out 2> all &
     wait $!
     status=$?
+    grep -v '^made ' all > err
     rm -rf "$(dirname "$room")/grid-tests-$!" "$(dirname "$room")/share-store-tests-$!"
 }
 
@@ -96,6 +100,13 @@ is_told() {
     [ $status = "$1" ] && is_beginning && [ "$(wc -l < err)" -eq 1 ] && grep -q -x -e "$2" err
 }
 
+# Whether the run ended with a file's fault, after a line with the system's reason.
+is_fault_told() {
+    [ $status = 7 ] && is_beginning && [ "$(wc -l < err)" -eq 2 ] &&
+        sed -n 1p err | grep -q ': ..* (os error 5)$' &&
+        sed -n 2p err | grep -q -x 'grid: 90 FileFault ..*'
+}
+
 # Whether a `put` ended well with fewer servers, at least $1: one whose folder failed is silent.
 is_less_happy() {
     [ $status = 0 ] && [ ! -s err ] && [ "$(head -n 1 out)" = "$(head -n 1 plain.out)" ] \
@@ -109,10 +120,10 @@ is_right() {
     case $1 in
         memory) is_told 7 'grid: 1 OutOfMemory' ;;
         files)
-            is_told 7 'grid: 90 FileFault ..*' && return 0
+            is_fault_told && return 0
             case $(cat mark 2> /dev/null) in
-                *' -1-') [ $status = 7 ] && is_beginning && [ ! -s err ] ;;
-                *'grid/server-'*)
+                *' -1-') is_told 7 'grid: 99 OutputFault' ;;
+                *'grid/server-'* | 'openat .' | 'openat grid' | "fsync $room" | "fsync $room/grid")
                     is_told 4 'grid: 70 Unhappy reached [0-9]* wanted [0-9]*' ||
                         is_less_happy "$2" ;;
                 *'held/server-'*) [ "$2" = "$3" ] && is_told 5 'grid: 71 NotEnoughShares' ;;
