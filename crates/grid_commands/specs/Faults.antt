@@ -2,8 +2,8 @@
 use Rattle.std.specs.Prelude.{ℕ, List, ⊤}
 use Rattle.grid_rules.specs.declared.fault.Fault.{Fault}
 use Rattle.grid_rules.specs.declared.fault.Fault.TheVariants as faults
-use Rattle.world.specs.declared.event.WorldError.{WorldError}
-use Rattle.world.specs.declared.event.WorldError.TheVariants as worlds
+use Rattle.world_script.specs.WorldError.{WorldError}
+use Rattle.world_script.specs.WorldError as worlds
 use Rattle.world_script.specs.declared.command.Script.{Script}
 use Rattle.world_script.specs.declared.error.ScriptError.{ScriptError}
 use Rattle.world_script.specs.declared.error.ScriptError.TheVariants as scripts

@@ -4,8 +4,7 @@ ghost use Rattle.std.specs.Prelude.{◌≡◌};
 ghost use Rattle.grid_commands.specs.Faults.{fault_of_script, fault_of_world};
 
 use grid_rules::Fault;
-use world::event::WorldError;
-use world_script::ScriptError;
+use world_script::{ScriptError, WorldError};
 
 /// The fault that a script's refusal becomes.
 pub(crate) fn fault_of_script(error: ScriptError) -> Fault

@@ -1,6 +1,7 @@
 pub mod Script
 pub mod Refused
 pub mod ScriptError
+pub mod WorldError
 -- what public contracts rest on
 pub mod Events
 pub mod Playing

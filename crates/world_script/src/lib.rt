@@ -31,3 +31,4 @@ pub use error::ScriptError;
 pub use liars::ScriptLiar;
 pub use lines::parse;
 pub use running::run_script;
+pub use world::event::WorldError;
