@@ -11,7 +11,7 @@
 cd "$(dirname "$0")/.." || exit 2
 map=docs/ARCHITECTURE.md
 differences=$(
-    sed -n '/^[a-z0-9_]*:/p' crates.txt | while IFS=: read -r name below; do
+    sed -n 's/^\([a-z0-9_]*\)\( staticlib\)*:/\1:/p' crates.txt | while IFS=: read -r name below; do
         said=$(sed -n '/^Crates of this project:/,/^$/p' "crates/$name/README.md" |
             grep -o '`[a-z0-9_]*`' | tr -d '`' | sort)
         own=$(for it in $below; do [ ! -d "crates/$it" ] || echo "$it"; done | sort)
@@ -19,7 +19,7 @@ differences=$(
         grep -q "^ *- \`$name\`" "$map" || echo "$map has no entry for $name"
     done
     grep -o '^ *- `[a-z0-9_]*`.*' "$map" | sed 's/^ *- `\([a-z0-9_]*\)`/\1/' |
-        awk 'NR == FNR { split($0, line, ":"); deps[line[1]] = " " line[2] " "; next }
+        awk 'NR == FNR { split($0, line, ":"); sub(/ .*/, "", line[1]); deps[line[1]] = " " line[2] " "; next }
             { name = $1; sub(/[,:].*/, "", name); if (!(name in deps)) next
               place[++count] = name; position[name] = count; rest[name] = $0 }
             END {
