@@ -17,7 +17,7 @@ share_store/src/memory.rt:return Err(StoreError::OutOfMemory);
 request_record/src/entries.rt:return Err(AllocError);
 download_file/src/reader.rt:return Err(AllocError);
 grid_rules/src/ending.rt:DownloadStatus::Failed => Err(Fault::OutOfMemory),
-grid_rules/src/fault.rt:return Fault::OutOfMemory;
+grid_faults/src/fault.rt:return Fault::OutOfMemory;
 grid_shares/src/checking.rt:check.report(rt.alloc())?.ok_or(Fault::OutOfMemory)
 grid_commands/src/lib.rt:_ => report(alloc, err, &Fault::OutOfMemory),
 grid_shares/src/repairing.rt:check.good_shares(rt.alloc())?.ok_or(Fault::OutOfMemory)

@@ -5,9 +5,9 @@ use Rattle.download_core.specs.declared.status.DownloadStatus.TheVariants as dow
 use Rattle.upload_core.specs.declared.status.UploadStatus.{UploadStatus}
 use Rattle.upload_core.specs.declared.status.UploadStatus.TheVariants.{Running, Happy}
 use Rattle.upload_core.specs.declared.status.UploadStatus.TheVariants.{Unhappy, Failed}
-use Rattle.grid_rules.specs.Fault.{fault_of_piece}
-use Rattle.grid_rules.specs.declared.fault.Fault.{Fault}
-use Rattle.grid_rules.specs.declared.fault.Fault.TheVariants as faults
+use Rattle.grid_faults.specs.declared.fault.Fault.{Fault}
+use Rattle.grid_faults.specs.declared.fault.Fault.TheVariants as faults
+use Rattle.grid_rules.specs.Becoming.{fault_of_piece}
 
 -- the happiness that was reached, or the fault
 abbrev pub ending_of : ℕ → UploadStatus → Result ℕ Fault

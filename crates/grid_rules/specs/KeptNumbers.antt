@@ -15,9 +15,10 @@ use Rattle.local_grid.specs.Refusals as loop_errors
 use Rattle.local_grid.specs.declared.error.LoopError.{LoopError}
 use Rattle.upload_core.specs.PieceFault as piece_faults
 use Rattle.upload_core.specs.declared.pieces.PieceFault.{PieceFault}
-use Rattle.grid_rules.specs.Fault.{fault_number, fault_of_cap, fault_of_download}
-use Rattle.grid_rules.specs.Fault.{fault_of_encoding, fault_of_loop, fault_of_piece}
-use Rattle.grid_rules.specs.Fault.{fault_of_preparing, fault_of_reading, fault_of_shares}
+use Rattle.grid_faults.specs.Fault.{fault_number, fault_of_cap}
+use Rattle.grid_rules.specs.Becoming.{fault_of_download, fault_of_encoding, fault_of_loop}
+use Rattle.grid_rules.specs.Becoming.{fault_of_piece, fault_of_preparing, fault_of_reading}
+use Rattle.grid_rules.specs.Becoming.{fault_of_shares}
 
 pub record NumbersAreKept : Type 0 where
   pub cap : (e : CapError) → fault_number (fault_of_cap e) ≡ cap_errors.number_of e

@@ -4,7 +4,8 @@ use Rattle.std.specs.Prelude.{filter, nat_eq}
 use Rattle.std.specs.List.{flat_map, list_any, range_with_len}
 use Rattle.checker.specs.declared.status.Report.{Report}
 use Rattle.checker.specs.declared.status.ShareVerdict.{ShareVerdict}
-use Rattle.grid_rules.specs.ReportLines.{server_name, verdict_text}
+use Rattle.grid_faults.specs.Servers.{server_name}
+use Rattle.grid_rules.specs.ReportLines.{verdict_text}
 
 -- no server offered a share of this number
 abbrev pub is_missing : List ShareVerdict → ℕ → Bool

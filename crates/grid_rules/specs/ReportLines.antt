@@ -1,6 +1,5 @@
 -- The lines and the exit status of a check.
-use Rattle.std.specs.Prelude.{ℕ, List, ◌++◌, ◌/◌, ◌%◌, Bool, true, false, codes, decimal}
-use Rattle.std.specs.Prelude.{if◌then◌else◌}
+use Rattle.std.specs.Prelude.{ℕ, List, ◌++◌, Bool, true, false, codes, decimal, if◌then◌else◌}
 use Rattle.std.specs.List.{flat_map}
 use Rattle.share_verify.specs.declared.check.Check.{Check}
 use Rattle.share_verify.specs.declared.check.Check.TheVariants.{Layout, Ueb, Unused}
@@ -10,11 +9,7 @@ use Rattle.share_reading.specs.declared.verdict.Verdict.{Verdict}
 use Rattle.share_reading.specs.declared.verdict.Verdict.TheVariants.{Good, Corrupt, Lost}
 use Rattle.checker.specs.declared.status.Report.{Report}
 use Rattle.checker.specs.declared.status.ShareVerdict.{ShareVerdict}
-
--- the name of a server's folder: its number, below 1,000, has three digits
-abbrev pub server_name : ℕ → List ℕ
-server_name n = codes "server-"
-    ++ (decimal (n / 100) ++ (decimal (n / 10 % 10) ++ decimal (n % 10)))
+use Rattle.grid_faults.specs.Servers.{server_name}
 
 -- the section that a check is about
 abbrev pub section_text : Check → List ℕ

@@ -6,8 +6,8 @@ ghost use Rattle.std.specs.String.{string_bytes};
 ghost use Rattle.grid_rules.specs.ReportLines.{last_line, report_lines, report_status};
 ghost use Rattle.grid_rules.specs.ReportLines.{verdict_line, verdict_text, word_of};
 
-use crate::servers::server_name;
 use checker::status::{Report, ShareVerdict};
+use grid_faults::server_name;
 use share_reading::Verdict;
 use share_verify::Check;
 use std::alloc::{AllocError, Global};

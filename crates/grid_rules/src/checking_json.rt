@@ -9,8 +9,8 @@ ghost use Rattle.grid_rules.specs.ReportJson.{missing_json, report_json, share_o
 ghost use Rattle.grid_rules.specs.ReportJson.{verdict_json, verdict_object};
 
 use crate::checking::verdict_text;
-use crate::servers::server_name;
 use checker::status::{Report, ShareVerdict};
+use grid_faults::server_name;
 use std::alloc::{AllocError, Global};
 
 /// An object for each share that was offered, by server and then by number, one for each number

@@ -6,8 +6,8 @@ ghost use Rattle.cap_text.specs.CapText.{Spells};
 ghost use Rattle.cap_text.specs.declared.cap.Cap.{Cap};
 ghost use Rattle.grid_rules.specs.CapLines.{cap_lines, share_lines};
 
-use crate::fault::Fault;
 use cap_text::{Cap, VerifyCap};
+use grid_faults::Fault;
 use std::alloc::{AllocError, Global};
 
 /// The cap that a text spells, or the fault of the text.

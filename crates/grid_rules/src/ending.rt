@@ -3,8 +3,9 @@
 ghost use Rattle.std.specs.Prelude.{◌≡◌};
 ghost use Rattle.grid_rules.specs.Ending.{end_of_download, ending_of, world_status};
 
-use crate::fault::Fault;
+use crate::becoming::fault_of_piece;
 use download_core::status::DownloadStatus;
+use grid_faults::Fault;
 use upload_core::status::UploadStatus;
 
 /// The happiness that an upload reached, of which so much was wanted, or the fault that it ended
@@ -19,7 +20,7 @@ pub fn reached_happiness(status: &UploadStatus, wanted: u16) -> Result<usize, Fa
             reached: *reached,
             wanted,
         }),
-        UploadStatus::Failed(fault) => Err(Fault::from(*fault)),
+        UploadStatus::Failed(fault) => Err(fault_of_piece(*fault)),
     }
 }
 

@@ -1,10 +1,10 @@
 //! The bytes of a file that are asked for.
 
 ghost use Rattle.std.specs.Prelude.{◌≡◌, ◌↔◌, Err, IfErr, IfOk};
+ghost use Rattle.grid_faults.specs.declared.fault.Fault.{Fault};
 ghost use Rattle.grid_rules.specs.Range.{IsWithin, asked_range};
-ghost use Rattle.grid_rules.specs.declared.fault.Fault.{Fault};
 
-use crate::fault::Fault;
+use grid_faults::Fault;
 
 /// A file's bytes from one offset on, and to before another.
 #[derive(Clone, Copy, PartialEq, Eq)]

@@ -6,9 +6,8 @@ ghost use Rattle.grid_rules.specs.ScrubLines.{aside_after, aside_text, counted, 
 ghost use Rattle.grid_rules.specs.ScrubLines.{finding_line, finding_object, last_json, last_line};
 ghost use Rattle.grid_rules.specs.ScrubLines.{removed_text, scrub_status, some_text, state_text};
 
-use crate::fault::Fault;
-use crate::servers::server_name;
 use cap_text::to_base32;
+use grid_faults::{Fault, server_name};
 use share_scrub::{Action, Finding, State};
 use std::alloc::{AllocError, Global};
 use wire::message::NodeId;

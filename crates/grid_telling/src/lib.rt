@@ -7,8 +7,10 @@ mod counted;
 mod notes;
 mod outcome;
 mod progress;
+mod progress_lines;
 
 pub use counted::{Counted, Writing};
 pub use notes::{note_blame, note_limits, note_servers};
 pub use outcome::{Failure, print};
 pub use progress::{Counting, Progress};
+pub use progress_lines::Verb;

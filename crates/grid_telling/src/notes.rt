@@ -1,8 +1,8 @@
 //! What is told with `-v` of servers that serve badly, and always of numbers that may not be.
 
 use crate::progress::Progress;
+use grid_faults::{Fault, Limit, server_name, told_path};
 use grid_marks::{folder_fault, server_folder};
-use grid_rules::{Fault, Limit, server_name, told_path};
 use grid_servers::{FolderGrid, Purpose, is_silent};
 use std::alloc::Global;
 use std::io::{self, IsTerminal, Write};

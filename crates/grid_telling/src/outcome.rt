@@ -3,7 +3,7 @@
 ghost use Rattle.std.specs.Prelude.{◌≡◌, OnOk};
 ghost use Rattle.std.specs.Io.KnownBytes.{Appends};
 
-use grid_rules::Fault;
+use grid_faults::Fault;
 use std::alloc::AllocError;
 use std::io::{self, Write};
 
@@ -27,7 +27,7 @@ impl From<Fault> for Failure {
 
 impl From<AllocError> for Failure {
     ghost use Rattle.grid_telling.specs.declared.outcome.Failure.TheVariants as failures;
-    ghost use Rattle.grid_rules.specs.declared.fault.Fault.TheVariants as faults;
+    ghost use Rattle.grid_faults.specs.declared.fault.Fault.TheVariants as faults;
 
     ghost from_gives = { λ _ failure. failure ≡ failures.Fault faults.OutOfMemory };
 

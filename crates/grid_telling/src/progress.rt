@@ -1,6 +1,6 @@
 //! How far a command is, told in one line of a terminal, and notes beside it.
 
-use grid_rules::{Amount, Remark, Verb, encoding_line, progress_line, seconds_left};
+use crate::progress_lines::{Amount, Remark, Verb, encoding_line, progress_line, seconds_left};
 use local_grid::watched::Watch;
 use std::alloc::{AllocError, Global};
 use std::io::{IsTerminal, Write};

@@ -1,0 +1,2 @@
+-- what is told of how far a command is
+pub mod ProgressLine
