@@ -8,7 +8,7 @@ use crate::init::{can_be_marked, end};
 use crate::mark::{Identity, Kind, MAX_SERVERS, Mark};
 use crate::marking::is_own;
 use crate::marks::{Found, find_mark, likeness_of, mark_path, server_mark};
-use grid_rules::{Fault, told_path};
+use grid_faults::{Fault, told_path};
 use std::fs;
 use std::random::RandomSource;
 use std::rt::Files;

@@ -3,10 +3,10 @@
 ghost use Rattle.std.specs.Prelude.{◌≡◌, ◌↔◌, ◌<◌, length, IfErr, IfOk, IsOk};
 ghost use Rattle.std.specs.String.{string_bytes};
 ghost use Rattle.share_folders.specs.Names.{in_folder};
-ghost use Rattle.grid_rules.specs.ReportLines.{server_name};
+ghost use Rattle.grid_faults.specs.Servers.{server_name};
 
 use crate::marks::try_mark;
-use grid_rules::{Fault, is_memory, server_name};
+use grid_faults::{Fault, is_memory, server_name};
 use share_folders::disk::{Durability, make_folder};
 use share_folders::folder::Purpose;
 use std::alloc::{AllocError, Global};

@@ -8,7 +8,7 @@ use crate::init::{claim, part_path, replace_part};
 use crate::mark::{Kind, MAX_SERVERS, Mark};
 use crate::marking::{has_own_mark, mark_server, note_folder, note_seen, standing_folder};
 use crate::marks::{known_mark, mark_path};
-use grid_rules::{Fault, first_servers, told_path};
+use grid_faults::{Fault, first_servers, told_path};
 use std::alloc::Global;
 use std::fs::Metadata;
 use std::io::ErrorKind;

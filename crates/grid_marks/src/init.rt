@@ -13,7 +13,7 @@ use crate::marking::{
     Folders, has_own_mark, mark_file, mark_server, note_folder, publish_mark, standing_folder,
 };
 use crate::marks::{Found, find_mark, mark_path};
-use grid_rules::Fault;
+use grid_faults::Fault;
 use share_folders::disk::Durability;
 use std::alloc::{AllocError, Global};
 use std::fs;

@@ -6,7 +6,7 @@ ghost use Rattle.grid_marks.specs.Servers.{IsOwn};
 use crate::folders::server_folder;
 use crate::mark::{Kind, Mark};
 use crate::marks::{Likeness, find_mark, likeness_of, mark_path, server_mark};
-use grid_rules::{Fault, server_name, told_path};
+use grid_faults::{Fault, server_name, told_path};
 use share_folders::disk::{Durability, make_folder};
 use std::alloc::{AllocError, Global};
 use std::fs::Metadata;

@@ -6,7 +6,7 @@ ghost use Rattle.grid_marks.specs.Servers.{HasNumber, IsThis};
 
 use crate::folders::server_folder;
 use crate::mark::{Kind, MAX_SERVERS, Mark};
-use grid_rules::{Fault, told_path};
+use grid_faults::{Fault, told_path};
 use std::alloc::{AllocError, Global};
 use std::io::ErrorKind;
 use std::rt::Files;

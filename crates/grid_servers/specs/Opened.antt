@@ -2,7 +2,7 @@
 use Rattle.std.specs.Prelude.{◌≡◌, ℕ, List, [], false, Option, Some, None, get_or, ⊤}
 use Rattle.share_folders.specs.Folder.{FolderState}
 use Rattle.share_folders.specs.Names.{in_folder}
-use Rattle.grid_rules.specs.ReportLines.{server_name}
+use Rattle.grid_faults.specs.Servers.{server_name}
 use Rattle.local_grid.specs.Nodes.{NodeState}
 use Rattle.local_grid.specs.Turns.{GridState}
 

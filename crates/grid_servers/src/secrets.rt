@@ -6,7 +6,7 @@ ghost use Rattle.grid_servers.specs.Secrets.{IsTextOf};
 
 use cap_text::to_base32;
 use file_encoding::MAX_SECRET_SIZE;
-use grid_rules::Fault;
+use grid_faults::Fault;
 use std::alloc::{AllocError, Global};
 use std::io::ErrorKind;
 use std::random::RandomSource;

@@ -4,12 +4,12 @@ ghost use Rattle.std.specs.Prelude.{◌≡◌, ◌<◌, ℕ, [], None, get_or, l
 ghost use Rattle.std.specs.Prelude.{OnOk};
 ghost use Rattle.std.specs.List.{IsDistinct};
 ghost use Rattle.share_folders.specs.Names.{in_folder};
-ghost use Rattle.grid_rules.specs.ReportLines.{server_name};
+ghost use Rattle.grid_faults.specs.Servers.{server_name};
 ghost use Rattle.grid_servers.specs.Opened.{AllStand, AreOpened};
 ghost use Rattle.grid_servers.specs.Servers.{servers_without};
 
+use grid_faults::{Fault, first_servers, is_memory, told_path};
 use grid_marks::{MAX_SERVERS, Mark, grid_mark, is_grid, known_grid, server_folder, try_known};
-use grid_rules::{Fault, first_servers, is_memory, told_path};
 use local_grid::grid::LocalGrid;
 use local_grid::link::MemoryLink;
 use local_grid::node::Node;

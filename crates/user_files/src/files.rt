@@ -3,7 +3,7 @@
 ghost use Rattle.std.specs.Prelude.{◌≡◌, ◌≤◌, length, Ok, Some, IfOk, IfErr, IfSome};
 
 use crate::pieces::read_to_limit;
-use grid_rules::{Fault, is_memory, told_path};
+use grid_faults::{Fault, is_memory, told_path};
 use std::alloc::Global;
 use std::fs::{File, OpenFile};
 use std::io;

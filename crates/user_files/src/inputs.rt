@@ -7,7 +7,7 @@ ghost use Rattle.user_files.specs.Input.{IsWithin};
 use crate::files::{at_path, if_there, read_at_most};
 use crate::pieces::{PIECE_SIZE, has_bytes, read_beginning, read_to_limit};
 use crate::spooling::{Spooling, spool};
-use grid_rules::Fault;
+use grid_faults::Fault;
 use std::alloc::Global;
 use std::fs::{File, OpenFile};
 use std::io::{Read, Seek};

@@ -8,7 +8,7 @@ ghost use Rattle.user_files.specs.Pieces.{Copies};
 use crate::files::at_path;
 use crate::names::random_name;
 use crate::pieces::{PIECE_SIZE, read_some};
-use grid_rules::Fault;
+use grid_faults::Fault;
 use std::alloc::Global;
 use std::fs::OpenOptions;
 use std::io::{ErrorKind, Read, Seek, Write};
