@@ -1,7 +1,7 @@
 -- What the faults of a text say.
 use Rattle.std.proofs.Common.{◌≡◌, ℕ, List, refl, IfErr, IfOk, Result, Ok, Err}
-use Rattle.grid_rules.specs.declared.fault.Fault.{Fault}
-use Rattle.grid_rules.specs.declared.fault.Fault.TheVariants as faults
+use Rattle.grid_faults.specs.declared.fault.Fault.{Fault}
+use Rattle.grid_faults.specs.declared.fault.Fault.TheVariants as faults
 use Rattle.world_script.specs.WorldError.{WorldError}
 use Rattle.world_script.specs.WorldError as worlds
 use Rattle.world_script.specs.declared.command.Script.{Script}

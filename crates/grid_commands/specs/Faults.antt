@@ -1,7 +1,7 @@
 -- Which fault the refusal of a script becomes, and what each fault of a text says.
 use Rattle.std.specs.Prelude.{ℕ, List, ⊤}
-use Rattle.grid_rules.specs.declared.fault.Fault.{Fault}
-use Rattle.grid_rules.specs.declared.fault.Fault.TheVariants as faults
+use Rattle.grid_faults.specs.declared.fault.Fault.{Fault}
+use Rattle.grid_faults.specs.declared.fault.Fault.TheVariants as faults
 use Rattle.world_script.specs.WorldError.{WorldError}
 use Rattle.world_script.specs.WorldError as worlds
 use Rattle.world_script.specs.declared.command.Script.{Script}

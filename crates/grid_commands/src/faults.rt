@@ -3,7 +3,7 @@
 ghost use Rattle.std.specs.Prelude.{◌≡◌};
 ghost use Rattle.grid_commands.specs.Faults.{fault_of_script, fault_of_world};
 
-use grid_rules::Fault;
+use grid_faults::Fault;
 use world_script::{ScriptError, WorldError};
 
 /// The fault that a script's refusal becomes.

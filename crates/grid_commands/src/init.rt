@@ -2,11 +2,11 @@
 
 ghost use Rattle.std.specs.Prelude.{◌≡◌, ◌≤◌, ◌<◌, ◌^◌, IfOk};
 
+use grid_faults::{Fault, Limit, told_path};
 use grid_marks::{
     MAX_SERVERS, add_servers, adopt_grid, can_be_marked, grid_servers_count, make_grid, mark_grid,
     replace_server,
 };
-use grid_rules::{Fault, Limit, told_path};
 use grid_servers::{
     Durability, draw_secret, grid_secret, keep_secret, read_secret_file, secret_path,
     standing_servers,

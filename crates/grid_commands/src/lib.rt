@@ -4,8 +4,8 @@
 //! marks the folders of a grid and of its servers. A `put`, a `check` and a `repair` work on
 //! shares, in `grid_shares`; a `get` is one download or several, in `grid_gets`; a `scrub` reads
 //! the servers' folders; `world` runs a script, whose text is read whole before anything runs.
-//! Which words there are stands in `grid_words`, and what is told in `grid_rules` and
-//! `grid_telling`.
+//! Which words there are stands in `grid_words`, and what is told in `grid_faults`, `grid_rules`
+//! and `grid_telling`.
 #![tactic(auto)]
 
 mod faults;
@@ -18,8 +18,9 @@ ghost use Rattle.std.specs.Prelude.{◌≡◌, IfOk, OnOk};
 ghost use Rattle.std.specs.Io.KnownBytes.{Appends};
 
 use clap::error::ErrorKind;
+use grid_faults::{Fault, reason_line};
 use grid_gets::get;
-use grid_rules::{Fault, cap_lines, read_cap, reason_line};
+use grid_rules::{cap_lines, read_cap};
 pub use grid_shares::Environment;
 use grid_shares::{Outcome, check, put, repair};
 use grid_telling::{Failure, Progress, print};

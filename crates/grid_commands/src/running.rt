@@ -7,7 +7,7 @@ ghost use Rattle.grid_commands.specs.Faults.{IsFaultOf, IsWorldFault};
 ghost use Rattle.grid_commands.specs.Texts.{IsEndOf};
 
 use crate::faults::{fault_of_script, fault_of_world};
-use grid_rules::Fault;
+use grid_faults::Fault;
 use std::alloc::Global;
 use world_script::{Ending, Script, parse, run_script};
 

@@ -1,7 +1,8 @@
 //! `grid world`: a script of a world, run.
 
 use crate::running::run_text;
-use grid_rules::{Fault, world_status};
+use grid_faults::Fault;
+use grid_rules::world_status;
 use grid_telling::{Failure, print};
 use std::io::Write;
 use std::rt::Files;

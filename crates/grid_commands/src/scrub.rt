@@ -4,10 +4,11 @@
 ghost use Rattle.std.specs.Prelude.{◌<◌, length, IfOk, IfSome};
 
 use crate::Environment;
+use grid_faults::{Fault, is_memory, server_name};
 use grid_marks::{server_folder, try_mark};
-use grid_rules::{Fault, Scrubbed, Verb, finding_json, finding_line, is_memory, server_name};
+use grid_rules::{Scrubbed, finding_json, finding_line};
 use grid_servers::asked_servers;
-use grid_telling::{Counting, Failure, Progress, print};
+use grid_telling::{Counting, Failure, Progress, Verb, print};
 use grid_words::ScrubWords;
 use share_scrub::{Action, Finding, Handling, Scrub, State};
 use share_store::error::StoreError;

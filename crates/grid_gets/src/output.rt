@@ -3,7 +3,7 @@
 use crate::target::{
     Found, MOST_LINKS, MOST_PARTS, Target, folder_of, found_of, part_name, target_of,
 };
-use grid_rules::Fault;
+use grid_faults::Fault;
 use grid_telling::Failure;
 use std::fs;
 use std::fs::{File, OpenFile, OpenOptions};

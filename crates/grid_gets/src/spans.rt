@@ -8,7 +8,9 @@ use crate::writing_download::WritingDownload;
 use cap_text::ReadCap;
 use download_core::Download;
 use download_shares::holding::Blame;
-use grid_rules::{ByteRange, Fault, reached_range_end};
+use grid_faults::Fault;
+use grid_rules::becoming::{fault_of_download, fault_of_loop};
+use grid_rules::{ByteRange, reached_range_end};
 use grid_servers::{FIRST_SESSION, FolderGrid, is_silent, servers_without};
 use grid_telling::{Counted, Failure, Progress, Writing, note_blame};
 use local_grid::error::LoopError;
@@ -228,7 +230,7 @@ fn begin_download(
     requires { IsDistinct nat_eq servers.now }
 {
     let (from, to) = (span.from, span.to);
-    Ok(Download::start(alloc, *cap, from, to, servers, session, now)?)
+    Download::start(alloc, *cap, from, to, servers, session, now).map_err(fault_of_download)
 }
 
 // How a download ended that was carried as far as it goes.
@@ -236,7 +238,7 @@ fn end_of<W: Write>(
     carried: Result<(), LoopError>,
     download: &WritingDownload<W>,
 ) -> Result<(), Failure> {
-    carried.map_err(Fault::from)?;
+    carried.map_err(fault_of_loop)?;
     if download.has_failed() {
         return Err(Failure::Writer);
     }

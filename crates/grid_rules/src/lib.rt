@@ -6,7 +6,7 @@
 //! loop a command may take is a number.
 #![tactic(auto)]
 
-mod becoming;
+pub mod becoming;
 mod checking;
 mod checking_json;
 mod describing;
@@ -15,10 +15,6 @@ mod range;
 mod scrubbing;
 mod turns;
 
-pub use becoming::{
-    fault_of_download, fault_of_encoding, fault_of_loop, fault_of_piece, fault_of_preparing,
-    fault_of_reading, fault_of_shares, numbers_are_kept,
-};
 pub use checking::{report_lines, report_status};
 pub use checking_json::{missing_shares, report_json};
 pub use describing::{cap_lines, read_cap};

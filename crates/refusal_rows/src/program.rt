@@ -2,7 +2,7 @@
 
 use crate::rows::Rows;
 use cap_text::CapError;
-use grid_rules::Fault;
+use grid_faults::Fault;
 use std::alloc::{AllocError, Global};
 use std::io::{self, ErrorKind};
 
@@ -14,7 +14,7 @@ pub(crate) fn tell_all(alloc: Global, rows: &mut Rows) -> Result<(), AllocError>
 }
 
 fn tell_fault(rows: &mut Rows, fault: &Fault) -> Result<(), AllocError> {
-    rows.tell_with_status("grid_rules::Fault", fault.number(), fault, fault.status())
+    rows.tell_with_status("grid_faults::Fault", fault.number(), fault, fault.status())
 }
 
 fn tell_caps(rows: &mut Rows) -> Result<(), AllocError> {

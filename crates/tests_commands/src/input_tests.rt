@@ -1,6 +1,6 @@
 //! What is read of a file, of standard input, or of what can be read once.
 
-use grid_rules::Fault;
+use grid_faults::Fault;
 use std::alloc::{Allocator, Global};
 use std::fs::{Metadata, OpenOptions};
 use std::io::{BufRead, Lines, Read};

@@ -1,10 +1,10 @@
 //! The marks of a grid, and the secret that is kept with it, on folders of the host.
 
+use grid_faults::Fault;
 use grid_marks::{
     add_servers, adopt_grid, can_be_marked, grid_servers_count, known_grid, mark_grid,
     replace_server, server_folder, try_mark,
 };
-use grid_rules::Fault;
 use grid_servers::{draw_secret, grid_secret, keep_secret};
 use std::test::Fail;
 use std::{fs, io};
