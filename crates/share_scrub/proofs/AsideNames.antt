@@ -23,27 +23,34 @@ of_two P (suc zero) some most one two = one refl
 of_two P (suc (suc zero)) some most one two = two refl
 of_two P (suc (suc (suc k))) some most one two = absurd (omega (arith, most))
 
+-- a number has one digit or two, and so has 0
+by_digits : (P : Type 0) (number : ℕ) → number < 100 → (length (decimal number) ≡ 1 → P) → (length (decimal number) ≡ 2 → P) → P
+by_digits P number few one two =
+    of_two P (length (decimal number)) (decimal_nonempty number (omega (arith, few))) (length-decimal-le 2 number (omega arith) (omega (arith, few)) (omega (arith, few))) one two
+
 -- the first has no number, and the others have one of one digit or two
-pub by_number : (P : Type 0) (number : ℕ) → IsAsideNumber number → (number ≡ 1 → P) → (2 ≤ number → length (decimal number) ≡ 1 → P) → (2 ≤ number → length (decimal number) ≡ 2 → P) → P
-by_number P zero is first one two = absurd (omega (arith, is.0))
+pub by_number : (P : Type 0) (number : ℕ) → IsAsideNumber number → (number ≡ 1 → P) → (number ≢ 1 → length (decimal number) ≡ 1 → P) → (number ≢ 1 → length (decimal number) ≡ 2 → P) → P
+by_number P zero is first one two =
+    let other : zero ≢ 1 = λ e. omega (arith, e) in
+    by_digits P zero is (one other) (two other)
 by_number P (suc zero) is first one two = first refl
 by_number P (suc (suc n)) is first one two =
-    let more : 2 ≤ suc (suc n) = omega arith in
-    of_two P (length (decimal (suc (suc n)))) (decimal_nonempty (suc (suc n)) (omega (arith, is.1))) (length-decimal-le 2 (suc (suc n)) (omega arith) (omega (arith, is.1)) (omega (arith, is.1))) (one more) (two more)
+    let other : suc (suc n) ≢ 1 = λ e. omega (arith, e) in
+    by_digits P (suc (suc n)) is (one other) (two other)
 
-pub numbered_end : (number : ℕ) → 2 ≤ number → aside_end number ≡ codes ".damaged." ++ decimal number
-numbered_end number more = ap (λ (b : Bool). if b then codes ".damaged" else codes ".damaged." ++ decimal number) (ne_eqb number 1 (λ e. omega (arith, e, more)))
+pub numbered_end : (number : ℕ) → number ≢ 1 → aside_end number ≡ codes ".damaged." ++ decimal number
+numbered_end number other = ap (λ (b : Bool). if b then codes ".damaged" else codes ".damaged." ++ decimal number) (ne_eqb number 1 other)
 
 -- a number behind its end, from the right
-from_right : (name closed : List ℕ) (n : ℕ) → 2 ≤ n → name ≡ closed ++ aside_end n → name ≡ (closed ++ codes ".damaged.") ++ decimal n
-from_right name closed n more is = is ∙ ap (λ (xs : List ℕ). closed ++ xs) (numbered_end n more) ∙ sym (append_assoc closed (codes ".damaged.") (decimal n))
+from_right : (name closed : List ℕ) (n : ℕ) → n ≢ 1 → name ≡ closed ++ aside_end n → name ≡ (closed ++ codes ".damaged.") ++ decimal n
+from_right name closed n other is = is ∙ ap (λ (xs : List ℕ). closed ++ xs) (numbered_end n other) ∙ sym (append_assoc closed (codes ".damaged.") (decimal n))
 
-pub front_part : (name closed : List ℕ) (n digits : ℕ) → 2 ≤ n → length (decimal n) ≡ digits → name ≡ closed ++ aside_end n → take (length name - digits) name ≡ closed ++ codes ".damaged."
-front_part name closed n digits more len is =
+pub front_part : (name closed : List ℕ) (n digits : ℕ) → n ≢ 1 → length (decimal n) ≡ digits → name ≡ closed ++ aside_end n → take (length name - digits) name ≡ closed ++ codes ".damaged."
+front_part name closed n digits other len is =
     let long = length-append (closed ++ codes ".damaged.") (decimal n) in
-    ap (λ (xs : List ℕ). take (length xs - digits) xs) (from_right name closed n more is) ∙ take_at (closed ++ codes ".damaged.") (decimal n) _ (omega (arith, long, len))
+    ap (λ (xs : List ℕ). take (length xs - digits) xs) (from_right name closed n other is) ∙ take_at (closed ++ codes ".damaged.") (decimal n) _ (omega (arith, long, len))
 
-pub number_part : (name closed : List ℕ) (n digits : ℕ) → 2 ≤ n → length (decimal n) ≡ digits → name ≡ closed ++ aside_end n → drop (length name - digits) name ≡ decimal n
-number_part name closed n digits more len is =
+pub number_part : (name closed : List ℕ) (n digits : ℕ) → n ≢ 1 → length (decimal n) ≡ digits → name ≡ closed ++ aside_end n → drop (length name - digits) name ≡ decimal n
+number_part name closed n digits other len is =
     let long = length-append (closed ++ codes ".damaged.") (decimal n) in
-    ap (λ (xs : List ℕ). drop (length xs - digits) xs) (from_right name closed n more is) ∙ drop_at (closed ++ codes ".damaged.") (decimal n) _ (omega (arith, long, len))
+    ap (λ (xs : List ℕ). drop (length xs - digits) xs) (from_right name closed n other is) ∙ drop_at (closed ++ codes ".damaged.") (decimal n) _ (omega (arith, long, len))

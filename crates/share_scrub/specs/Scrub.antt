@@ -6,7 +6,7 @@ use Rattle.share_scrub.specs.declared.folder.Action.{Action}
 use Rattle.share_scrub.specs.declared.folder.Action.TheVariants.{Left, Done, Failed}
 use Rattle.share_scrub.specs.declared.folder.State.{State}
 use Rattle.share_scrub.specs.declared.folder.State.TheVariants.{Whole, Damaged, Unreadable, Odd}
-use Rattle.share_scrub.specs.declared.folder.State.TheVariants.{LeftOpen, Aside}
+use Rattle.share_scrub.specs.declared.folder.State.TheVariants.{LeftOpen, Aside, HalfAside}
 
 -- the files that are still to be looked at, and the share of the last one that was whole
 pub record ScrubState : Type 0 where
@@ -21,6 +21,7 @@ whole_after key (Unreadable _) whole = whole
 whole_after key Odd whole = whole
 whole_after key (LeftOpen _ _) whole = whole
 whole_after key (Aside _ _) whole = whole
+whole_after key (HalfAside _ _) whole = whole
 
 -- a file that was set aside is removed only where the same share was found whole
 abbrev pub IsKeptUnless : Option ShareKey → ShareKey → State → Type 0
@@ -32,3 +33,4 @@ IsKeptUnless whole key (Damaged _) = Unit
 IsKeptUnless whole key (Unreadable _) = Unit
 IsKeptUnless whole key Odd = Unit
 IsKeptUnless whole key (LeftOpen _ _) = Unit
+IsKeptUnless whole key (HalfAside _ _) = Unit

@@ -8,12 +8,13 @@ ghost use Rattle.share_store.specs.Shelf.{ShareKey};
 ghost use Rattle.share_scrub.specs.declared.name.ShareFile.{ShareFile};
 ghost use Rattle.share_scrub.specs.Scrub.{IsKeptUnless, whole_after};
 
+use crate::aside::{ClosedFile, set_aside, settle};
 use crate::bytes::{Verdict, Watch};
-use crate::files::{ClosedFile, Standing, check_file, is_left_over, set_aside, standing_at};
-use crate::name::{FileKind, ShareFile};
+use crate::files::{Standing, check_file, is_left_over, standing_at};
+use crate::name::{FileKind, HALF_ASIDE, ShareFile};
 use share_store::error::StoreError;
 use share_store::shelf::ShareKey;
-use std::fs::{DirEntry, Metadata};
+use std::fs::DirEntry;
 use std::io::ErrorKind;
 use std::marker::Model;
 use std::rt::Files;
@@ -25,7 +26,8 @@ use wire::message::Digest;
 #[derive(Clone, Copy)]
 pub struct Handling {
     /// Damaged files are set aside: they get a name with `.damaged` at its end, or `.damaged.2` and
-    /// so on where that is taken, up to 99. None takes the place of a file that is there.
+    /// so on where that is taken, up to 99. None takes the place of a file that is there. And what
+    /// is half set aside is settled: a whole share gets its closed name back.
     pub set_aside: bool,
     /// Open files that are left over are removed.
     pub remove_open: bool,
@@ -42,7 +44,7 @@ pub enum Action {
     /// Nothing was asked for. A file that was set aside is left too where no whole one of its share
     /// stands beside it.
     Left,
-    /// It was set aside, or removed.
+    /// It was set aside, settled or removed.
     Done,
     /// That failed, and the file stands where it stood.
     Failed(io::Error),
@@ -64,6 +66,9 @@ pub enum State {
     LeftOpen(u64, Action),
     /// Of a closed share, and it was set aside: it has so many bytes.
     Aside(u64, Action),
+    /// Of a closed share, and it was being set aside when its process ended: it has so many bytes,
+    /// and may be whole.
+    HalfAside(u64, Action),
 }
 
 /// A file that was looked at.
@@ -135,7 +140,10 @@ impl<R: Files + AllocGlobal + Clone + Drop> Scrub<R> {
         let Some(file) = ShareFile::read(entry.file_name().as_bytes()) else {
             return Ok(());
         };
-        if matches!(file.kind, FileKind::Closed(_)) {
+        if matches!(
+            file.kind,
+            FileKind::Closed(_) | FileKind::Aside(_, HALF_ASIDE)
+        ) {
             let length = entry.metadata().map_or(0, |found| found.len());
             self.total = self.total.saturating_add(length);
         }
@@ -143,7 +151,8 @@ impl<R: Files + AllocGlobal + Clone + Drop> Scrub<R> {
         Ok(())
     }
 
-    /// How many bytes the closed shares had together when they were listed.
+    /// How many bytes the closed shares had together when they were listed, with those that were
+    /// half set aside.
     pub fn total(&self) -> u64 {
         self.total
     }
@@ -198,6 +207,9 @@ impl<R: Files + AllocGlobal + Clone + Drop> Scrub<R> {
                 self.closed_state(&file.key, digest, path.as_str(), handling, watch)
             }
             FileKind::Open(_) => Ok(open_state(&self.rt, path.as_str(), handling)),
+            FileKind::Aside(digest, HALF_ASIDE) => {
+                self.half_state(&file.key, digest, path.as_str(), handling, watch)
+            }
             FileKind::Aside(..) => {
                 let goes = handling.remove_damaged && self.is_whole(&file.key);
                 Ok(aside_state(&self.rt, path.as_str(), goes))
@@ -237,27 +249,50 @@ impl<R: Files + AllocGlobal + Clone + Drop> Scrub<R> {
         match check_file(&self.rt, self.rt.alloc(), path, digest, watch)? {
             Ok(Verdict::Whole) => Ok(Some(State::Whole)),
             Ok(Verdict::Damaged) if !handling.set_aside => Ok(Some(State::Damaged(Action::Left))),
-            Ok(Verdict::Damaged) => Ok(Some(State::Damaged(self.set_aside(key, digest, &seen)?))),
+            Ok(Verdict::Damaged) => {
+                let file = self.closed_file(key, digest);
+                let outcome = set_aside(&self.rt, self.rt.alloc(), &file, &seen, watch)?;
+                Ok(Some(State::Damaged(action_of(outcome))))
+            }
             Err(error) => Ok(Some(State::Unreadable(error))),
         }
     }
 
-    // Sets the file of a closed share aside.
-    fn set_aside(
+    // How a file that is half set aside is found: it is settled, where that is asked for. What
+    // another settled meanwhile is passed over.
+    fn half_state<W: Watch>(
         &self,
         key: &ShareKey,
         digest: &Digest,
-        seen: &Metadata,
-    ) -> Result<Action, StoreError>
+        path: &str,
+        handling: &Handling,
+        watch: &mut W,
+    ) -> Result<Option<State>, StoreError>
+        ensures kept { (whole : Option ShareKey) (key : ShareKey) → IfOk result
+            (λ found. IfSome found (λ state. IsKeptUnless whole key state)) }
         ensures memory { IsOkUnless result StoreError.OutOfMemory }
     {
-        let file = ClosedFile {
+        let found = match standing_at(&self.rt, path) {
+            Ok(Standing::File(found)) => found,
+            Ok(Standing::Odd | Standing::Nothing) | Err(_) => return Ok(None),
+        };
+        if !handling.set_aside {
+            return Ok(Some(State::HalfAside(found.len(), Action::Left)));
+        }
+        let file = self.closed_file(key, digest);
+        match settle(&self.rt, self.rt.alloc(), &file, watch)? {
+            Err(error) if error.kind() == ErrorKind::NotFound => Ok(None),
+            outcome => Ok(Some(State::HalfAside(found.len(), action_of(outcome)))),
+        }
+    }
+
+    // The file of a closed share in the folder.
+    fn closed_file<'a>(&'a self, key: &'a ShareKey, digest: &'a Digest) -> ClosedFile<'a> {
+        ClosedFile {
             folder: self.folder.as_str(),
             key,
             digest,
-        };
-        let outcome = set_aside(&self.rt, self.rt.alloc(), &file, seen)?;
-        Ok(action_of(outcome))
+        }
     }
 }
 

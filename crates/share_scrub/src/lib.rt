@@ -2,6 +2,7 @@
 //! each is compared with the digest in its name. And what stands in the way of shares that are put.
 #![tactic(auto)]
 
+mod aside;
 mod bytes;
 mod files;
 mod folder;

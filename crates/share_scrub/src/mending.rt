@@ -7,9 +7,10 @@ ghost use Rattle.share_store.specs.declared.error.StoreError.{StoreError};
 ghost use Rattle.share_scrub.specs.Clearing.{Counts, fate_by, fate_of, fate_read};
 ghost use Rattle.share_scrub.specs.declared.mending.Outcome.TheVariants.{Kept, WasLeft};
 
+use crate::aside::{ClosedFile, set_aside, settle};
 use crate::bytes::{Verdict, Watch};
-use crate::files::{ClosedFile, Standing, check_file, is_left_over, set_aside, standing_at};
-use crate::name::{FileKind, ShareFile};
+use crate::files::{Standing, check_file, is_left_over, standing_at};
+use crate::name::{FileKind, HALF_ASIDE, ShareFile};
 use cap_text::to_base32;
 use share_folders::names::closed_path;
 use share_store::error::StoreError;
@@ -163,11 +164,13 @@ impl Cleared {
 /// Clears the way for the shares of a storage index in a folder. The file of an open share is
 /// removed where nobody wrote to it for 600 seconds. The file of a closed share is set aside where
 /// it has another length than the shares that are put, and, where their digests are given, where
-/// the digest in its name or that of its bytes is none of them. Nothing else is touched. A folder
-/// that is not there has no files.
+/// the digest in its name or that of its bytes is none of them. Before all this, what is half set
+/// aside is settled: a whole share gets its closed name back, and is held against what is wanted as
+/// others are. Nothing else is touched. A folder that is not there has no files.
 ///
-/// `StoreFault` where the folder cannot be read: then nothing was done. `OutOfMemory` leaves the
-/// files at and behind which it came as they are.
+/// `StoreFault` where the folder cannot be read: then nothing was done, but for what was half set
+/// aside. `OutOfMemory` leaves the files behind which it came as they are, and the one at which it
+/// came too, or half set aside.
 pub fn clear_way<R, W>(
     rt: &R,
     folder: &str,
@@ -182,7 +185,41 @@ where
         Err(error) if error.kind() == ErrorKind::NotFound => return Ok(Cleared::new(rt.alloc())),
         outcome => outcome?,
     };
+    let files = settle_files(rt, folder, files, &wanted.index, watch)?;
     clear_files(rt, folder, files.as_slice(), wanted, watch)
+}
+
+// Settles those of these files that are half set aside, and lists them anew where there are some.
+// One that cannot be settled is in nobody's way, unless something else is to be set aside.
+fn settle_files<R, W>(
+    rt: &R,
+    folder: &str,
+    files: Vec<ShareFile>,
+    index: &StorageIndex,
+    watch: &mut W,
+) -> Result<Vec<ShareFile>, StoreError>
+where
+    R: Files + AllocGlobal + Clone + Drop,
+    W: Watch,
+{
+    let mut is_old = false;
+    for file in files.as_slice() {
+        if let FileKind::Aside(digest, HALF_ASIDE) = &file.kind {
+            let key = &file.key;
+            let file = ClosedFile {
+                folder,
+                key,
+                digest,
+            };
+            let _ = settle(rt, rt.alloc(), &file, watch)?;
+            is_old = true;
+        }
+    }
+    if is_old {
+        Ok(files_of(rt, folder, index)?)
+    } else {
+        Ok(files)
+    }
 }
 
 // The share files of a storage index in a folder, in their order. A folder may hold many of others:
@@ -307,7 +344,7 @@ where
         Err(error) => return left(error),
     };
     match fate_at(rt, file, &seen, wanted, watch)? {
-        Ok(Fate::SetAside) => match set_aside(rt, rt.alloc(), file, &seen)? {
+        Ok(Fate::SetAside) => match set_aside(rt, rt.alloc(), file, &seen, watch)? {
             Ok(()) => Ok(Outcome::WasSetAside),
             Err(error) => left(error),
         },

@@ -1,6 +1,6 @@
 //! The share files of a folder, by their names.
 
-ghost use Rattle.std.specs.Prelude.{◌≡◌, ◌≢◌, ◌≤◌, ◌<◌, ◌++◌, ℕ, List, codes, decimal, length};
+ghost use Rattle.std.specs.Prelude.{◌≡◌, ◌≢◌, ◌<◌, ◌++◌, ℕ, List, codes, decimal, length};
 ghost use Rattle.std.specs.Prelude.{Option, IfNone, IfSome, IsSome, IsSomeAnd, IsOkUnless, IfOk};
 ghost use Rattle.std.specs.String.{string_bytes};
 ghost use Rattle.share_store.specs.declared.error.StoreError.{StoreError};
@@ -15,6 +15,9 @@ use share_store::shelf::ShareKey;
 use std::alloc::Global;
 use tagged_hash::read_decimal;
 use wire::message::Digest;
+
+/// The number of a file that is half set aside.
+pub(crate) const HALF_ASIDE: u8 = 0;
 
 /// The most files of one closed name that are set aside.
 pub(crate) const MAX_ASIDE: u8 = 99;
@@ -43,7 +46,7 @@ pub enum FileKind {
     /// them have none.
     Open(Option<OwnToken>),
     /// A closed share's that was set aside: the digest in its name, and which of that name it is,
-    /// from 1 to 99.
+    /// from 1 to 99; 0 where it is half set aside, as it was when its process ended.
     Aside(Digest, u8),
 }
 
@@ -150,7 +153,7 @@ fn read_first_aside(name: &[u8]) -> Option<ShareFile>
 fn read_numbered(name: &[u8], digits: usize) -> Option<ShareFile>
     ensures value { IfSome result (λ file. name.now ≡ file_name file) }
     ensures only { (key : ShareKey) (digest : List ℕ) (number : ℕ) → IsNamed key digest
-        → 2 ≤ number → number < 100 → length (decimal number) ≡ digits
+        → number ≢ 1 → number < 100 → length (decimal number) ≡ digits
         → name.now ≡ aside_name key digest number → IsSome result }
 {
     if name.len() < digits {
@@ -175,13 +178,13 @@ fn aside_file(closed: &[u8], number: u8) -> Option<ShareFile>
     })
 }
 
-// The number of a file that is set aside and is not the first.
+// The number of a file that is set aside and is not the first, which has none.
 fn read_number(text: &[u8]) -> Option<u8>
-    ensures value { IfSome result (λ n. (2 ≤ n) × (n < 100) × (text.now ≡ decimal n)) }
-    ensures only { (n : ℕ) → 2 ≤ n → n < 100 → text.now ≡ decimal n → IsSome result }
+    ensures value { IfSome result (λ n. (n ≢ 1) × (n < 100) × (text.now ≡ decimal n)) }
+    ensures only { (n : ℕ) → n ≢ 1 → n < 100 → text.now ≡ decimal n → IsSome result }
 {
     let number = read_decimal(text)?;
-    if number < 2 {
+    if number == 1 {
         return None;
     }
     if number > u64::from(MAX_ASIDE) {
