@@ -42,6 +42,11 @@ fn aside(index: StorageIndex, number: u8) -> ShareFile {
     file(index, number, FileKind::Aside(THREE, 1))
 }
 
+// One that is half set aside, as a process leaves it that is killed there.
+fn half(index: StorageIndex, number: u8) -> ShareFile {
+    file(index, number, FileKind::Aside(THREE, 0))
+}
+
 // The only fault of a path is that memory is out, and so it is of the next finding.
 fn as_io<T: Drop>(outcome: Result<T, StoreError>) -> io::Result<T> {
     match outcome {
@@ -86,6 +91,7 @@ enum Found {
     Odd,
     LeftOpen(u64, Did),
     Aside(u64, Did),
+    HalfAside(u64, Did),
 }
 
 #[derive(Clone, Copy, Debug, PartialEq, Eq)]
@@ -111,6 +117,7 @@ fn found_as(finding: &Finding) -> (ShareFile, Found) {
         State::Odd => Found::Odd,
         State::LeftOpen(length, action) => Found::LeftOpen(*length, deed_of(action)),
         State::Aside(length, action) => Found::Aside(*length, deed_of(action)),
+        State::HalfAside(length, action) => Found::HalfAside(*length, deed_of(action)),
     };
     (finding.file, found)
 }
@@ -290,6 +297,47 @@ fn aside_files_go_beside_whole_ones(rt: HostRuntime) -> Result<(), Fail> {
     Ok(())
 }
 
+// Half set aside are a whole share, a damaged one, what a rename was to go over, and a folder.
+fn fill_half(rt: &HostRuntime) -> io::Result<()> {
+    begin(rt)?;
+    make(rt, &half(INDEX, 0), b"\x01\x02\x03")?;
+    make(rt, &half(INDEX, 1), b"\x01\x02")?;
+    make(rt, &half(INDEX, 2), b"")?;
+    fs::create_dir(rt, file_path(rt, &half(INDEX, 3), "")?.as_str())?;
+    Ok(())
+}
+
+fn half_rows(done: Did) -> [(ShareFile, Found); 3] {
+    [
+        (half(INDEX, 0), Found::HalfAside(3, done)),
+        (half(INDEX, 1), Found::HalfAside(2, done)),
+        (half(INDEX, 2), Found::HalfAside(0, done)),
+    ]
+}
+
+// What is half set aside is settled where that is asked for: a whole share has its name back. A
+// file is set aside beside what others left so.
+#[test]
+fn half_set_aside_files_are_settled(rt: HostRuntime) -> Result<(), Fail> {
+    fill_half(&rt)?;
+    assert!(rt; tells(&rt, REMOVE_DAMAGED, &half_rows(Did::Nothing), 0)?);
+    assert!(rt; tells(&rt, SET_ASIDE, &half_rows(Did::What), 5)?);
+    let whole = (closed(INDEX, 0, THREE), Found::Whole);
+    let damaged = (aside(INDEX, 1), Found::Aside(2, Did::Nothing));
+    assert!(rt; tells(&rt, SET_ASIDE, &[whole, damaged], 3)?);
+    let closed = closed(INDEX, 6, THREE);
+    make(&rt, &closed, b"\x01")?;
+    make(&rt, &half(INDEX, 6), b"\x02\x02")?;
+    let done = (closed, Found::Damaged(Did::What));
+    assert!(rt; tells(&rt, SET_ASIDE, &[whole, damaged, done], 6)?);
+    let first = (aside(INDEX, 6), Found::Aside(2, Did::Nothing));
+    let second = file(INDEX, 6, FileKind::Aside(THREE, 2));
+    let second = (second, Found::Aside(1, Did::Nothing));
+    assert!(rt; tells(&rt, SET_ASIDE, &[whole, damaged, first, second], 3)?);
+    remove(&rt)?;
+    Ok(())
+}
+
 // Of shares of three bytes one that is whole, a short one, an empty one, one with the digest of
 // another, a damaged one, one whose number has no share, a folder, an open one, and another's.
 fn fill_one_index(rt: &HostRuntime) -> io::Result<()> {
@@ -345,13 +393,8 @@ fn the_way_is_cleared(rt: HostRuntime) -> Result<(), Fail> {
     assert!(rt; none.set_aside == 0 && none.odd.is_empty());
     fill_one_index(&rt)?;
     assert!(rt; is_cleared(&clear(&rt, &steps, None, 0)?, 2, 0));
-    let each = [
-        Step::Rename,
-        Step::SyncFolder,
-        Step::Rename,
-        Step::SyncFolder,
-    ];
-    assert!(rt; steps.were(&each));
+    let each = [Step::Rename, Step::Rename, Step::SyncFolder];
+    assert!(rt; steps.were([each, each].as_flattened()));
     let made = [THREE; 5];
     assert!(rt; is_cleared(&clear(&rt, &steps, Some(&made), 0)?, 3, 0));
     assert!(rt; is_cleared(&clear(&rt, &steps, Some(&made), OPEN_SECONDS + 1)?, 0, 1));
@@ -368,6 +411,34 @@ fn the_way_is_cleared(rt: HostRuntime) -> Result<(), Fail> {
         (closed(OTHER_INDEX, 1, THREE), Found::Damaged(Did::Nothing)),
     ];
     assert!(rt; tells(&rt, NOTHING, &rows, 4)?);
+    remove(&rt)?;
+    Ok(())
+}
+
+// What is half set aside is settled before the rest, with links and without: a whole share is kept,
+// also one that a whole share or a damaged one of its name stands beside.
+#[test]
+fn half_set_aside_files_are_in_nobodys_way(rt: HostRuntime) -> Result<(), Fail> {
+    let steps = Steps::new(rt.alloc());
+    for failing in [None, Some(Step::Link)] {
+        steps.failing.set(failing);
+        fill_half(&rt)?;
+        make(&rt, &half(OTHER_INDEX, 0), b"\x01\x02\x03")?;
+        for (number, bytes) in [(4, b"\x01\x02\x03"), (5, b"\x01\x02\x02")] {
+            make(&rt, &closed(INDEX, number, THREE), bytes)?;
+            make(&rt, &half(INDEX, number), b"\x01\x02\x03")?;
+        }
+        let cleared = clear(&rt, &steps, Some(&[THREE; 6]), 0)?;
+        assert!(rt; cleared.set_aside == 0 && cleared.left.is_empty() && cleared.odd.is_empty());
+        let rows = [
+            (closed(INDEX, 0, THREE), Found::Whole),
+            (aside(INDEX, 1), Found::Aside(2, Did::Nothing)),
+            (closed(INDEX, 4, THREE), Found::Whole),
+            (closed(INDEX, 5, THREE), Found::Whole),
+            (half(OTHER_INDEX, 0), Found::HalfAside(3, Did::Nothing)),
+        ];
+        assert!(rt; tells(&rt, NOTHING, &rows, 9)?);
+    }
     remove(&rt)?;
     Ok(())
 }
@@ -390,6 +461,10 @@ fn what_is_left_is_told(rt: HostRuntime) -> Result<(), Fail> {
         assert!(rt; fs::exists(&rt, file_path(&rt, &file, "")?.as_str())?);
         assert!(rt; !fs::exists(&rt, file_path(&rt, &file, ".damaged")?.as_str())?);
     }
+    steps.failing.set(None);
+    assert!(rt; is_cleared(&clear(&rt, &steps, None, 0)?, 2, 0));
+    let half = file_path(&rt, &half(INDEX, 1), "")?;
+    assert!(rt; !fs::exists(&rt, half.as_str())?);
     remove(&rt)?;
     Ok(())
 }

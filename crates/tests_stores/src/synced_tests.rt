@@ -20,6 +20,7 @@ pub(crate) enum Step {
     SyncFile,
     SyncFolder,
     Rename,
+    Link,
 }
 
 // The calls so far, and the one that fails.
@@ -117,6 +118,11 @@ impl<'a> Files for NotedFiles<'a> {
     fn rename(&self, from: &str, to: &str) -> io::Result<()> {
         self.steps.note(Step::Rename)?;
         self.rt.rename(from, to)
+    }
+
+    fn hard_link(&self, original: &str, link: &str) -> io::Result<()> {
+        self.steps.note(Step::Link)?;
+        self.rt.hard_link(original, link)
     }
 
     fn remove_file(&self, path: &str) -> io::Result<()> {
