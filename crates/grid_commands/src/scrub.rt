@@ -197,13 +197,14 @@ where
     print(out, line?.as_bytes())
 }
 
-// Why a file could not be read, set aside or removed.
+// Why a file could not be read, set aside, settled or removed.
 fn reason_of(state: &State) -> Option<io::Error> {
     match state {
         State::Unreadable(error)
         | State::Damaged(Action::Failed(error))
         | State::LeftOpen(_, Action::Failed(error))
-        | State::Aside(_, Action::Failed(error)) => Some(*error),
+        | State::Aside(_, Action::Failed(error))
+        | State::HalfAside(_, Action::Failed(error)) => Some(*error),
         _ => None,
     }
 }

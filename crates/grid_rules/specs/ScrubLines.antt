@@ -8,8 +8,8 @@ use Rattle.share_scrub.specs.declared.folder.Action.TheVariants.{Left, Done, Fai
 use Rattle.share_scrub.specs.declared.folder.Finding.{Finding}
 use Rattle.share_scrub.specs.declared.folder.State.{State}
 use Rattle.share_scrub.specs.declared.folder.State.TheVariants.{Whole, Damaged, Unreadable, Odd}
-use Rattle.share_scrub.specs.declared.folder.State.TheVariants.{LeftOpen, Aside}
-use Rattle.grid_faults.specs.Servers.{server_name}
+use Rattle.share_scrub.specs.declared.folder.State.TheVariants.{LeftOpen, Aside, HalfAside}
+use Rattle.grid_rules.specs.ReportLines.{server_name}
 use Rattle.grid_rules.specs.declared.scrubbing.Scrubbed.{Scrubbed}
 
 -- what became of a damaged file, and of one that was left open or had been set aside
@@ -23,6 +23,12 @@ removed_text Left = []
 removed_text Done = codes " removed"
 removed_text (Failed _) = codes " not-removed"
 
+-- what became of a file that was half set aside
+abbrev pub settled_text : Action → List ℕ
+settled_text Left = []
+settled_text Done = codes " settled"
+settled_text (Failed _) = codes " not-settled"
+
 -- how a file was found
 abbrev pub state_text : State → List ℕ
 state_text Whole = codes "whole"
@@ -31,6 +37,7 @@ state_text (Unreadable _) = codes "unreadable"
 state_text Odd = codes "odd"
 state_text (LeftOpen bytes action) = codes "open " ++ (decimal bytes ++ removed_text action)
 state_text (Aside bytes action) = codes "aside " ++ (decimal bytes ++ removed_text action)
+state_text (HalfAside bytes action) = codes "half-aside " ++ (decimal bytes ++ settled_text action)
 
 -- the line of a file: server, storage index, number of the share, and how it was found
 abbrev pub finding_line : ℕ → Finding → List ℕ
@@ -68,15 +75,15 @@ last_json s = codes "{\"shares\":" ++ (decimal s.shares ++ (codes ",\"damaged\":
 abbrev pub one_more : ℕ → ℕ
 one_more n = min (n + 1) 18446744073709551615
 
--- one more of those that were set aside, where it still stands
+-- one more of those that were set aside, or half, where it still stands so
 abbrev pub aside_after : Action → ℕ → ℕ
 aside_after Left n = one_more n
 aside_after Done n = n
 aside_after (Failed _) n = one_more n
 
 -- A closed share's regular file is one of those that were looked at, whichever way it was found.
--- What else has such a name is counted by itself, and so are files that were set aside. Files that
--- were left open are told, and not counted.
+-- What else has such a name is counted by itself, and so are files that were set aside, or half.
+-- Files that were left open are told, and not counted.
 abbrev pub counted : Scrubbed → State → Scrubbed
 counted s Whole =
     record {
@@ -112,6 +119,14 @@ counted s Odd =
     }
 counted s (LeftOpen _ _) = s
 counted s (Aside _ action) =
+    record {
+      shares = s.shares;
+      damaged = s.damaged;
+      unreadable = s.unreadable;
+      odd = s.odd;
+      aside = aside_after action s.aside;
+    }
+counted s (HalfAside _ action) =
     record {
       shares = s.shares;
       damaged = s.damaged;

@@ -4,7 +4,8 @@ ghost use Rattle.std.specs.Prelude.{◌≡◌, IfOk};
 ghost use Rattle.std.specs.String.{string_bytes};
 ghost use Rattle.grid_rules.specs.ScrubLines.{aside_after, aside_text, counted, finding_json};
 ghost use Rattle.grid_rules.specs.ScrubLines.{finding_line, finding_object, last_json, last_line};
-ghost use Rattle.grid_rules.specs.ScrubLines.{removed_text, scrub_status, some_text, state_text};
+ghost use Rattle.grid_rules.specs.ScrubLines.{removed_text, scrub_status, settled_text, some_text};
+ghost use Rattle.grid_rules.specs.ScrubLines.{state_text};
 
 use cap_text::to_base32;
 use grid_faults::{Fault, server_name};
@@ -21,7 +22,7 @@ pub struct Scrubbed {
     pub unreadable: u64,
     /// Closed shares' names that are those of something else than a regular file.
     pub odd: u64,
-    /// Files that were set aside, and still stand.
+    /// Files that were set aside, or half set aside, and still stand so.
     pub aside: u64,
 }
 
@@ -51,7 +52,9 @@ impl Scrubbed {
             }
             State::Odd => self.odd = self.odd.saturating_add(1),
             State::LeftOpen(..) => {}
-            State::Aside(_, action) => self.aside = aside_after(action, self.aside),
+            State::Aside(_, action) | State::HalfAside(_, action) => {
+                self.aside = aside_after(action, self.aside);
+            }
         }
     }
 
@@ -162,6 +165,9 @@ fn state_text(alloc: Global, state: &State) -> Result<String, AllocError>
         State::Aside(bytes, action) => {
             format!(in alloc; "aside {bytes}{}", removed_text(action))
         }
+        State::HalfAside(bytes, action) => {
+            format!(in alloc; "half-aside {bytes}{}", settled_text(action))
+        }
     }
 }
 
@@ -184,5 +190,16 @@ fn removed_text(action: &Action) -> &'static str
         Action::Left => "",
         Action::Done => " removed",
         Action::Failed(_) => " not-removed",
+    }
+}
+
+// What became of a file that was half set aside.
+fn settled_text(action: &Action) -> &'static str
+    ensures { result.now ≡ settled_text action.now }
+{
+    match action {
+        Action::Left => "",
+        Action::Done => " settled",
+        Action::Failed(_) => " not-settled",
     }
 }
