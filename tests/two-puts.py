@@ -15,6 +15,8 @@ import sys
 import time
 
 SHARE = re.compile(r"[a-z2-7]{26}\.[0-9]+\.[a-z2-7]{52}")
+# behind the name of a share that is half set aside
+HALF = ".damaged.0"
 NAMING = (b"mkdir", b"create", b"rename", b"link", b"remove")
 # What becomes of the first and of the second behind their stops. `go`: it goes on to its end.
 # `die`: it is killed. `later`: it goes on, and ends right after its next rename, link or removal.
@@ -144,6 +146,17 @@ def shares_in(grid):
                 yield path, name, contents(path)
 
 
+def halves_in(grid):
+    """The files below a folder that are half set aside: path, closed name and bytes."""
+    for folder, folders, names in os.walk(grid):
+        folders.sort()
+        for name in sorted(names):
+            closed = name.removesuffix(HALF)
+            if closed != name and SHARE.fullmatch(closed):
+                path = os.path.join(folder, name)
+                yield path, closed, contents(path)
+
+
 def chosen(calls, takes_all):
     """After which calls a program is stopped beside one that is stopped too."""
     if takes_all:
@@ -181,6 +194,7 @@ class Scene:
         if room.run("put", room.file, "--grid", made, *numbers, "-q") != 0:
             sys.exit(2)
         self.cap = contents(room.told).decode().strip()
+        self.needed = int(self.cap.split(":")[4])
         self.shares = {name: data for _, name, data in shares_in(made)}
         self.is_damaged = before == "damaged"
         getattr(self, f"make_{before}")(made)
@@ -190,10 +204,9 @@ class Scene:
 
     def make_one(self, made):
         """As many good shares as are needed, and empty folders."""
-        needed = self.cap.split(":")[4]
         for at in range(len(self.shares)):
             server = f"server-{at:03}"
-            if at < int(needed):
+            if at < self.needed:
                 shutil.copytree(f"{made}/{server}", f"{self.before}/{server}")
             else:
                 os.makedirs(f"{self.before}/{server}")
@@ -253,12 +266,18 @@ class Scene:
         there = path.replace(self.room.grid, self.before, 1)
         return os.path.exists(there) and contents(there) == contents(path)
 
-    def reached(self):
-        """How many servers have a whole share of their own."""
+    def reached(self, with_halves=False):
+        """How many servers have a whole share of their own, also one that is half set aside."""
         by_server = collections.defaultdict(list)
         for path, name, data in shares_in(self.room.grid):
             if data == self.shares.get(name):
                 by_server[os.path.dirname(path)].append(name)
+        if with_halves:
+            for path, name, data in halves_in(self.room.grid):
+                server = os.path.dirname(path)
+                is_free = not os.path.lexists(os.path.join(server, name))
+                if is_free and data == self.shares.get(name):
+                    by_server[server].append(name)
         owners = {}
         return sum(takes_share(server, by_server, owners, set()) for server in by_server)
 
@@ -277,13 +296,16 @@ class Scene:
         yield from (f"damaged: {os.path.relpath(path, room.grid)}"
                     for path in self.bad_shares() if not self.is_as_before(path))
         told = max(first.happiness(), second.happiness())
-        if self.reached() < told:
-            yield f"happiness {told} was told, {self.reached()} is there"
-        if told and not self.gets():
+        # what is half set aside gets its name back by the next put, and is not read before
+        if self.reached(with_halves=True) < told:
+            yield f"happiness {told} was told, {self.reached(with_halves=True)} is there"
+        if told and self.reached() >= self.needed and not self.gets():
             yield "stored, and not there"
         third = [*self.puts, *(["--mend"] if self.is_damaged else []), "--no-sync"]
         if room.run(*third) != 0 or self.reached() < happiness_in(room.told):
             yield "not all is there after a third put"
+        yield from (f"half set aside after a third put: {os.path.relpath(path, room.grid)}"
+                    for path, _, _ in halves_in(room.grid))
         if not self.gets():
             yield "not there after a third put"
         if room.run("scrub", "--grid", room.grid) != 0:
