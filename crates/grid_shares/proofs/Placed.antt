@@ -15,8 +15,8 @@ use Rattle.local_grid.specs.Turns.{GridState}
 use Rattle.carried_operations.specs.Stored.{IsCarried, IsStored}
 use Rattle.carried_operations.proofs.Storing.{stored}
 use Rattle.grid_rules.specs.Ending.{ending_of}
-use Rattle.grid_rules.specs.Servers.{server_of}
-use Rattle.grid_rules.specs.declared.fault.Fault.{Fault}
+use Rattle.grid_faults.specs.Servers.{server_of}
+use Rattle.grid_faults.specs.declared.fault.Fault.{Fault}
 use Rattle.grid_servers.specs.Opened.{AreOpened}
 use Rattle.std.specs.List.{range_with_len}
 use Rattle.std.proofs.Common.{Bool}

@@ -1,5 +1,6 @@
 -- What a check and a repair come to.
 use Rattle.std.proofs.Common.{◌≡◌, ℕ, List, ◌++◌, Bool, Option, Some, None, Result, Ok, Err, IfOk, IfSome, codes, decimal, sym, subst, ap, ◌∙◌}
+use Rattle.std.proofs.Common.{MatchResult, is_ok, true≢false}
 use Rattle.std.specs.Option.{ok_or}
 use Rattle.cap_text.specs.Cap.{VerifyCapValue}
 use Rattle.share_folders.specs.Folder.{FolderState, folder_calls}
@@ -16,7 +17,20 @@ use Rattle.grid_servers.specs.Opened.{AreOpened}
 use Rattle.grid_shares.specs.Checks.{IsCheckOf, IsChecked, check_text}
 use Rattle.grid_shares.specs.Placing.{ArePlaced, MadeShares}
 use Rattle.grid_shares.specs.Puts.{stored_status, whole_calls}
-use Rattle.grid_shares.specs.Repairs.{AreFoundBy, AreMadeOf, IsRepairOf}
+use Rattle.grid_shares.specs.Repairs.{AreFoundBy, AreMadeOf, IsRepairBy, IsRepairFor, IsRepairOf}
+use Rattle.grid_shares.specs.Checks.{verify_of}
+use Rattle.grid_words.specs.declared.words.RepairWords.{RepairWords}
+use Rattle.grid_faults.specs.declared.fault.Fault.{Fault}
+use Rattle.cap_text.specs.CapText.{Spells}
+use Rattle.cap_text.specs.declared.cap.Cap.{Cap}
+use Rattle.std.proofs.lemmas.Result.{IfOk-weaker}
+use Rattle.std.proofs.Common.{nat_eq}
+use Rattle.std.specs.List.{IsDistinct}
+use Rattle.std.proofs.Common.{refl}
+use Rattle.file_encoding.specs.Regenerated.{AreRegenerated}
+use Rattle.file_encoding.specs.RemadeLaws.{ArePassing}
+use Rattle.file_upload.specs.Shares.{ReadyShares, shares_goal}
+use Rattle.upload_core.specs.State.{Goal}
 use Rattle.grid_shares.specs.declared.Outcome.{Outcome}
 use Rattle.grid_shares.specs.declared.placing.Stored.{Stored}
 
@@ -24,6 +38,13 @@ use Rattle.grid_shares.specs.declared.placing.Stored.{Stored}
 pub told_ok : {A E : Type 0} (o : Option A) (e : E) (r : Result A E) (P Q : A → Type 0) → r ≡ ok_or o e → ((a : A) → P a → Q a) → IfSome o P → IfOk r Q
 told_ok (Some a) e r P Q is weaker p = subst (λ (x : Result _ _). IfOk x Q) (sym is) (weaker a p)
 told_ok None e r P Q is weaker p = subst (λ (x : Result _ _). IfOk x Q) (sym is) tt
+
+-- what holds of a value still holds where an error beside it becomes another
+pub still_ok : {X E F : Type 0} (r : Result X E) (s : Result X F) (P : X → Type 0) (Q : E → Type 0)
+    → MatchResult r (λ x. s ≡ Ok x) Q → is_ok s ≡ is_ok r → IfOk r P → IfOk s P
+still_ok (Ok x) s P Q is same p = subst (λ (o : Result _ _). IfOk o P) (sym is) p
+still_ok (Err e) (Ok y) P Q is same p = absurd (true≢false same)
+still_ok (Err e) (Err f) P Q is same p = tt
 
 module _ {L : Type 0} (carries : Carries L) (grid : List ℕ) (cap : VerifyCapValue) (servers : List ℕ) where
   -- a check that was carried, and its report
@@ -54,3 +75,32 @@ module _ {L : Type 0} (carries : Carries L) (grid : List ℕ) (cap : VerifyCapVa
     carried = carried;
     good = subst (λ (x : VerifyCapValue). AreGoodShares x ended.requests.entries numbers strings) (carried.cap ∙ begins.of_cap) good;
   }
+
+-- what a repair tells by its words
+pub repair_told : {L : Type 0} (carries : Carries L) (words : RepairWords) (read : Cap) (of : Option VerifyCapValue) (cap : VerifyCapValue) (happy : ℕ) (servers used : List ℕ) → Spells words.cap.now read
+    → of ≡ verify_of read → of ≡ Some cap → happy ≡ words.happy → servers ≡ used → IsDistinct nat_eq servers
+    → (r : Result Outcome Fault) → IfOk r (IsRepairOf carries words.grid.now cap happy used) → IfOk r (IsRepairBy carries words)
+repair_told carries words read of cap happy servers used spelled is some wanted same distinct r told = IfOk-weaker r _ _
+    (λ outcome t. record {
+      cap = read;
+      spelled = spelled;
+      told = subst (λ (x : Option VerifyCapValue). IsRepairFor carries words x outcome) (sym some ∙ is)
+          (servers, distinct, subst (λ (s : List ℕ). IsRepairOf carries words.grid.now cap words.happy s outcome) (sym same) (subst (λ (h : ℕ). IsRepairOf carries words.grid.now cap h used outcome) wanted t));
+    })
+    told
+
+-- shares that were made anew, and made ready
+pub made_anew : (cap : VerifyCapValue) (happy : ℕ) (numbers : List ℕ) (strings shares : List (List ℕ)) (ready : ReadyShares) (pieces : List (List ℕ)) (goal : Goal) (made : MadeShares (List (List ℕ)))
+    → ready ≡ record { cap = cap; happy = happy; shares = shares } → pieces ≡ ready.shares → goal ≡ shares_goal ready.cap ready.shares → made ≡ record { pieces = pieces; goal = goal; happy = happy }
+    → AreRegenerated cap numbers strings shares → ArePassing cap shares → AreMadeOf cap happy numbers strings made
+made_anew cap happy numbers strings shares ready pieces goal made is of to made_is anew passing =
+    let brought : pieces ≡ shares = of ∙ ap (λ (r : ReadyShares). r.shares) is in
+    let wanted : goal ≡ shares_goal cap pieces =
+    to ∙ ap (λ (r : ReadyShares). shares_goal r.cap r.shares) is ∙ ap (λ (s : List (List ℕ)). shares_goal cap s) (sym brought) in
+    subst (λ (m : MadeShares (List (List ℕ))). AreMadeOf cap happy numbers strings m) (sym made_is)
+    (record {
+      goal = wanted;
+      happy_is = refl;
+      anew = subst (λ (s : List (List ℕ)). AreRegenerated cap numbers strings s) (sym brought) anew;
+      passing = subst (λ (s : List (List ℕ)). ArePassing cap s) (sym brought) passing;
+    })

@@ -1,6 +1,10 @@
 -- What a check tells.
-use Rattle.std.specs.Prelude.{◌≡◌, ℕ, List, Bool, if◌then◌else◌}
-use Rattle.cap_text.specs.Cap.{VerifyCapValue}
+use Rattle.std.specs.Prelude.{◌≡◌, ℕ, List, Bool, Option, Some, None, if◌then◌else◌, codes, nat_eq}
+use Rattle.std.specs.List.{IsDistinct}
+use Rattle.cap_text.specs.Cap.{VerifyCapValue, verify_cap_of}
+use Rattle.cap_text.specs.CapText.{Spells}
+use Rattle.cap_text.specs.declared.cap.Cap.{Cap}
+use Rattle.cap_text.specs.declared.cap.Cap.TheVariants.{Chk, Verify, Lit}
 use Rattle.share_folders.specs.Folder.{FolderState, folder_calls}
 use Rattle.checker.specs.Moves.{Begins}
 use Rattle.checker.specs.Report.{IsReport}
@@ -12,6 +16,7 @@ use Rattle.carried_operations.specs.Checked.{IsCarried}
 use Rattle.grid_rules.specs.ReportJson.{report_json}
 use Rattle.grid_rules.specs.ReportLines.{report_lines, report_status}
 use Rattle.grid_servers.specs.Opened.{AreOpened}
+use Rattle.grid_words.specs.declared.words.CheckWords.{CheckWords}
 use Rattle.grid_shares.specs.declared.Outcome.{Outcome}
 
 -- A check of these servers of a grid, each over its own folder, was begun and carried to its end,
@@ -38,3 +43,29 @@ pub record IsCheckOf {L : Type 0} (carries : Carries L) (grid : List ℕ) (cap :
   pub checked : IsChecked carries grid cap servers report
   pub told : outcome.text.items ≡ check_text report cap.total json
   pub status_is : outcome.status ≡ report_status report strict
+
+-- the verify cap of a cap; one that holds its file has none
+abbrev pub verify_of : Cap → Option VerifyCapValue
+verify_of (Chk cap) = Some (verify_cap_of cap)
+verify_of (Verify cap) = Some cap
+verify_of (Lit file) = None
+
+-- what is told of a cap that holds its file
+abbrev pub literal_text : Bool → List ℕ
+literal_text json = if json then codes "{\"literal\":true}\n" else codes "literal\n"
+
+-- What these words tell by the verify cap of their cap: that there is none, or what was found of
+-- its shares at servers of the grid, none of which was asked twice.
+abbrev pub IsCheckFor : {L : Type 0} → Carries L → CheckWords → Option VerifyCapValue → Outcome
+    → Type 0
+IsCheckFor carries words None outcome =
+    (outcome.text.items ≡ literal_text words.json) × (outcome.status ≡ 0)
+IsCheckFor carries words (Some cap) outcome = (servers : List ℕ) × IsDistinct nat_eq servers
+    × IsCheckOf carries words.grid.now cap servers words.json words.strict outcome
+
+-- What a check tells by its words, whose text is that of a cap.
+pub record IsCheckBy {L : Type 0} (carries : Carries L) (words : CheckWords) (outcome : Outcome)
+    : Type 0 where
+  pub cap : Cap
+  pub spelled : Spells words.cap.now cap
+  pub told : IsCheckFor carries words (verify_of cap) outcome

@@ -8,7 +8,7 @@ use Rattle.share_folders.specs.Folder.{FolderState, folder_calls}
 use Rattle.local_grid.specs.Nodes.{Carries}
 use Rattle.local_grid.specs.Turns.{GridState}
 use Rattle.carried_operations.specs.Stored.{IsStored}
-use Rattle.grid_rules.specs.Servers.{server_of}
+use Rattle.grid_faults.specs.Servers.{server_of}
 use Rattle.grid_servers.specs.Opened.{AreOpened}
 use Rattle.grid_servers.specs.Servers.{servers_without}
 use Rattle.grid_shares.specs.declared.placing.Stored.{Stored}

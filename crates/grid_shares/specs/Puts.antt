@@ -1,9 +1,14 @@
 -- What a put tells.
-use Rattle.std.specs.Prelude.{◌≡◌, ℕ, List, ◌++◌, Bool, if◌then◌else◌, codes, decimal, length, map}
+use Rattle.std.specs.Prelude.{◌≡◌, ℕ, ◌<◌, ◌≤◌, List, ◌++◌, Bool, if◌then◌else◌, codes, decimal}
+use Rattle.std.specs.Prelude.{length, map}
 use Rattle.std.specs.List.{range_with_len}
 use Rattle.cap_text.specs.Cap.{ReadCapValue}
 use Rattle.cap_text.specs.CapText.{lit_cap_text, read_cap_text}
-use Rattle.file_upload.specs.Prepared.{Prepared, goal_of}
+use Rattle.ueb.specs.Limits.{min_file_size}
+use Rattle.file_encoding.specs.Params.{UploadParameters, parameters_of}
+use Rattle.sources.specs.Opened.{Opened}
+use Rattle.file_streaming.specs.Prepared.{IsPreparedFrom}
+use Rattle.file_upload.specs.Prepared.{Prepared, goal_of, prepared_of}
 use Rattle.streamed_upload.specs.Ready as streamed
 use Rattle.streamed_upload.specs.Streamed.{GaveBytes, GaveNone, Streaming}
 use Rattle.request_record.specs.Operations.{OperationCalls}
@@ -11,6 +16,7 @@ use Rattle.upload_core.specs.Calls.{upload_calls}
 use Rattle.upload_core.specs.Pieces.{piece_of}
 use Rattle.upload_core.specs.Sending.{Uploading}
 use Rattle.local_grid.specs.Nodes.{Carries}
+use Rattle.grid_words.specs.declared.words.PutWords.{PutWords}
 use Rattle.grid_shares.specs.Placing.{ArePlaced, MadeShares}
 use Rattle.grid_shares.specs.declared.Outcome.{Outcome}
 use Rattle.grid_shares.specs.declared.placing.Stored.{Stored}
@@ -66,3 +72,31 @@ abbrev pub streamed_calls : {S : Type 0} → (S → ℕ → List ℕ → S → T
 streamed_calls gives failures = upload_calls
     (λ s share offset bytes after. GaveBytes gives s share offset bytes after)
     (λ s share offset len fault after. GaveNone gives failures s fault after)
+
+-- the numbers of these words
+abbrev pub numbers_of : PutWords → UploadParameters
+numbers_of words = record {
+  needed = words.needed;
+  happy = words.happy;
+  total = words.total;
+  max_segment = words.max_segment;
+}
+
+-- What a put tells by its words: the cap that holds a small file; or what became of the shares of
+-- another, by the numbers of the words and a secret. That was held, or read twice.
+pub data IsPutBy {F L : Type 0} (gives : Opened F → ℕ → List ℕ → Opened F → Type 0)
+    (carries : Carries L) (words : PutWords) (outcome : Outcome) : Type 0 where
+  small : (file : List ℕ) → length file < min_file_size → IsLiteralOf file outcome
+      → IsPutBy gives carries words outcome
+  held : (file secret : List ℕ) → min_file_size ≤ length file
+      → IsPutOf whole_calls carries words.grid.now
+      (made_of (prepared_of file secret (numbers_of words)))
+      (prepared_of file secret (numbers_of words)).cap words.quiet outcome
+      → IsPutBy gives carries words outcome
+  opened : (source : Opened F) → (secret : List ℕ) → (kept : Streaming (Opened F))
+      → min_file_size ≤ source.size
+      → IsPreparedFrom gives source.size source secret (parameters_of (numbers_of words))
+      kept.kept kept.source
+      → IsPutOf (streamed_calls gives (λ s. s.failures)) carries words.grid.now
+      (streamed_of kept words.happy) kept.kept.cap words.quiet outcome
+      → IsPutBy gives carries words outcome

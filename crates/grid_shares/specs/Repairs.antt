@@ -1,6 +1,9 @@
 -- What a repair tells.
-use Rattle.std.specs.Prelude.{◌≡◌, ℕ, List, ◌++◌, codes, decimal}
+use Rattle.std.specs.Prelude.{◌≡◌, ℕ, List, ◌++◌, Option, Some, None, false, codes, decimal, nat_eq}
+use Rattle.std.specs.List.{IsDistinct}
 use Rattle.cap_text.specs.Cap.{VerifyCapValue}
+use Rattle.cap_text.specs.CapText.{Spells}
+use Rattle.cap_text.specs.declared.cap.Cap.{Cap}
 use Rattle.file_encoding.specs.Regenerated.{AreRegenerated}
 use Rattle.file_encoding.specs.RemadeLaws.{ArePassing}
 use Rattle.file_upload.specs.Shares.{shares_goal}
@@ -12,6 +15,8 @@ use Rattle.local_grid.specs.Nodes.{Carries}
 use Rattle.local_grid.specs.Turns.{GridState}
 use Rattle.carried_operations.specs.Checked.{IsCarried}
 use Rattle.grid_servers.specs.Opened.{AreOpened}
+use Rattle.grid_words.specs.declared.words.RepairWords.{RepairWords}
+use Rattle.grid_shares.specs.Checks.{literal_text, verify_of}
 use Rattle.grid_shares.specs.Placing.{ArePlaced, MadeShares}
 use Rattle.grid_shares.specs.Puts.{stored_status, whole_calls}
 use Rattle.grid_shares.specs.declared.Outcome.{Outcome}
@@ -51,3 +56,19 @@ pub record IsRepairOf {L : Type 0} (carries : Carries L) (grid : List ℕ) (cap 
   pub placed : ArePlaced whole_calls carries grid servers made stored
   pub told : outcome.text.items ≡ codes "happiness " ++ (decimal stored.happiness ++ codes "\n")
   pub status_is : outcome.status ≡ stored_status stored.is_cleared
+
+-- What these words tell by the verify cap of their cap: that there is none, or what became of its
+-- shares at servers of the grid, each of which stands there once.
+abbrev pub IsRepairFor : {L : Type 0} → Carries L → RepairWords → Option VerifyCapValue → Outcome
+    → Type 0
+IsRepairFor carries words None outcome =
+    (outcome.text.items ≡ literal_text false) × (outcome.status ≡ 0)
+IsRepairFor carries words (Some cap) outcome = (servers : List ℕ) × IsDistinct nat_eq servers
+    × IsRepairOf carries words.grid.now cap words.happy servers outcome
+
+-- What a repair tells by its words, whose text is that of a cap.
+pub record IsRepairBy {L : Type 0} (carries : Carries L) (words : RepairWords) (outcome : Outcome)
+    : Type 0 where
+  pub cap : Cap
+  pub spelled : Spells words.cap.now cap
+  pub told : IsRepairFor carries words (verify_of cap) outcome

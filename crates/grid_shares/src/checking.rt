@@ -7,18 +7,19 @@ ghost use Rattle.share_folders.specs.Folder.{folder_calls};
 ghost use Rattle.socket_links.specs.Ends.{pair_calls};
 ghost use Rattle.socket_links.specs.Links.{IsCarriedOver};
 ghost use Rattle.carried_operations.specs.Checked.{HasBegun, IsCarried};
-ghost use Rattle.grid_shares.specs.Checks.{IsCheckOf, IsChecked, check_text};
+ghost use Rattle.grid_shares.specs.Checks.{IsCheckBy, IsCheckOf, IsChecked, check_text};
+ghost use Rattle.grid_shares.specs.Checks.{literal_text, verify_of};
 
-use crate::{DONE, Environment, LITERAL, Outcome};
+use crate::{DONE, Environment, Outcome};
 use cap_text::{Cap, VerifyCap};
 use carried_operations::checks::carry_check;
 use checker::Check;
 use checker::status::Report;
-use grid_rules::{
-    Fault, Verb, missing_shares, read_cap, report_json, report_lines, report_status, turn_limit,
-};
+use grid_faults::Fault;
+use grid_rules::becoming::fault_of_loop;
+use grid_rules::{missing_shares, read_cap, report_json, report_lines, report_status, turn_limit};
 use grid_servers::{FIRST_SESSION, FolderGrid, Purpose, asked_servers, open_servers};
-use grid_telling::{Counting, Progress, note_blame, note_servers};
+use grid_telling::{Counting, Progress, Verb, note_blame, note_servers};
 use grid_words::CheckWords;
 use share_reading::Verdict;
 use std::alloc::Global;
@@ -32,7 +33,10 @@ use wire::message::NodeId;
 /// and of its header, its share hashes and its extension block.
 const MOST_HASHES: u64 = 1 << 28;
 
-// What is told of a cap that holds its file, to programs.
+// What is told of a cap that holds its file, to people.
+const LITERAL: &[u8] = b"literal\n";
+
+// And to programs.
 const LITERAL_JSON: &[u8] = b"{\"literal\":true}\n";
 
 /// What is found of the shares of a cap's file, and the exit status: that of too few shares where
@@ -46,16 +50,26 @@ pub fn check<R, E>(
 where
     R: Files + Net + Clock + RandomSource + AllocGlobal + Clone + Drop,
     E: Write + IsTerminal,
+    ensures { IfOk result (IsCheckBy (IsCarriedOver (pair_calls R.Stream.contents
+        R.Stream.remaining)) words.now) }
 {
     let Some(cap) = verify_cap(read_cap(words.cap)?) else {
-        let text = if words.json { LITERAL_JSON } else { LITERAL };
-        return Ok(Outcome {
-            text: Vec::from_slice(rt.alloc(), text)?,
-            status: DONE,
-        });
+        return literal_outcome(rt.alloc(), words.json);
     };
     let servers = asked_servers(rt, words.grid, words.known || environment.known)?;
     check_over(rt, words, servers.as_slice(), cap, progress)
+}
+
+/// What is told of a cap that holds its file.
+pub(crate) fn literal_outcome(alloc: Global, json: bool) -> Result<Outcome, Fault>
+    ensures { IfOk result
+        (λ outcome. (outcome.text.items ≡ literal_text json) × (outcome.status ≡ 0)) }
+{
+    let text = if json { LITERAL_JSON } else { LITERAL };
+    Ok(Outcome {
+        text: Vec::from_slice(alloc, text)?,
+        status: DONE,
+    })
 }
 
 // What is told of a cap's file by these servers, which are distinct, and the exit status.
@@ -86,7 +100,9 @@ where
 }
 
 /// The verify cap of a cap; none of one that holds its file.
-pub(crate) fn verify_cap(cap: Cap) -> Option<VerifyCap> {
+pub(crate) fn verify_cap(cap: Cap) -> Option<VerifyCap>
+    ensures { result ≡ verify_of cap }
+{
     match cap {
         Cap::Chk(cap) => Some(cap.to_verify()),
         Cap::Verify(cap) => Some(cap),
@@ -185,5 +201,5 @@ where
         nodes.new) }
 {
     let limit = check_limit(check.cap(), servers as u64);
-    Ok(carry_check(nodes, check, limit, progress)?)
+    carry_check(nodes, check, limit, progress).map_err(fault_of_loop)
 }

@@ -20,9 +20,6 @@ pub use repairing::repair;
 // The exit status of what is done.
 const DONE: u8 = 0;
 
-// What is told of a cap that holds its file.
-const LITERAL: &[u8] = b"literal\n";
-
 /// What a command takes from outside its words.
 #[derive(Clone, Copy)]
 pub struct Environment<'a> {

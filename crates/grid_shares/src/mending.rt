@@ -4,8 +4,8 @@
 ghost use Rattle.std.specs.Prelude.{◌≡◌, None, Some, if◌then◌else◌, option_map};
 
 use crate::placing::Placing;
+use grid_faults::{Fault, is_memory, server_name, told_path};
 use grid_marks::{server_folder, try_mark};
-use grid_rules::{Fault, is_memory, server_name, told_path};
 use grid_telling::Progress;
 use share_scrub::{Cleared, LeftShare, Wanted, clear_way};
 use share_store::error::StoreError;

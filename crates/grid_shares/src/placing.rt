@@ -3,7 +3,7 @@
 ghost use Rattle.std.specs.Prelude.{◌≡◌, ◌*◌, ◌-◌, ◌^◌, length, min, map, nat_eq, IfOk};
 ghost use Rattle.std.specs.Prelude.{if◌then◌else◌};
 ghost use Rattle.std.specs.List.{IsDistinct};
-ghost use Rattle.grid_rules.specs.Servers.{server_of};
+ghost use Rattle.grid_faults.specs.Servers.{server_of};
 ghost use Rattle.upload_core.specs.Moves.{Begins};
 ghost use Rattle.socket_links.specs.Ends.{pair_calls};
 ghost use Rattle.socket_links.specs.Links.{IsCarriedOver};
@@ -13,9 +13,11 @@ ghost use Rattle.grid_shares.specs.Puts.{stored_status};
 
 use crate::mending::clear_servers;
 use carried_operations::uploads::carry_upload;
-use grid_rules::{Fault, Verb, reached_happiness, servers_of, turn_limit};
+use grid_faults::{Fault, servers_of};
+use grid_rules::becoming::fault_of_loop;
+use grid_rules::{reached_happiness, turn_limit};
 use grid_servers::{Durability, FIRST_SESSION, Purpose, open_servers, servers_without};
-use grid_telling::{Counting, Progress, note_servers};
+use grid_telling::{Counting, Progress, Verb, note_servers};
 use std::alloc::Global;
 use std::io::{IsTerminal, Write};
 use std::marker::Model;
@@ -189,7 +191,7 @@ where
     let mut nodes = open_servers(rt, placing.grid, servers, purpose, placing.net)?;
     let (happy, turns, now) = (made.happy, made.turns(), nodes.clock());
     let upload = made.begin(rt.alloc(), servers, now)?;
-    let upload = carry_upload(&mut nodes, upload, turns, &mut *progress)?;
+    let upload = carry_upload(&mut nodes, upload, turns, &mut *progress).map_err(fault_of_loop)?;
     note_servers(rt, placing.grid, servers, &nodes, purpose, progress)?;
     reached_happiness(upload.status(), happy)
 }

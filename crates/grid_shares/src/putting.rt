@@ -9,12 +9,13 @@ ghost use Rattle.file_encoding.specs.Params.{parameters_of};
 ghost use Rattle.file_streaming.specs.Prepared.{IsPreparedFrom};
 ghost use Rattle.file_upload.specs.Prepared.{prepared_of};
 ghost use Rattle.file_upload.specs.declared.prepared.FileUpload.TheVariants.{Literal, Shares};
+ghost use Rattle.sources.specs.Opened.{GivesOpened};
 ghost use Rattle.socket_links.specs.Ends.{pair_calls};
 ghost use Rattle.socket_links.specs.Links.{IsCarriedOver};
 ghost use Rattle.streamed_upload.specs.Streamed.{Streaming};
 ghost use Rattle.upload_core.specs.Calls.{upload_calls};
 ghost use Rattle.grid_shares.specs.Puts.{IsLiteralOf, IsPutOf, IsToldOf, made_of, streamed_of};
-ghost use Rattle.grid_shares.specs.Puts.{streamed_calls, whole_calls};
+ghost use Rattle.grid_shares.specs.Puts.{IsPutBy, numbers_of, streamed_calls, whole_calls};
 
 use crate::placing::{Made, Placing, Stored, durability_of, place_shares};
 use crate::streaming::make_stream;
@@ -22,10 +23,11 @@ use crate::{DONE, Environment, Outcome};
 use cap_text::{Cap, LitCap, ReadCap};
 use file_encoding::{MAX_SECRET_SIZE, Params};
 use file_upload::prepared::{FileUpload, PreparedUpload, prepare};
+use grid_faults::{Fault, Limit, first_servers, made_line, told_path};
 use grid_marks::{MAX_SERVERS, can_be_grid, grid_servers_count, known_grid, make_grid};
-use grid_rules::{Fault, Limit, Verb, first_servers, made_line, told_path};
+use grid_rules::becoming::fault_of_encoding;
 use grid_servers::{grid_secret, is_new_grid, read_secret_file};
-use grid_telling::{Progress, note_limits};
+use grid_telling::{Progress, Verb, note_limits};
 use grid_words::{PutWords, SecretWords};
 use sources::{FileSource, Source};
 use std::alloc::Global;
@@ -73,6 +75,9 @@ pub fn put<R, E>(
 where
     R: Files + io::Input + Net + Clock + RandomSource + AllocGlobal + Clone + Drop,
     E: Write + IsTerminal,
+    ensures { IfOk result (IsPutBy (GivesOpened R.File.stream_position R.File.stream_bytes
+        R.File.remaining) (IsCarriedOver (pair_calls R.Stream.contents R.Stream.remaining))
+        words.now) }
 {
     let params = read_numbers(rt, words, progress)?;
     let said = said_secret(rt, &words.secret, progress)?;
@@ -102,9 +107,11 @@ fn read_numbers<R, E>(
 where
     R: Clock + AllocGlobal,
     E: Write + IsTerminal,
+    ensures { IfOk result (λ params. params ≡ numbers_of words.now) }
 {
     note_limits(rt, &limits_of(words), progress)?;
-    let params = Params::new(words.needed, words.happy, words.total, words.max_segment)?;
+    let params = Params::new(words.needed, words.happy, words.total, words.max_segment);
+    let params = params.map_err(fault_of_encoding)?;
     if let Some(servers) = words.servers {
         server_count(servers)?;
     }
@@ -241,6 +248,10 @@ where
     E: Write + IsTerminal,
     requires said { IfSome putting.now.said (λ secret. IsSecret secret.now) }
     requires not_small { min_file_size ≤ size }
+    requires numbers { putting.now.params.now ≡ numbers_of putting.now.words.now }
+    ensures { IfOk result (IsPutBy (GivesOpened R.File.stream_position R.File.stream_bytes
+        R.File.remaining) (IsCarriedOver (pair_calls R.Stream.contents R.Stream.remaining))
+        putting.now.words.now) }
 {
     may_put(rt, putting)?;
     let secret = secret_of(rt, putting)?;
@@ -287,7 +298,8 @@ where
     Ok(())
 }
 
-// The secret for a file of so many bytes, whose grid may take it. One that its cap holds needs none.
+// The secret for a file of so many bytes, whose grid may take it. One that its cap holds needs
+// none.
 fn secret_for<R>(rt: &R, putting: &Putting<'_>, size: usize) -> Result<Vec<u8>, Fault>
 where
     R: Files + AllocGlobal,
@@ -346,7 +358,7 @@ fn encode(alloc: Global, file: Vec<u8>, secret: &[u8], params: &Params) -> Resul
     ensures shares { min_file_size ≤ length file.items → IfOk result
         (λ upload. upload ≡ Shares (prepared_of file.items secret.now params.now)) }
 {
-    Ok(prepare(alloc, &file, secret, params)?)
+    prepare(alloc, &file, secret, params).map_err(fault_of_encoding)
 }
 
 // The shares of a file that was encoded whole.

@@ -9,18 +9,20 @@ ghost use Rattle.file_encoding.specs.RemadeLaws.{ArePassing};
 ghost use Rattle.checker.specs.Good.{AreGoodShares};
 ghost use Rattle.socket_links.specs.Ends.{pair_calls};
 ghost use Rattle.socket_links.specs.Links.{IsCarriedOver};
-ghost use Rattle.grid_shares.specs.Repairs.{AreFoundBy, AreMadeOf, IsRepairOf};
+ghost use Rattle.grid_shares.specs.Repairs.{AreFoundBy, AreMadeOf, IsRepairBy, IsRepairOf};
 
-use crate::checking::{carry, note_report, share_bytes, verify_cap};
+use crate::checking::{carry, literal_outcome, note_report, share_bytes, verify_cap};
 use crate::placing::{Made, Placing, durability_of, place_shares};
-use crate::{DONE, Environment, LITERAL, Outcome};
+use crate::{Environment, Outcome};
 use cap_text::VerifyCap;
 use checker::Check;
 use file_encoding::{DecodedFile, Share, decode_shares, regenerated_pass, slices_of};
 use file_upload::shares::prepare_shares;
-use grid_rules::{Fault, Limit, Verb, read_cap};
+use grid_faults::{Fault, Limit};
+use grid_rules::becoming::{fault_of_reading, fault_of_shares};
+use grid_rules::read_cap;
 use grid_servers::{FIRST_SESSION, Purpose, asked_servers, open_servers};
-use grid_telling::{Counting, Progress, note_limits};
+use grid_telling::{Counting, Progress, Verb, note_limits};
 use grid_words::RepairWords;
 use std::alloc::Global;
 use std::io::{IsTerminal, Write};
@@ -43,10 +45,12 @@ pub fn repair<R, E>(
 where
     R: Files + Net + Clock + RandomSource + AllocGlobal + Clone + Drop,
     E: Write + IsTerminal,
+    ensures { IfOk result (IsRepairBy (IsCarriedOver (pair_calls R.Stream.contents
+        R.Stream.remaining)) words.now) }
 {
     happy_within(rt, words.happy, MAX_SHARES, progress)?;
     let Some(cap) = verify_cap(read_cap(words.cap)?) else {
-        return outcome(Vec::from_slice(rt.alloc(), LITERAL)?, DONE);
+        return literal_outcome(rt.alloc(), false);
     };
     let happy = happy_within(rt, words.happy, u64::from(cap.total()), progress)?;
     let servers = asked_servers(rt, words.grid, words.known || environment.known)?;
@@ -78,6 +82,7 @@ fn happy_within<R, E>(
 where
     R: Clock + AllocGlobal,
     E: Write + IsTerminal,
+    ensures { IfOk result (λ wanted. wanted ≡ happy) }
 {
     let limit = Limit {
         option: "--happy",
@@ -172,7 +177,8 @@ fn make_shares(
         (map (λ s. s.1.items) good.items)) }
 {
     let shares = remake(alloc, cap, good)?;
-    let (pieces, goal) = prepare_shares(alloc, cap, happy, shares)?.into_parts();
+    let ready = prepare_shares(alloc, cap, happy, shares).map_err(fault_of_shares)?;
+    let (pieces, goal) = ready.into_parts();
     Ok(Made::new(pieces, goal, happy))
 }
 
@@ -185,7 +191,7 @@ fn remake(alloc: Global, cap: &VerifyCap, good: Vec<(u16, Vec<u8>)>) -> Result<V
 {
     let file = decode(alloc, cap, good)?;
     regenerated_pass();
-    Ok(file.make_shares(alloc)?)
+    file.make_shares(alloc).map_err(fault_of_reading)
 }
 
 // The file that good shares give.
@@ -194,5 +200,5 @@ fn decode(alloc: Global, cap: &VerifyCap, good: Vec<(u16, Vec<u8>)>) -> Result<D
         (map (λ s. s.1.items) good.items)) }
 {
     let given = slices_of(alloc, good.as_slice())?;
-    Ok(decode_shares(alloc, cap, given.as_slice())?)
+    decode_shares(alloc, cap, given.as_slice()).map_err(fault_of_reading)
 }

@@ -11,7 +11,8 @@ ghost use Rattle.streamed_upload.specs.Ready.{goal_of};
 use crate::placing::Made;
 use cap_text::ReadCap;
 use file_encoding::Params;
-use grid_rules::Fault;
+use grid_faults::Fault;
+use grid_rules::becoming::fault_of_preparing;
 use sources::Source;
 use std::alloc::Global;
 use streamed_upload::prepared::prepare_stream;
@@ -35,7 +36,7 @@ pub(crate) fn make_stream<S: Source + Drop>(
     ensures goal { IfOk result (λ made. made.1.goal ≡ goal_of made.1.pieces.kept) }
     ensures happy { IfOk result (λ made. made.1.happy ≡ params.now.happy) }
 {
-    let ready = prepare_stream(alloc, source, secret, params)?;
+    let ready = prepare_stream(alloc, source, secret, params).map_err(fault_of_preparing)?;
     let (cap, happy) = (*ready.cap(), ready.happy());
     let (pieces, goal) = ready.into_parts();
     Ok((cap, Made::new(pieces, goal, happy)))
