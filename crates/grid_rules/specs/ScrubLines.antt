@@ -9,7 +9,7 @@ use Rattle.share_scrub.specs.declared.folder.Finding.{Finding}
 use Rattle.share_scrub.specs.declared.folder.State.{State}
 use Rattle.share_scrub.specs.declared.folder.State.TheVariants.{Whole, Damaged, Unreadable, Odd}
 use Rattle.share_scrub.specs.declared.folder.State.TheVariants.{LeftOpen, Aside, HalfAside}
-use Rattle.grid_rules.specs.ReportLines.{server_name}
+use Rattle.grid_faults.specs.Servers.{server_name}
 use Rattle.grid_rules.specs.declared.scrubbing.Scrubbed.{Scrubbed}
 
 -- what became of a damaged file, and of one that was left open or had been set aside
