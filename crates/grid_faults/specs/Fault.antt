@@ -9,7 +9,8 @@ use Rattle.grid_faults.specs.declared.fault.Fault.TheVariants.{TooLarge, TooMany
 use Rattle.grid_faults.specs.declared.fault.Fault.TheVariants.{NotEnoughShares, Inconsistent}
 use Rattle.grid_faults.specs.declared.fault.Fault.TheVariants.{File, BadRange, NeedsReadCap, Socket}
 use Rattle.grid_faults.specs.declared.fault.Fault.TheVariants.{TurnLimit, BadEvent, Stopped}
-use Rattle.grid_faults.specs.declared.fault.Fault.TheVariants.{BadScript, SourceChanged, SourceFault}
+use Rattle.grid_faults.specs.declared.fault.Fault.TheVariants.{BadScript, SourceChanged}
+use Rattle.grid_faults.specs.declared.fault.Fault.TheVariants.{SourceFault}
 use Rattle.grid_faults.specs.declared.fault.Fault.TheVariants.{AlreadyGrid, SameFolder, OtherMark}
 use Rattle.grid_faults.specs.declared.fault.Fault.TheVariants.{BadMark, Output, NoServers}
 use Rattle.grid_faults.specs.declared.fault.Fault.TheVariants.{UnknownGrid, NotEmpty}

@@ -145,7 +145,8 @@ fn finding_object(
         (λ line. string_bytes line ≡ finding_object server.now index.now share state.now) }
 {
     let line = format!(in alloc;
-        "{{\"server\":\"{server}\",\"index\":\"{index}\",\"share\":{share},\"verdict\":\"{state}\"}}\n"
+        "{{\"server\":\"{server}\",\"index\":\"{index}\",\"share\":{share},\
+         \"verdict\":\"{state}\"}}\n"
     );
     Ok(line?)
 }

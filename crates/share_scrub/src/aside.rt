@@ -1,4 +1,4 @@
-//! How the file of a closed share is set aside, and what is done about one whose process died there.
+//! How the file of a closed share is set aside, and what is done where a process died on the way.
 //!
 //! No call of the system renames a file only where it is a certain one: what was looked at may be
 //! another file by then, a share that was closed under the same name and acknowledged. So a file

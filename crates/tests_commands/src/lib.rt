@@ -1,7 +1,7 @@
 //! The tests of the program's commands that no row of `grid_rows` can have: a call on a file that
 //! fails in mid-stream, a writer that fails, memory that is refused, and words that are none; and
-//! those of a grid's folders, of what is read of a file or of standard input, and of the file that a
-//! `get` writes.
+//! those of a grid's folders, of what is read of a file or of standard input, and of the file that
+//! a `get` writes.
 #![tactic(auto)]
 
 #[cfg(test)]
