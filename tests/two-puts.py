@@ -15,8 +15,8 @@ import sys
 import time
 
 SHARE = re.compile(r"[a-z2-7]{26}\.[0-9]+\.[a-z2-7]{52}")
-# behind the name of a share that is half set aside
-HALF = ".damaged.0"
+# behind the name of a share that is on its way to be set aside
+HALF = re.compile(r"\.[a-z2-7]{26}\.aside$")
 NAMING = (b"mkdir", b"create", b"rename", b"link", b"remove")
 # What becomes of the first and of the second behind their stops. `go`: it goes on to its end.
 # `die`: it is killed. `later`: it goes on, and ends right after its next rename, link or removal.
@@ -147,11 +147,11 @@ def shares_in(grid):
 
 
 def halves_in(grid):
-    """The files below a folder that are half set aside: path, closed name and bytes."""
+    """The files below a folder that are on their way: path, closed name and bytes."""
     for folder, folders, names in os.walk(grid):
         folders.sort()
         for name in sorted(names):
-            closed = name.removesuffix(HALF)
+            closed = HALF.sub("", name)
             if closed != name and SHARE.fullmatch(closed):
                 path = os.path.join(folder, name)
                 yield path, closed, contents(path)
@@ -267,7 +267,7 @@ class Scene:
         return os.path.exists(there) and contents(there) == contents(path)
 
     def reached(self, with_halves=False):
-        """How many servers have a whole share of their own, also one that is half set aside."""
+        """How many servers have a whole share of their own, also one on its way."""
         by_server = collections.defaultdict(list)
         for path, name, data in shares_in(self.room.grid):
             if data == self.shares.get(name):
@@ -296,7 +296,7 @@ class Scene:
         yield from (f"damaged: {os.path.relpath(path, room.grid)}"
                     for path in self.bad_shares() if not self.is_as_before(path))
         told = max(first.happiness(), second.happiness())
-        # what is half set aside gets its name back by the next put, and is not read before
+        # what is on its way gets its name back by the next put, and is not read before
         if self.reached(with_halves=True) < told:
             yield f"happiness {told} was told, {self.reached(with_halves=True)} is there"
         if told and self.reached() >= self.needed and not self.gets():
@@ -304,7 +304,7 @@ class Scene:
         third = [*self.puts, *(["--mend"] if self.is_damaged else []), "--no-sync"]
         if room.run(*third) != 0 or self.reached() < happiness_in(room.told):
             yield "not all is there after a third put"
-        yield from (f"half set aside after a third put: {os.path.relpath(path, room.grid)}"
+        yield from (f"on its way after a third put: {os.path.relpath(path, room.grid)}"
                     for path, _, _ in halves_in(room.grid))
         if not self.gets():
             yield "not there after a third put"

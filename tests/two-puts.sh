@@ -14,9 +14,9 @@
 #
 # After each run no closed share may be damaged that was not before. As many servers as one of both
 # said (`happiness H`) have a whole share of their own, however both ended, and the file comes back.
-# A whole share that is half set aside (NAME.damaged.0) counts where no file has its closed name: the
-# next put, repair or scrub that sets aside gives it that name back. A third put then stores what is
-# missing, and leaves nothing half set aside; and after it a scrub finds nothing.
+# A whole share that is on its way to be set aside (NAME.OWN.aside) counts where no file has its
+# closed name: the next put, repair or scrub that sets aside gives it that name back. A third put
+# then stores what is missing, and leaves nothing on its way; and after it a scrub finds nothing.
 #
 # Which pairs of stops: all calls of the first beside the whole second. Where both are stopped, each
 # is stopped before and after each call that makes, renames, links or removes a name, and nowhere

@@ -14,6 +14,7 @@ use share_scrub::{Action, Finding, Handling, Scrub, State};
 use share_store::error::StoreError;
 use std::alloc::Global;
 use std::io::{self, IsTerminal, Write};
+use std::random::RandomSource;
 use std::rt::{Clock, Files};
 use std::time::SystemTime;
 use wire::message::NodeId;
@@ -32,7 +33,7 @@ pub(crate) fn scrub<R, O, E>(
     progress: &mut Progress<'_, R, E>,
 ) -> Result<u8, Failure>
 where
-    R: Files + Clock + AllocGlobal + Clone + Drop,
+    R: Files + Clock + RandomSource + AllocGlobal + Clone + Drop,
     O: Write,
     E: Write + IsTerminal,
 {
@@ -87,7 +88,7 @@ fn scrub_server<R, O, E>(
     progress: &mut Progress<'_, R, E>,
 ) -> Result<bool, Failure>
 where
-    R: Files + Clock + AllocGlobal + Clone + Drop,
+    R: Files + Clock + RandomSource + AllocGlobal + Clone + Drop,
     O: Write,
     E: Write + IsTerminal,
 {
@@ -113,7 +114,7 @@ where
 // The files of a server, whose folder has its mark in a grid that knows its servers.
 fn begin_scrub<R>(rt: &R, grid: &str, server: NodeId) -> io::Result<Scrub<R>>
 where
-    R: Files + AllocGlobal + Clone + Drop,
+    R: Files + RandomSource + AllocGlobal + Clone + Drop,
 {
     try_mark(rt, grid, server)?;
     let folder = server_folder(rt.alloc(), grid, server)?;
@@ -138,7 +139,7 @@ fn scrub_files<R, O, E>(
     progress: &mut Progress<'_, R, E>,
 ) -> Result<(), Failure>
 where
-    R: Files + Clock + AllocGlobal + Clone + Drop,
+    R: Files + Clock + RandomSource + AllocGlobal + Clone + Drop,
     O: Write,
     E: Write + IsTerminal,
 {
@@ -156,7 +157,7 @@ fn next_file<R, E>(
     progress: &mut Progress<'_, R, E>,
 ) -> Result<Option<Finding>, Fault>
 where
-    R: Files + Clock + AllocGlobal + Clone + Drop,
+    R: Files + Clock + RandomSource + AllocGlobal + Clone + Drop,
     E: Write + IsTerminal,
     ensures { IfOk result
         (λ found. IfSome found (λ _. length files.new.left < length files.old.left)) }

@@ -8,15 +8,13 @@ use Rattle.download_core.specs.declared.status.DownloadError.TheVariants as down
 use Rattle.download_core.specs.Refusals as download_errors
 use Rattle.file_encoding.specs.declared.error.EncodeError.{EncodeError}
 use Rattle.file_encoding.specs.declared.error.EncodeError.TheVariants as encodings
-use Rattle.file_encoding.specs.declared.reading.ReadError.{ReadError}
-use Rattle.file_encoding.specs.declared.reading.ReadError.TheVariants as readings
-use Rattle.file_encoding.specs.Refusals.{encode_refusal_number, read_refusal_number}
+use Rattle.file_encoding.specs.Refusals.{encode_refusal_number}
 use Rattle.file_streaming.specs.declared.error.PrepareError.{PrepareError}
 use Rattle.file_streaming.specs.declared.error.PrepareError.TheVariants as preparing
 use Rattle.file_streaming.specs.PrepareError as prepare_errors
-use Rattle.file_upload.specs.declared.shares.SharesError.{SharesError}
-use Rattle.file_upload.specs.declared.shares.SharesError.TheVariants as uploads
-use Rattle.file_upload.specs.SharesError as shares_errors
+use Rattle.file_upload.specs.declared.repair.RepairError.{RepairError}
+use Rattle.file_upload.specs.declared.repair.RepairError.TheVariants as repairs
+use Rattle.file_upload.specs.RepairError as repair_errors
 use Rattle.local_grid.specs.declared.error.LoopError.{LoopError}
 use Rattle.local_grid.specs.declared.error.LoopError.TheVariants as loops
 use Rattle.local_grid.specs.Refusals as loop_errors
@@ -25,8 +23,7 @@ use Rattle.upload_core.specs.declared.pieces.PieceFault.TheVariants as pieces
 use Rattle.upload_core.specs.PieceFault as piece_faults
 use Rattle.grid_faults.specs.Fault.{fault_number, fault_of_cap}
 use Rattle.grid_rules.specs.Becoming.{fault_of_download, fault_of_encoding, fault_of_loop}
-use Rattle.grid_rules.specs.Becoming.{fault_of_piece, fault_of_preparing, fault_of_reading}
-use Rattle.grid_rules.specs.Becoming.{fault_of_shares}
+use Rattle.grid_rules.specs.Becoming.{fault_of_piece, fault_of_preparing, fault_of_repair}
 use Rattle.grid_rules.specs.KeptNumbers.{NumbersAreKept}
 
 kept_cap : (e : CapError) → fault_number (fault_of_cap e) ≡ number_of e
@@ -56,14 +53,11 @@ kept_preparing preparing.TooManySegments = refl
 kept_preparing preparing.SourceChanged = refl
 kept_preparing preparing.SourceFault = refl
 
-kept_reading : (e : ReadError) → fault_number (fault_of_reading e) ≡ read_refusal_number e
-kept_reading readings.OutOfMemory = refl
-kept_reading readings.NotEnoughShares = refl
-kept_reading readings.Inconsistent = refl
-
-kept_shares : (e : SharesError) → fault_number (fault_of_shares e) ≡ shares_errors.refusal_number e
-kept_shares uploads.OutOfMemory = refl
-kept_shares uploads.BadParameters = refl
+kept_repair : (e : RepairError) → fault_number (fault_of_repair e) ≡ repair_errors.refusal_number e
+kept_repair repairs.OutOfMemory = refl
+kept_repair repairs.BadParameters = refl
+kept_repair repairs.NotEnoughShares = refl
+kept_repair repairs.Inconsistent = refl
 
 kept_download : (e : DownloadError) → fault_number (fault_of_download e) ≡ download_errors.refusal_number e
 kept_download downloads.OutOfMemory = refl
@@ -79,8 +73,7 @@ numbers_are_kept = record {
   piece = kept_piece;
   encoding = kept_encoding;
   preparing = kept_preparing;
-  reading = kept_reading;
-  shares = kept_shares;
+  repair = kept_repair;
   download = kept_download;
   loop = kept_loop;
 }

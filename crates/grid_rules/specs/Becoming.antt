@@ -3,12 +3,10 @@ use Rattle.download_core.specs.declared.status.DownloadError.{DownloadError}
 use Rattle.download_core.specs.declared.status.DownloadError.TheVariants as downloads
 use Rattle.file_encoding.specs.declared.error.EncodeError.{EncodeError}
 use Rattle.file_encoding.specs.declared.error.EncodeError.TheVariants as encodings
-use Rattle.file_encoding.specs.declared.reading.ReadError.{ReadError}
-use Rattle.file_encoding.specs.declared.reading.ReadError.TheVariants as readings
 use Rattle.file_streaming.specs.declared.error.PrepareError.{PrepareError}
 use Rattle.file_streaming.specs.declared.error.PrepareError.TheVariants as preparing
-use Rattle.file_upload.specs.declared.shares.SharesError.{SharesError}
-use Rattle.file_upload.specs.declared.shares.SharesError.TheVariants as uploads
+use Rattle.file_upload.specs.declared.repair.RepairError.{RepairError}
+use Rattle.file_upload.specs.declared.repair.RepairError.TheVariants as repairs
 use Rattle.grid_faults.specs.declared.fault.Fault.{Fault}
 use Rattle.grid_faults.specs.declared.fault.Fault.TheVariants.{OutOfMemory, BadParameters}
 use Rattle.grid_faults.specs.declared.fault.Fault.TheVariants.{TooLarge, TooManySegments}
@@ -41,16 +39,12 @@ fault_of_preparing preparing.TooManySegments = TooManySegments
 fault_of_preparing preparing.SourceChanged = SourceChanged
 fault_of_preparing preparing.SourceFault = SourceFault
 
--- the fault that the refusal to read shares becomes
-abbrev pub fault_of_reading : ReadError → Fault
-fault_of_reading readings.OutOfMemory = OutOfMemory
-fault_of_reading readings.NotEnoughShares = NotEnoughShares
-fault_of_reading readings.Inconsistent = Inconsistent
-
--- the fault that the refusal of an upload of shares becomes
-abbrev pub fault_of_shares : SharesError → Fault
-fault_of_shares uploads.OutOfMemory = OutOfMemory
-fault_of_shares uploads.BadParameters = BadParameters
+-- the fault that the refusal of a repair becomes
+abbrev pub fault_of_repair : RepairError → Fault
+fault_of_repair repairs.OutOfMemory = OutOfMemory
+fault_of_repair repairs.BadParameters = BadParameters
+fault_of_repair repairs.NotEnoughShares = NotEnoughShares
+fault_of_repair repairs.Inconsistent = Inconsistent
 
 -- the fault that the refusal of a download's start becomes
 abbrev pub fault_of_download : DownloadError → Fault

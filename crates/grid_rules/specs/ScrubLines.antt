@@ -23,7 +23,7 @@ removed_text Left = []
 removed_text Done = codes " removed"
 removed_text (Failed _) = codes " not-removed"
 
--- what became of a file that was half set aside
+-- what became of a file that was on its way to be set aside
 abbrev pub settled_text : Action → List ℕ
 settled_text Left = []
 settled_text Done = codes " settled"

@@ -3,14 +3,13 @@
 
 ghost use Rattle.std.specs.Prelude.{◌≡◌};
 ghost use Rattle.grid_rules.specs.Becoming.{fault_of_download, fault_of_encoding, fault_of_loop};
-ghost use Rattle.grid_rules.specs.Becoming.{fault_of_piece, fault_of_preparing, fault_of_reading};
-ghost use Rattle.grid_rules.specs.Becoming.{fault_of_shares};
+ghost use Rattle.grid_rules.specs.Becoming.{fault_of_piece, fault_of_preparing, fault_of_repair};
 ghost use Rattle.grid_rules.specs.KeptNumbers.{NumbersAreKept};
 
 use download_core::status::DownloadError;
-use file_encoding::{EncodeError, ReadError};
+use file_encoding::EncodeError;
 use file_streaming::PrepareError;
-use file_upload::shares::SharesError;
+use file_upload::repair::RepairError;
 use grid_faults::Fault;
 use local_grid::error::LoopError;
 use upload_core::pieces::PieceFault;
@@ -57,24 +56,15 @@ pub fn fault_of_preparing(error: PrepareError) -> Fault
     }
 }
 
-/// The fault that the refusal to read shares becomes.
-pub fn fault_of_reading(error: ReadError) -> Fault
-    ensures { result ≡ fault_of_reading error }
+/// The fault that the refusal of a repair becomes.
+pub fn fault_of_repair(error: RepairError) -> Fault
+    ensures { result ≡ fault_of_repair error }
 {
     match error {
-        ReadError::OutOfMemory => Fault::OutOfMemory,
-        ReadError::NotEnoughShares => Fault::NotEnoughShares,
-        ReadError::Inconsistent => Fault::Inconsistent,
-    }
-}
-
-/// The fault that the refusal of an upload of shares becomes.
-pub fn fault_of_shares(error: SharesError) -> Fault
-    ensures { result ≡ fault_of_shares error }
-{
-    match error {
-        SharesError::OutOfMemory => Fault::OutOfMemory,
-        SharesError::BadParameters => Fault::BadParameters,
+        RepairError::OutOfMemory => Fault::OutOfMemory,
+        RepairError::BadParameters => Fault::BadParameters,
+        RepairError::NotEnoughShares => Fault::NotEnoughShares,
+        RepairError::Inconsistent => Fault::Inconsistent,
     }
 }
 

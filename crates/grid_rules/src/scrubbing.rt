@@ -22,7 +22,7 @@ pub struct Scrubbed {
     pub unreadable: u64,
     /// Closed shares' names that are those of something else than a regular file.
     pub odd: u64,
-    /// Files that were set aside, or half set aside, and still stand so.
+    /// Files that were set aside, or are on their way, and still stand so.
     pub aside: u64,
 }
 
@@ -194,7 +194,7 @@ fn removed_text(action: &Action) -> &'static str
     }
 }
 
-// What became of a file that was half set aside.
+// What became of a file that was on its way to be set aside.
 fn settled_text(action: &Action) -> &'static str
     ensures { result.now ≡ settled_text action.now }
 {

@@ -6,7 +6,7 @@ ghost use Rattle.share_folders.specs.Folder.{takes_shares};
 use crate::disk::{Durability, make_folder, sync_folder, sync_name};
 use crate::files::length_of_regular;
 use crate::lengths::look_at;
-use crate::names::{ClosedName, OwnToken};
+use crate::names::{ClosedName, OwnToken, draw_token};
 use crate::table::{KeptShare, keep_lower};
 use share_store::error::StoreError;
 use share_store::shelf::ShareKey;
@@ -161,13 +161,6 @@ pub(crate) fn own_token<R: RandomSource>(
         Purpose::Reading => Ok(None),
         Purpose::Writing(_) => Ok(Some(draw_token(rt)?)),
     }
-}
-
-// 16 bytes from the system.
-fn draw_token<R: RandomSource>(rt: &R) -> Result<OwnToken, StoreError> {
-    let mut token = [0; 16];
-    rt.fill_bytes(&mut token)?;
-    Ok(token)
 }
 
 // Whether a regular file was found; what cannot be asked is none.

@@ -17,11 +17,20 @@ use cap_text::{from_base32, to_base32};
 use share_store::error::StoreError;
 use share_store::shelf::ShareKey;
 use std::alloc::Global;
+use std::io;
+use std::random::RandomSource;
 use tagged_hash::read_decimal;
 use wire::message::Digest;
 
 /// 16 bytes that no other process has.
 pub type OwnToken = [u8; 16];
+
+/// 16 bytes from the system.
+pub fn draw_token<R: RandomSource>(rt: &R) -> io::Result<OwnToken> {
+    let mut token = [0; 16];
+    rt.fill_bytes(&mut token)?;
+    Ok(token)
+}
 
 // The letters of a storage index, of what only a writer has, and of a digest.
 const INDEX_LETTERS: usize = 26;
@@ -184,7 +193,7 @@ fn read_owned(name: &[u8]) -> Option<(ShareKey, OwnToken)>
 }
 
 /// The base32 text of some bytes.
-pub(crate) fn base32_of(alloc: Global, bytes: &[u8]) -> Result<String, StoreError>
+pub fn base32_of(alloc: Global, bytes: &[u8]) -> Result<String, StoreError>
     ensures text { IfOk result (λ text. string_bytes text ≡ base32 bytes.now) }
     ensures memory { IsOkUnless result StoreError.OutOfMemory }
 {

@@ -4,6 +4,8 @@ use Rattle.std.specs.Prelude.{if◌then◌else◌, MatchOption, IfSome, IsSomeAn
 use Rattle.std.proofs.lemmas.Bool.{ne_eqb}
 use Rattle.std.proofs.lemmas.Fmt.{length-decimal-le, decimal_nonempty}
 use Rattle.std.proofs.lemmas.List.{append_assoc, append_cancel_right, length-append, take_at, drop_at}
+use Rattle.cap_text.specs.Base32.{base32, IsBytes}
+use Rattle.share_folders.proofs.NameLaws.{letters_16}
 use Rattle.share_scrub.specs.Name.{IsAsideNumber, aside_end}
 
 -- what `strip_suffix` says, as two clauses
@@ -54,3 +56,28 @@ pub number_part : (name closed : List ℕ) (n digits : ℕ) → n ≢ 1 → leng
 number_part name closed n digits other len is =
     let long = length-append (closed ++ codes ".damaged.") (decimal n) in
     ap (λ (xs : List ℕ). drop (length xs - digits) xs) (from_right name closed n other is) ∙ drop_at (closed ++ codes ".damaged.") (decimal n) _ (omega (arith, long, len))
+
+-- what a file has of its own stands behind a dot
+dotted : (own : List ℕ) → IsBytes 16 own → length (codes "." ++ base32 own) ≡ 27
+dotted own sized =
+    let long = length-append (codes ".") (base32 own) in
+    omega (arith, long, letters_16 own sized.len)
+
+from_dot : (front closed own : List ℕ) → front ≡ closed ++ codes "." ++ base32 own → front ≡ closed ++ (codes "." ++ base32 own)
+from_dot front closed own is = is ∙ append_assoc closed (codes ".") (base32 own)
+
+pub closed_part : (front closed own : List ℕ) → IsBytes 16 own → front ≡ closed ++ codes "." ++ base32 own → take (length front - 27) front ≡ closed
+closed_part front closed own sized is =
+    let long = length-append closed (codes "." ++ base32 own) in
+    ap (λ (xs : List ℕ). take (length xs - 27) xs) (from_dot front closed own is) ∙ take_at closed (codes "." ++ base32 own) _ (omega (arith, long, dotted own sized))
+
+pub own_part : (front closed own : List ℕ) → IsBytes 16 own → front ≡ closed ++ codes "." ++ base32 own → drop (length front - 27) front ≡ codes "." ++ base32 own
+own_part front closed own sized is =
+    let long = length-append closed (codes "." ++ base32 own) in
+    ap (λ (xs : List ℕ). drop (length xs - 27) xs) (from_dot front closed own is) ∙ drop_at closed (codes "." ++ base32 own) _ (omega (arith, long, dotted own sized))
+
+pub long_enough : (front closed own : List ℕ) → IsBytes 16 own → front ≡ closed ++ codes "." ++ base32 own → length front < 27 → ⊥
+long_enough front closed own sized is short =
+    let long = length-append closed (codes "." ++ base32 own) in
+    let whole = ap length (from_dot front closed own is) in
+    omega (arith, whole, long, dotted own sized, short)

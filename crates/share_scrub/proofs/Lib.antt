@@ -1,1 +1,3 @@
 mod AsideNames
+pub mod Going
+pub mod Counting

@@ -1,44 +1,19 @@
--- What becomes of the files of a storage index before its shares are put.
-use Rattle.std.specs.Prelude.{◌≡◌, ℕ, ◌+◌, ◌-◌, ◌^◌, min, List, [], ◌∷◌, ◌++◌, Option, Some, None}
-use Rattle.std.specs.Prelude.{if◌then◌else◌, nat_eq, slice_get}
-use Rattle.std.specs.Borrow.{Bor}
-use Rattle.std.specs.Cmp.Lexicographic.{pointwise}
-use Rattle.share_scrub.specs.declared.bytes.Verdict.{Verdict}
-use Rattle.share_scrub.specs.declared.bytes.Verdict.TheVariants.{Whole, Damaged}
-use Rattle.share_scrub.specs.declared.mending.Claim.{Claim}
+-- What clearing the way comes to, and what it tells.
+use Rattle.std.specs.Prelude.{◌≡◌, ℕ, ◌+◌, ◌-◌, ◌^◌, ◌⊎◌, min, map, List, [], ◌∷◌, ◌++◌}
+use Rattle.std.specs.Prelude.{Some}
+use Rattle.std.specs.List.{Contains, AllByRecursion}
+use Rattle.share_scrub.specs.declared.acts.Act.{Act}
+use Rattle.share_scrub.specs.declared.acts.Act.TheVariants.{Gone, Moved}
+use Rattle.share_scrub.specs.declared.fate.Wanted.{Wanted}
 use Rattle.share_scrub.specs.declared.mending.Cleared.{Cleared}
-use Rattle.share_scrub.specs.declared.mending.Fate.{Fate}
-use Rattle.share_scrub.specs.declared.mending.Fate.TheVariants.{Keep, Read, SetAside, Odd}
 use Rattle.share_scrub.specs.declared.mending.LeftShare.{LeftShare}
 use Rattle.share_scrub.specs.declared.mending.Outcome.{Outcome}
 use Rattle.share_scrub.specs.declared.mending.Outcome.TheVariants.{Kept, WasSetAside, WasRemoved}
 use Rattle.share_scrub.specs.declared.mending.Outcome.TheVariants.{WasLeft, WasOdd}
-use Rattle.share_scrub.specs.declared.mending.Wanted.{Wanted}
-
--- by the digest that the share was made with: a share that was not made has none
-abbrev pub fate_by : Option (List ℕ) → List ℕ → Fate
-fate_by None digest = SetAside
-fate_by (Some made) digest = if pointwise nat_eq made digest then Read else SetAside
-
--- by the digests of all shares, where bytes are to be read too
-abbrev pub fate_among : Option (Bor (List (List ℕ))) → ℕ → List ℕ → Fate
-fate_among None share digest = Keep
-fate_among (Some made) share digest = fate_by (slice_get made.now share) digest
-
--- by its length, which what is no regular file has not
-abbrev pub fate_at : Option ℕ → Claim → Wanted → Fate
-fate_at None claim wanted = Odd
-fate_at (Some length) claim wanted =
-    if nat_eq length wanted.length then fate_among wanted.digests claim.share claim.digest
-    else SetAside
-
-abbrev pub fate_of : Claim → Wanted → Fate
-fate_of claim = fate_at claim.length claim
-
--- once its bytes were read
-abbrev pub fate_read : Verdict → Fate
-fate_read Whole = Keep
-fate_read Damaged = SetAside
+use Rattle.share_scrub.specs.declared.name.FileKind.{FileKind}
+use Rattle.share_scrub.specs.declared.name.FileKind.TheVariants.{Closed}
+use Rattle.share_scrub.specs.declared.name.ShareFile.{ShareFile}
+use Rattle.share_scrub.specs.Acts.{AreAllowed, IsRight, Was, asides, last_listed, removals}
 
 -- one more, up to the most that are counted
 abbrev pub one_more : ℕ → ℕ
@@ -79,3 +54,38 @@ pub record Counts (share : ℕ) (outcome : Outcome) (s t : Cleared) : Type 0 whe
   pub open_removed : t.open_removed ≡ removed_after outcome s.open_removed
   pub left : t.left.items ≡ s.left.items ++ left_by share outcome
   pub odd : t.odd.items ≡ s.odd.items ++ odd_by share outcome
+
+-- ---- what was done by then
+
+-- a closed share's file is away: none stands under its name, or it got another
+abbrev pub IsAway : ShareFile → List Act → Type 0
+IsAway file acts = Was (Gone file) acts ⊎ ((to : ShareFile) × Was (Moved file to) acts)
+
+-- it is in nobody's way: it is away, or right
+abbrev pub IsInNoWay : Wanted → ShareFile → List ℕ → List Act → Type 0
+IsInNoWay wanted file digest acts = IsAway file acts ⊎ IsRight (Some wanted) file digest acts
+
+-- or else its number is told
+abbrev pub IsTold : ℕ → Cleared → Type 0
+IsTold share cleared =
+    Contains (map (λ l. l.share) cleared.left.items) share ⊎ Contains cleared.odd.items share
+
+abbrev pub IsClearedOf : Wanted → Cleared → List Act → ShareFile → FileKind → Type 0
+IsClearedOf wanted cleared acts file (Closed digest) =
+    IsInNoWay wanted file digest acts ⊎ IsTold file.key.1 cleared
+IsClearedOf wanted cleared acts file _ = Unit
+
+-- how many are counted, up to the most
+abbrev pub counted : ℕ → ℕ
+counted n = min n (2 ^ 64 - 1)
+
+-- The way was cleared by acts that are allowed. Each closed share's file of the last listing is in
+-- nobody's way, or told; and it is told how many files were set aside, and how many open ones were
+-- removed.
+pub record IsCleared (wanted : Wanted) (cleared : Cleared) (acts : List Act) : Type 0 where
+  pub allowed : AreAllowed (Some wanted) acts
+  pub files : List ShareFile
+  pub listed : last_listed acts ≡ Some files
+  pub each : AllByRecursion (λ f. IsClearedOf wanted cleared acts f f.kind) files
+  pub set_aside : cleared.set_aside ≡ counted (asides acts)
+  pub open_removed : cleared.open_removed ≡ counted (removals acts)

@@ -2,461 +2,291 @@
 //!
 //! No call of the system renames a file only where it is a certain one: what was looked at may be
 //! another file by then, a share that was closed under the same name and acknowledged. So a file
-//! first gets a name that says so, NAME.damaged.0: it is half set aside. There it is looked at
-//! again. Another than was looked at gets its name back; this one goes on to the first name that is
-//! free of NAME.damaged, NAME.damaged.2 to NAME.damaged.99. A process that is killed in between
-//! leaves a file that is half set aside, and whoever comes next settles it, by its bytes.
+//! that is to go first gets a name that says so, NAME.OWN.aside. OWN is drawn anew from the system
+//! each time, so that nobody else gives a file that name: what stands there is one file for good,
+//! and can be judged there, whoever else is at work.
 //!
-//! Others may be at the same files between any two of these steps:
+//! 1. The file with the closed name NAME is renamed to a name of its own on the way.
+//! 2. There it is looked at anew, by its length and by its name, or else by its bytes.
+//! 3. If it is to go, it gets the first name that is free of NAME.damaged, NAME.damaged.2 to
+//!    NAME.damaged.99. An empty file is made there first, which fails where something has the name,
+//!    and the file takes its place. So none takes that of another that was set aside.
+//! 4. If it is a whole share, it gets its closed name back, once its bytes are on the disk. What
+//!    has the closed name meanwhile gives way: it is the same share, or a damaged one.
 //!
-//! - A file leaves the half name by a rename. Of two processes one has it then, and the other finds
-//!   nothing (`NotFound`): what was looked at is gone, and in nobody's way.
-//! - A process makes an empty file under the half name, which fails where something has that name,
-//!   and renames over it. One that settles may take that file away before: the rename needs none.
-//!   Where another process has made its own there since, the rename is over that one. The other
-//!   finds no closed file to rename then, and what stands under the half name is settled by its
-//!   bytes, not removed for the empty file that was there.
-//! - Another file may come under the half name between a look and the rename that takes away what
-//!   was looked at. So that rename is to a name that this process made, and that no other takes.
-//!   There the file is looked at once more, and only there files are removed. One that came in
-//!   between is judged there by its bytes.
-//! - A whole share gets its closed name by a link, which takes nobody's place. It has both names
-//!   until the half name is taken away. Of two that do so one makes the link and the other finds
-//!   it, and one takes the half name away and the other finds nothing. Who is killed there leaves
-//!   both names, and the next one takes the half name away.
-//! - A damaged file that has the closed name meanwhile gives way to the whole share, as it does
-//!   where that share is closed anew. The share gets a name that no other process takes, and that
-//!   is renamed, so that nothing else can come under the closed name.
+//! A process may die between any two of these steps. Its file stands on the way then, and whoever
+//! comes next settles it by its bytes, as in 3 and 4. Of two that settle one file each judges the
+//! same bytes, and one of them renames it; the other finds nothing (`NotFound`), and nothing is
+//! left to do.
 //!
-//! So a whole share has its closed name or the half name, or else a name of the process that judges
-//! it. A death can still leave one set aside in one way: the share came under the half name while
-//! the process that died took away what it had looked at there. That needs a second process, which
-//! had looked at what had the closed name before, and a third one or an earlier death, by which the
-//! share has that name since.
+//! So no whole share is lost. A file has its closed name, or one on the way, until it was judged
+//! under a name at which no other file can come; and only what was judged to be none of the shares
+//! is set aside. A share that was closed and acknowledged leaves its closed name in two ways: to a
+//! name on the way, from where it comes back, or where the same share takes its place.
 
-ghost use Rattle.std.specs.Prelude.{IsOkUnless};
-ghost use Rattle.share_store.specs.declared.error.StoreError.{StoreError};
+ghost use Rattle.std.specs.Prelude.{◌≡◌, ◌⊎◌, Option, Some, option_copied, IfErr, IfOk};
+ghost use Rattle.std.specs.IoError.{error_kind};
+ghost use Rattle.std.specs.declared.io.ErrorKind.TheVariants.{NotFound};
+ghost use Rattle.share_scrub.specs.declared.acts.Act.TheVariants.{Gone, Judged};
+ghost use Rattle.share_scrub.specs.declared.bytes.Verdict.TheVariants.{Whole};
+ghost use Rattle.share_scrub.specs.declared.fate.Fate.TheVariants.{Odd};
+ghost use Rattle.share_scrub.specs.declared.fate.Wanted.{Wanted};
+ghost use Rattle.share_scrub.specs.Acts.{IsNone, IsNoneThere, IsOf, Was, WasFound};
+ghost use Rattle.share_scrub.specs.Clearing.{IsAway};
+ghost use Rattle.share_scrub.specs.Going.{Goes, GoesAs, IsClosedFate, IsHalfFate};
+ghost use Rattle.share_scrub.specs.Name.{closed_file, half_file};
 
-use crate::bytes::{Verdict, Watch};
-use crate::files::{Standing, check_file, standing_at};
-use crate::name::{HALF_ASIDE, MAX_ASIDE, aside_path};
-use share_folders::names::closed_path;
-use share_store::error::StoreError;
-use share_store::shelf::ShareKey;
-use std::alloc::Global;
-use std::fs::{File, Metadata, OpenFile, OpenOptions};
+use crate::acts::Standing;
+use crate::bytes::Watch;
+use crate::fate::{Claim, Fate, Wanted, fate_of, fate_read};
+use crate::files::FolderFiles;
+use crate::name::{MAX_ASIDE, ShareFile};
+use share_folders::names::{ClosedName, OwnToken};
+use std::io;
 use std::io::ErrorKind;
-use std::os::unix::fs::MetadataExt;
+use std::random::RandomSource;
 use std::rt::Files;
-use std::{fs, io};
 use wire::message::Digest;
 
-/// The file of a closed share.
-#[derive(Clone, Copy)]
-pub(crate) struct ClosedFile<'a> {
-    pub(crate) folder: &'a str,
-    pub(crate) key: &'a ShareKey,
-    pub(crate) digest: &'a Digest,
+// Is told of bytes that were read before, which do not count again.
+#[derive(Drop)]
+struct Unwatched;
+
+impl Watch for Unwatched {
+    fn on_read(&mut self, _bytes: u64) {}
 }
 
-impl<'a> ClosedFile<'a> {
-    // Its path.
-    fn path(&self, alloc: Global) -> Result<String, StoreError>
-        ensures memory { IsOkUnless result StoreError.OutOfMemory }
-    {
-        closed_path(alloc, self.folder, self.key, self.digest)
-    }
+/// Where a file went that was on its way.
+#[derive(Clone, Copy, Debug, PartialEq, Eq)]
+pub(crate) enum Went {
+    /// Its closed name, since it is a whole share.
+    Back,
+    /// A name of those that are set aside.
+    Aside,
+}
 
-    // The path of the one of this number that is set aside.
-    fn aside(&self, alloc: Global, number: u8) -> Result<String, StoreError>
-        ensures memory { IsOkUnless result StoreError.OutOfMemory }
-    {
-        aside_path(alloc, self.folder, self.key, self.digest, number)
+/// What is to become of the file of a closed share that has its closed name. Its bytes are read
+/// where they tell, and where nothing is wanted. `NotFound` where it is gone.
+pub(crate) fn closed_fate<R, W>(
+    files: &mut FolderFiles<'_, R>,
+    name: &ClosedName,
+    wanted: Option<&Wanted<'_>>,
+    watch: &mut W,
+) -> io::Result<Fate>
+where
+    R: Files + RandomSource + AllocGlobal + Clone + Drop,
+    W: Watch,
+    ensures goes { (any : Option Wanted) → Goes any 0 0 files.old files.new }
+    ensures fate { IfOk result (IsClosedFate (option_copied wanted.entry) (closed_file name.now)
+        name.now.digest files.new) }
+    ensures gone { IfErr result (λ e. error_kind e ≡ NotFound
+        → Was (Gone (closed_file name.now)) files.new) }
+{
+    let file = ShareFile::closed(name);
+    match fate_by_look(files, &file, name, wanted)? {
+        Fate::Read => Ok(fate_read(files.judge(&file, &name.digest, watch)?)),
+        fate => Ok(fate),
     }
 }
 
-/// Sets the file of a closed share aside, which was looked at: it gets the first name for such
-/// files that is free. Where that fails it stands where it stood, or half set aside. The error of
-/// the system is the inner one. Where another file has its name meanwhile, the one that was looked
-/// at is gone (`NotFound`), and the other keeps the name: it may be a share that was just
-/// acknowledged.
+// The same of one that is on its way. One that would stay by its length is read too.
+fn half_fate<R>(
+    files: &mut FolderFiles<'_, R>,
+    half: &ShareFile,
+    name: &ClosedName,
+    wanted: Option<&Wanted<'_>>,
+) -> io::Result<Fate>
+where
+    R: Files + RandomSource + AllocGlobal + Clone + Drop,
+    requires { half.now.key ≡ name.now.key }
+    ensures goes { (any : Option Wanted) → Goes any 0 0 files.old files.new }
+    ensures fate { IfOk result
+        (IsHalfFate (option_copied wanted.entry) half.now name.now.digest files.new) }
+{
+    match fate_by_look(files, half, name, wanted)? {
+        Fate::Read | Fate::Keep => {
+            let verdict = files.judge(half, &name.digest, &mut Unwatched)?;
+            Ok(fate_read(verdict))
+        }
+        fate => Ok(fate),
+    }
+}
+
+// What is to become of a file, as far as its closed name and its length tell.
+fn fate_by_look<R>(
+    files: &mut FolderFiles<'_, R>,
+    file: &ShareFile,
+    name: &ClosedName,
+    wanted: Option<&Wanted<'_>>,
+) -> io::Result<Fate>
+where
+    R: Files + RandomSource + AllocGlobal + Clone + Drop,
+    requires { file.now.key ≡ name.now.key }
+    ensures goes { (any : Option Wanted) → Goes any 0 0 files.old files.new }
+    ensures found { IfOk result (λ fate. (fate ≡ Odd)
+        ⊎ WasFound (option_copied wanted.entry) file.now name.now.digest fate files.new) }
+    ensures gone { IfErr result (λ e. error_kind e ≡ NotFound → Was (Gone file.now) files.new) }
+{
+    let length = match files.look(file)? {
+        Standing::Odd => return Ok(Fate::Odd),
+        Standing::Regular(length, _) => length,
+    };
+    let claim = Claim {
+        share: name.key.1,
+        digest: name.digest,
+        length: Some(length),
+    };
+    Ok(fate_of(&claim, wanted))
+}
+
+/// Sets the file of a closed share aside that was looked at. Where that fails it stands where it
+/// stood, or is on its way. Another file may have its name meanwhile, a share that was just
+/// acknowledged: that one gets its name back.
 ///
-/// Once it has its new name the folder is synced, so that the old one does not come back beside
-/// the name of a share that is closed later. Where that fails nothing more is done: a share that is
-/// closed with syncs has the folder synced again, or fails.
-pub(crate) fn set_aside<R: Files, W: Watch>(
-    rt: &R,
-    alloc: Global,
-    file: &ClosedFile<'_>,
-    seen: &Metadata,
-    watch: &mut W,
-) -> Result<io::Result<()>, StoreError>
-    ensures memory { IsOkUnless result StoreError.OutOfMemory }
+/// Then the folder is synced, so that the old name does not come back beside that of a share that
+/// is closed later. Where that fails nothing more is done: a share that is closed with syncs has
+/// the folder synced again, or fails.
+pub(crate) fn set_aside<R>(
+    files: &mut FolderFiles<'_, R>,
+    name: &ClosedName,
+    wanted: Option<&Wanted<'_>>,
+) -> io::Result<Went>
+where
+    R: Files + RandomSource + AllocGlobal + Clone + Drop,
+    ensures goes { IsOf (option_copied wanted.entry) (closed_file name.now)
+        → IsNone (option_copied wanted.entry) (closed_file name.now) name.now.digest files.old
+        → GoesAs (option_copied wanted.entry) files.old files.new result }
+    ensures away { IsOf (option_copied wanted.entry) (closed_file name.now)
+        → IsNone (option_copied wanted.entry) (closed_file name.now) name.now.digest files.old
+        → IfOk result (λ _. IsAway (closed_file name.now) files.new) }
+    ensures gone { IsOf (option_copied wanted.entry) (closed_file name.now)
+        → IsNone (option_copied wanted.entry) (closed_file name.now) name.now.digest files.old
+        → IfErr result (λ e. error_kind e ≡ NotFound → IsAway (closed_file name.now) files.new) }
 {
-    let outcome = match begin(rt, alloc, file, seen, watch)? {
-        Ok(()) => go_on(rt, alloc, file, seen, watch)?,
-        Err(error) => Err(error),
-    };
-    let _ = sync_folder(rt, file.folder);
-    Ok(outcome)
+    let own = files.draw()?;
+    let half = ShareFile::half_aside(name, own);
+    files.rename(&ShareFile::closed(name), &half)?;
+    let fate = half_fate(files, &half, name, wanted)?;
+    go_on(files, name, &own, fate)
 }
 
-/// Settles what is half set aside of a closed share: a whole share gets its name back, what is
-/// damaged goes on to a name of those that are set aside, and an empty file goes. `NotFound` where
-/// nothing is, or is any more. What is no regular file, or cannot be read, stays.
-pub(crate) fn settle<R: Files, W: Watch>(
-    rt: &R,
-    alloc: Global,
-    file: &ClosedFile<'_>,
+/// Settles a file that is on its way: a whole share gets its closed name back, and a damaged one
+/// is set aside. `NotFound` where it is gone. What is no regular file, or cannot be read, stays.
+pub(crate) fn settle<R, W>(
+    files: &mut FolderFiles<'_, R>,
+    name: &ClosedName,
+    own: &OwnToken,
     watch: &mut W,
-) -> Result<io::Result<()>, StoreError>
-    ensures memory { IsOkUnless result StoreError.OutOfMemory }
+) -> io::Result<Went>
+where
+    R: Files + RandomSource + AllocGlobal + Clone + Drop,
+    W: Watch,
+    ensures { (wanted : Option Wanted) → IsOf wanted (half_file name.now own.now)
+        → GoesAs wanted files.old files.new result }
 {
-    let half = file.aside(alloc, HALF_ASIDE)?;
-    let outcome = match held_at(rt, alloc, half.as_str(), file.digest, watch)? {
-        Ok((found, Verdict::Whole)) => settle_whole(rt, alloc, file, &found, watch)?,
-        Ok((found, Verdict::Damaged)) => settle_damaged(rt, alloc, file, &found, watch)?,
-        Err(error) => return Ok(Err(error)),
-    };
-    let _ = sync_folder(rt, file.folder);
-    Ok(outcome)
+    let half = ShareFile::half_aside(name, *own);
+    let fate = read_fate(files, &half, &name.digest, watch)?;
+    go_on(files, name, own, fate)
 }
 
-// The file at a path, and whether it has the bytes of the share.
-fn held_at<R: Files, W: Watch>(
-    rt: &R,
-    alloc: Global,
-    path: &str,
+// What is to become of a file that is on its way, by its bytes.
+fn read_fate<R, W>(
+    files: &mut FolderFiles<'_, R>,
+    half: &ShareFile,
     digest: &Digest,
     watch: &mut W,
-) -> Result<io::Result<(Metadata, Verdict)>, StoreError>
-    ensures memory { IsOkUnless result StoreError.OutOfMemory }
+) -> io::Result<Fate>
+where
+    R: Files + RandomSource + AllocGlobal + Clone + Drop,
+    W: Watch,
+    ensures goes { (any : Option Wanted) → Goes any 0 0 files.old files.new }
+    ensures fate { IfOk result
+        (λ fate. (any : Option Wanted) → IsHalfFate any half.now digest.now files.new fate) }
 {
-    let found = match standing_at(rt, path) {
-        Ok(Standing::File(found)) => found,
-        Ok(Standing::Odd) => return Ok(Err(io::Error::from(ErrorKind::AlreadyExists))),
-        Ok(Standing::Nothing) => return Ok(Err(io::Error::from(ErrorKind::NotFound))),
-        Err(error) => return Ok(Err(error)),
+    match files.look(half)? {
+        Standing::Odd => Ok(Fate::Odd),
+        Standing::Regular(..) => Ok(fate_read(files.judge(half, digest, watch)?)),
+    }
+}
+
+// What is on its way goes where its fate says.
+fn go_on<R>(
+    files: &mut FolderFiles<'_, R>,
+    name: &ClosedName,
+    own: &OwnToken,
+    fate: Fate,
+) -> io::Result<Went>
+where
+    R: Files + RandomSource + AllocGlobal + Clone + Drop,
+    ensures { (wanted : Option Wanted) → IsOf wanted (half_file name.now own.now)
+        → IsHalfFate wanted (half_file name.now own.now) name.now.digest files.old fate
+        → GoesAs wanted files.old files.new result }
+{
+    let went = match fate {
+        Fate::SetAside => move_on(files, name, own)?,
+        Fate::Keep => give_back(files, name, own)?,
+        Fate::Read | Fate::Odd => return Err(io::Error::from(ErrorKind::AlreadyExists)),
     };
-    match check_file(rt, alloc, path, digest, watch)? {
-        Ok(verdict) => Ok(Ok((found, verdict))),
-        Err(error) => Ok(Err(error)),
-    }
+    let _ = files.sync_names();
+    Ok(went)
 }
 
-// A whole share gets its closed name back.
-fn settle_whole<R: Files, W: Watch>(
-    rt: &R,
-    alloc: Global,
-    file: &ClosedFile<'_>,
-    seen: &Metadata,
-    watch: &mut W,
-) -> Result<io::Result<()>, StoreError>
-    ensures memory { IsOkUnless result StoreError.OutOfMemory }
+// Gives a whole share that is on its way its closed name back.
+fn give_back<R>(
+    files: &mut FolderFiles<'_, R>,
+    name: &ClosedName,
+    own: &OwnToken,
+) -> io::Result<Went>
+where
+    R: Files + RandomSource + AllocGlobal + Clone + Drop,
+    ensures { (wanted : Option Wanted) → IsOf wanted (half_file name.now own.now)
+        → Was (Judged (half_file name.now own.now) name.now.digest Whole) files.old
+        → GoesAs wanted files.old files.new result }
 {
-    let path = file.path(alloc)?;
-    match held_at(rt, alloc, path.as_str(), file.digest, watch)? {
-        Ok((_, Verdict::Damaged)) => put_over(rt, alloc, file, seen, watch),
-        Err(error) if error.kind() != ErrorKind::NotFound => Ok(Err(error)),
-        _ => give_back(rt, alloc, file, seen, watch),
-    }
+    let half = ShareFile::half_aside(name, *own);
+    files.sync(&half)?;
+    files.rename(&half, &ShareFile::closed(name))?;
+    Ok(Went::Back)
 }
 
-// Gives a whole share its closed name, which a damaged file has. It has the half name still. A file
-// system without links has it renamed at once.
-fn put_over<R: Files, W: Watch>(
-    rt: &R,
-    alloc: Global,
-    file: &ClosedFile<'_>,
-    seen: &Metadata,
-    watch: &mut W,
-) -> Result<io::Result<()>, StoreError>
-    ensures memory { IsOkUnless result StoreError.OutOfMemory }
-{
-    let path = file.path(alloc)?;
-    let own = match link_half(rt, alloc, file)? {
-        Ok(Some(own)) => own,
-        Ok(None) => {
-            let half = file.aside(alloc, HALF_ASIDE)?;
-            return Ok(fs::rename(rt, half.as_str(), path.as_str()));
-        }
-        Err(error) => return Ok(Err(error)),
-    };
-    if let Err(error) = rename_seen(rt, own.as_str(), path.as_str(), seen) {
-        let _ = fs::remove_file(rt, own.as_str());
-        return Ok(Err(error));
-    }
-    remove_half(rt, alloc, file, seen, watch)
-}
-
-// Gives what is half set aside the first name too that is free of those that are set aside, and
-// gives that path: no other process takes it. `None` where the file system has no links.
-fn link_half<R: Files>(
-    rt: &R,
-    alloc: Global,
-    file: &ClosedFile<'_>,
-) -> Result<io::Result<Option<String>>, StoreError>
-    ensures memory { IsOkUnless result StoreError.OutOfMemory }
-{
-    let half = file.aside(alloc, HALF_ASIDE)?;
-    for number in 1..=MAX_ASIDE {
-        let own = file.aside(alloc, number)?;
-        match fs::hard_link(rt, half.as_str(), own.as_str()) {
-            Ok(()) => return Ok(Ok(Some(own))),
-            Err(error) => match error.kind() {
-                ErrorKind::AlreadyExists => {}
-                ErrorKind::NotFound => return Ok(Err(error)),
-                _ => return Ok(Ok(None)),
-            },
-        }
-    }
-    Ok(Err(io::Error::from(ErrorKind::AlreadyExists)))
-}
-
-// Renames a file that no other process takes, where it is the one that was looked at.
-fn rename_seen<R: Files>(rt: &R, own: &str, to: &str, seen: &Metadata) -> io::Result<()> {
-    if stands(rt, own, seen)? {
-        fs::rename(rt, own, to)
-    } else {
-        Err(io::Error::from(ErrorKind::NotFound))
-    }
-}
-
-// A damaged file goes on. One without a byte is what a process made to rename over: it goes.
-fn settle_damaged<R: Files, W: Watch>(
-    rt: &R,
-    alloc: Global,
-    file: &ClosedFile<'_>,
-    seen: &Metadata,
-    watch: &mut W,
-) -> Result<io::Result<()>, StoreError>
-    ensures memory { IsOkUnless result StoreError.OutOfMemory }
-{
-    if seen.len() == 0 {
-        return remove_half(rt, alloc, file, seen, watch);
-    }
-    let half = file.aside(alloc, HALF_ASIDE)?;
-    Ok(take(rt, alloc, file, half.as_str(), seen, watch)?.map(|_| ()))
-}
-
-// Gives the file that was looked at the half name. Where that is taken, what has it is settled
-// first, once.
-fn begin<R: Files, W: Watch>(
-    rt: &R,
-    alloc: Global,
-    file: &ClosedFile<'_>,
-    seen: &Metadata,
-    watch: &mut W,
-) -> Result<io::Result<()>, StoreError>
-    ensures memory { IsOkUnless result StoreError.OutOfMemory }
-{
-    match move_seen(rt, alloc, file, seen, watch)? {
-        Err(error) if error.kind() == ErrorKind::AlreadyExists => {
-            let _ = settle(rt, alloc, file, watch)?;
-            move_seen(rt, alloc, file, seen, watch)
-        }
-        outcome => Ok(outcome),
-    }
-}
-
-// The same where that name is free. Where the rename fails, what is left under that name is
-// settled: it may be another's file.
-fn move_seen<R: Files, W: Watch>(
-    rt: &R,
-    alloc: Global,
-    file: &ClosedFile<'_>,
-    seen: &Metadata,
-    watch: &mut W,
-) -> Result<io::Result<()>, StoreError>
-    ensures memory { IsOkUnless result StoreError.OutOfMemory }
-{
-    let path = file.path(alloc)?;
-    let half = file.aside(alloc, HALF_ASIDE)?;
-    let place = match stands(rt, path.as_str(), seen) {
-        Ok(true) => make_place(rt, half.as_str()),
-        Ok(false) => Err(io::Error::from(ErrorKind::NotFound)),
-        Err(error) => Err(error),
-    };
-    if place.is_err() {
-        return Ok(place);
-    }
-    let outcome = fs::rename(rt, path.as_str(), half.as_str());
-    if outcome.is_err() {
-        let _ = settle(rt, alloc, file, watch)?;
-    }
-    Ok(outcome)
-}
-
-// The file that was looked at goes on from the half name. Another gets its name back.
-fn go_on<R: Files, W: Watch>(
-    rt: &R,
-    alloc: Global,
-    file: &ClosedFile<'_>,
-    seen: &Metadata,
-    watch: &mut W,
-) -> Result<io::Result<()>, StoreError>
-    ensures memory { IsOkUnless result StoreError.OutOfMemory }
-{
-    let half = file.aside(alloc, HALF_ASIDE)?;
-    match fs::symlink_metadata(rt, half.as_str()) {
-        Ok(found) if is_same(&found, seen) => {
-            Ok(take(rt, alloc, file, half.as_str(), seen, watch)?.map(|_| ()))
-        }
-        Ok(found) => match give_back(rt, alloc, file, &found, watch)? {
-            Ok(()) => Ok(Err(io::Error::from(ErrorKind::NotFound))),
-            Err(error) => Ok(Err(error)),
-        },
-        Err(error) => Ok(Err(error)),
-    }
-}
-
-// Gives what is half set aside its closed name back. Where a share was closed under that name
-// meanwhile, both have the same bytes, and one is enough. A file system without links has it
-// renamed.
-fn give_back<R: Files, W: Watch>(
-    rt: &R,
-    alloc: Global,
-    file: &ClosedFile<'_>,
-    seen: &Metadata,
-    watch: &mut W,
-) -> Result<io::Result<()>, StoreError>
-    ensures memory { IsOkUnless result StoreError.OutOfMemory }
-{
-    let path = file.path(alloc)?;
-    let half = file.aside(alloc, HALF_ASIDE)?;
-    match fs::hard_link(rt, half.as_str(), path.as_str()) {
-        Err(error) if error.kind() != ErrorKind::AlreadyExists => {
-            Ok(fs::rename(rt, half.as_str(), path.as_str()))
-        }
-        _ => remove_half(rt, alloc, file, seen, watch),
-    }
-}
-
-// Takes the half name from the file that was looked at, and removes it.
-fn remove_half<R: Files, W: Watch>(
-    rt: &R,
-    alloc: Global,
-    file: &ClosedFile<'_>,
-    seen: &Metadata,
-    watch: &mut W,
-) -> Result<io::Result<()>, StoreError>
-    ensures memory { IsOkUnless result StoreError.OutOfMemory }
-{
-    let half = file.aside(alloc, HALF_ASIDE)?;
-    match take(rt, alloc, file, half.as_str(), seen, watch)? {
-        Ok(own) => Ok(fs::remove_file(rt, own.as_str())),
-        Err(error) => Ok(Err(error)),
-    }
-}
-
-// Gives the file that was looked at the first name that is free of those that are set aside, and
-// gives that path: no other process takes it. Where another file came in between, that one is
-// judged there, and the one that was looked at is gone (`NotFound`).
-fn take<R: Files, W: Watch>(
-    rt: &R,
-    alloc: Global,
-    file: &ClosedFile<'_>,
-    from: &str,
-    seen: &Metadata,
-    watch: &mut W,
-) -> Result<io::Result<String>, StoreError>
-    ensures memory { IsOkUnless result StoreError.OutOfMemory }
-{
-    let own = match move_on(rt, alloc, file, from)? {
-        Ok(own) => own,
-        Err(error) => return Ok(Err(error)),
-    };
-    match stands(rt, own.as_str(), seen) {
-        Ok(true) => return Ok(Ok(own)),
-        Ok(false) => {}
-        Err(error) => return Ok(Err(error)),
-    }
-    match judge(rt, alloc, file, own.as_str(), watch)? {
-        Ok(()) => Ok(Err(io::Error::from(ErrorKind::NotFound))),
-        Err(error) => Ok(Err(error)),
-    }
-}
-
-// What came in between, under a name that no other process takes: a whole share gets its closed
-// name back, and an empty file goes.
-fn judge<R: Files, W: Watch>(
-    rt: &R,
-    alloc: Global,
-    file: &ClosedFile<'_>,
-    own: &str,
-    watch: &mut W,
-) -> Result<io::Result<()>, StoreError>
-    ensures memory { IsOkUnless result StoreError.OutOfMemory }
-{
-    let path = file.path(alloc)?;
-    match held_at(rt, alloc, own, file.digest, watch)? {
-        Ok((_, Verdict::Whole)) => match fs::hard_link(rt, own, path.as_str()) {
-            Err(error) if error.kind() != ErrorKind::AlreadyExists => {
-                Ok(fs::rename(rt, own, path.as_str()))
-            }
-            _ => Ok(fs::remove_file(rt, own)),
-        },
-        Ok((found, Verdict::Damaged)) if found.len() == 0 => Ok(fs::remove_file(rt, own)),
-        Ok((_, Verdict::Damaged)) => Ok(Ok(())),
-        Err(error) => Ok(Err(error)),
-    }
-}
-
-// Gives what stands at a path the first name that is free of those that are set aside, and gives
-// the path of that.
-fn move_on<R: Files>(
-    rt: &R,
-    alloc: Global,
-    file: &ClosedFile<'_>,
-    from: &str,
-) -> Result<io::Result<String>, StoreError>
-    ensures memory { IsOkUnless result StoreError.OutOfMemory }
+// Gives what is on its way the first name that is free of those that are set aside.
+fn move_on<R>(files: &mut FolderFiles<'_, R>, name: &ClosedName, own: &OwnToken) -> io::Result<Went>
+where
+    R: Files + RandomSource + AllocGlobal + Clone + Drop,
+    ensures { (wanted : Option Wanted) → IsOf wanted (half_file name.now own.now)
+        → IsNoneThere wanted (half_file name.now own.now) name.now.digest files.old
+        → GoesAs wanted files.old files.new result }
 {
     for number in 1..=MAX_ASIDE {
-        let own = file.aside(alloc, number)?;
-        match move_to(rt, from, own.as_str()) {
-            Ok(()) => return Ok(Ok(own)),
+        match move_to(files, name, own, number) {
             Err(error) if error.kind() == ErrorKind::AlreadyExists => {}
-            Err(error) => return Ok(Err(error)),
+            outcome => return outcome,
         }
     }
-    Ok(Err(io::Error::from(ErrorKind::AlreadyExists)))
+    Err(io::Error::from(ErrorKind::AlreadyExists))
 }
 
-// Gives a file a name that is free. An empty file is made there first, which fails where something
-// has the name, and the file takes its place: so it never replaces another's file. A link to it,
-// with its old name removed then, would not do: a share that was closed under the old name
-// meanwhile would be gone.
-fn move_to<R: Files>(rt: &R, from: &str, to: &str) -> io::Result<()> {
-    make_place(rt, to)?;
-    let outcome = fs::rename(rt, from, to);
-    if outcome.is_err() {
-        let _ = fs::remove_file(rt, to);
+// Gives it the name of a number, over an empty file that is made there first.
+fn move_to<R>(
+    files: &mut FolderFiles<'_, R>,
+    name: &ClosedName,
+    own: &OwnToken,
+    number: u8,
+) -> io::Result<Went>
+where
+    R: Files + RandomSource + AllocGlobal + Clone + Drop,
+    ensures { (wanted : Option Wanted) → IsOf wanted (half_file name.now own.now)
+        → IsNoneThere wanted (half_file name.now own.now) name.now.digest files.old
+        → GoesAs wanted files.old files.new result }
+{
+    let half = ShareFile::half_aside(name, *own);
+    let place = ShareFile::aside(name, number);
+    files.make(&place)?;
+    match files.rename(&half, &place) {
+        Ok(()) => Ok(Went::Aside),
+        Err(error) => {
+            let _ = files.remove(&place);
+            Err(error)
+        }
     }
-    outcome
-}
-
-// Makes an empty file under a name that is free.
-fn make_place<R: Files>(rt: &R, path: &str) -> io::Result<()> {
-    let mut options = OpenOptions::new();
-    options.write(true).create_new(true);
-    let _place = options.open(rt, path)?;
-    Ok(())
-}
-
-// Whether the file that was looked at stands at a path.
-fn stands<R: Files>(rt: &R, path: &str, seen: &Metadata) -> io::Result<bool> {
-    let found = fs::symlink_metadata(rt, path)?;
-    Ok(is_same(&found, seen))
-}
-
-// Whether they are of one file. A number is used again once its file is gone; the length tells a
-// share from an empty file that had its number before.
-fn is_same(found: &Metadata, seen: &Metadata) -> bool {
-    found.dev() == seen.dev() && found.ino() == seen.ino() && found.len() == seen.len()
-}
-
-// Puts the names of a folder on the disk.
-fn sync_folder<R: Files>(rt: &R, folder: &str) -> io::Result<()> {
-    File::open(rt, folder)?.sync_all()
 }

@@ -8,26 +8,28 @@ ghost use Rattle.share_store.specs.Shelf.{ShareKey};
 ghost use Rattle.share_scrub.specs.declared.name.ShareFile.{ShareFile};
 ghost use Rattle.share_scrub.specs.Scrub.{IsKeptUnless, whole_after};
 
-use crate::aside::{ClosedFile, set_aside, settle};
-use crate::bytes::{Verdict, Watch};
-use crate::files::{Standing, check_file, is_left_over, standing_at};
-use crate::name::{FileKind, HALF_ASIDE, ShareFile};
+use crate::acts::Standing;
+use crate::aside::{Went, closed_fate, set_aside, settle};
+use crate::bytes::Watch;
+use crate::fate::Fate;
+use crate::files::FolderFiles;
+use crate::name::{FileKind, ShareFile};
+use share_folders::names::{ClosedName, OwnToken};
 use share_store::error::StoreError;
 use share_store::shelf::ShareKey;
-use std::fs::DirEntry;
+use std::io;
 use std::io::ErrorKind;
 use std::marker::Model;
+use std::random::RandomSource;
 use std::rt::Files;
 use std::time::SystemTime;
-use std::{fs, io};
-use wire::message::Digest;
 
 /// What is done about the files that are found.
 #[derive(Clone, Copy)]
 pub struct Handling {
     /// Damaged files are set aside: they get a name with `.damaged` at its end, or `.damaged.2` and
     /// so on where that is taken, up to 99. None takes the place of a file that is there. And what
-    /// is half set aside is settled: a whole share gets its closed name back.
+    /// is on its way is settled: a whole share gets its closed name back.
     pub set_aside: bool,
     /// Open files that are left over are removed.
     pub remove_open: bool,
@@ -66,8 +68,8 @@ pub enum State {
     LeftOpen(u64, Action),
     /// Of a closed share, and it was set aside: it has so many bytes.
     Aside(u64, Action),
-    /// Of a closed share, and it was being set aside when its process ended: it has so many bytes,
-    /// and may be whole.
+    /// Of a closed share, and it is on its way to be set aside, or was when its process ended: it
+    /// has so many bytes, and may be whole.
     HalfAside(u64, Action),
 }
 
@@ -98,61 +100,26 @@ impl<R: Files> Model for Scrub<R> {
     ghost view = { λ m. record { left = m.left.items; whole = m.whole } };
 }
 
-impl<R: Files + AllocGlobal + Clone + Drop> Scrub<R> {
+impl<R: Files + RandomSource + AllocGlobal + Clone + Drop> Scrub<R> {
     /// Lists the share files of a folder.
     ///
     /// An error where the folder cannot be read, or there is no memory.
     pub fn begin(rt: &R, folder: &str) -> io::Result<Scrub<R>>
         ensures { IfOk result (λ scrub. scrub.whole ≡ None) }
     {
-        let alloc = rt.alloc();
-        let mut scrub = Scrub {
+        let mut listing = FolderFiles::new(rt, folder, SystemTime::UNIX_EPOCH).list_all()?;
+        listing.files.reverse();
+        Ok(Scrub {
             rt: rt.clone()?,
-            folder: String::from_str(alloc, folder)?,
-            left: Vec::new(alloc),
+            folder: String::from_str(rt.alloc(), folder)?,
+            left: listing.files,
             whole: None,
-            total: 0,
-        };
-        scrub.list()?;
-        scrub.left.sort_unstable();
-        scrub.left.reverse();
-        Ok(scrub)
-    }
-
-    // Takes note of the folder's share files.
-    fn list(&mut self) -> io::Result<()>
-        ensures { self.new.whole ≡ self.old.whole }
-    {
-        for entry in fs::read_dir(&self.rt, &self.folder)? {
-            match entry {
-                Ok(entry) => self.note(&entry)?,
-                Err(error) if error.kind() == ErrorKind::InvalidFilename => {}
-                Err(error) => return Err(error),
-            }
-        }
-        Ok(())
-    }
-
-    // Takes note of a share's file.
-    fn note(&mut self, entry: &DirEntry<R>) -> io::Result<()>
-        ensures { self.new.whole ≡ self.old.whole }
-    {
-        let Some(file) = ShareFile::read(entry.file_name().as_bytes()) else {
-            return Ok(());
-        };
-        if matches!(
-            file.kind,
-            FileKind::Closed(_) | FileKind::Aside(_, HALF_ASIDE)
-        ) {
-            let length = entry.metadata().map_or(0, |found| found.len());
-            self.total = self.total.saturating_add(length);
-        }
-        self.left.push(file)?;
-        Ok(())
+            total: listing.total,
+        })
     }
 
     /// How many bytes the closed shares had together when they were listed, with those that were
-    /// half set aside.
+    /// on their way.
     pub fn total(&self) -> u64 {
         self.total
     }
@@ -201,18 +168,27 @@ impl<R: Files + AllocGlobal + Clone + Drop> Scrub<R> {
             IsKeptUnless self.now.whole file.now.key state)) }
         ensures memory { IsOkUnless result StoreError.OutOfMemory }
     {
-        let path = file.path(self.rt.alloc(), self.folder.as_str())?;
+        let mut files = FolderFiles::new(&self.rt, self.folder.as_str(), handling.now);
+        let key = file.key;
         match &file.kind {
             FileKind::Closed(digest) => {
-                self.closed_state(&file.key, digest, path.as_str(), handling, watch)
+                let digest = *digest;
+                closed_state(&mut files, &ClosedName { key, digest }, handling, watch)
             }
-            FileKind::Open(_) => Ok(open_state(&self.rt, path.as_str(), handling)),
-            FileKind::Aside(digest, HALF_ASIDE) => {
-                self.half_state(&file.key, digest, path.as_str(), handling, watch)
+            FileKind::Open(_) => open_state(&mut files, file, handling),
+            FileKind::HalfAside(digest, own) => {
+                let digest = *digest;
+                half_state(
+                    &mut files,
+                    &ClosedName { key, digest },
+                    own,
+                    handling,
+                    watch,
+                )
             }
             FileKind::Aside(..) => {
                 let goes = handling.remove_damaged && self.is_whole(&file.key);
-                Ok(aside_state(&self.rt, path.as_str(), goes))
+                aside_state(&mut files, file, goes)
             }
         }
     }
@@ -226,118 +202,165 @@ impl<R: Files + AllocGlobal + Clone + Drop> Scrub<R> {
             None => false,
         }
     }
+}
 
-    // How the file of a closed share is found: a damaged one is set aside, where that is asked for.
-    fn closed_state<W: Watch>(
-        &self,
-        key: &ShareKey,
-        digest: &Digest,
-        path: &str,
-        handling: &Handling,
-        watch: &mut W,
-    ) -> Result<Option<State>, StoreError>
-        ensures kept { (whole : Option ShareKey) (key : ShareKey) → IfOk result
-            (λ found. IfSome found (λ state. IsKeptUnless whole key state)) }
-        ensures memory { IsOkUnless result StoreError.OutOfMemory }
-    {
-        let seen = match standing_at(&self.rt, path) {
-            Ok(Standing::File(seen)) => seen,
-            Ok(Standing::Odd) => return Ok(Some(State::Odd)),
-            Ok(Standing::Nothing) => return Ok(None),
-            Err(error) => return Ok(Some(State::Unreadable(error))),
-        };
-        match check_file(&self.rt, self.rt.alloc(), path, digest, watch)? {
-            Ok(Verdict::Whole) => Ok(Some(State::Whole)),
-            Ok(Verdict::Damaged) if !handling.set_aside => Ok(Some(State::Damaged(Action::Left))),
-            Ok(Verdict::Damaged) => {
-                let file = self.closed_file(key, digest);
-                let outcome = set_aside(&self.rt, self.rt.alloc(), &file, &seen, watch)?;
-                Ok(Some(State::Damaged(action_of(outcome))))
-            }
-            Err(error) => Ok(Some(State::Unreadable(error))),
-        }
-    }
+// How the file of a closed share is found: a damaged one is set aside, where that is asked for.
+fn closed_state<R, W>(
+    files: &mut FolderFiles<'_, R>,
+    name: &ClosedName,
+    handling: &Handling,
+    watch: &mut W,
+) -> Result<Option<State>, StoreError>
+where
+    R: Files + RandomSource + AllocGlobal + Clone + Drop,
+    W: Watch,
+    ensures kept { (whole : Option ShareKey) (key : ShareKey) → IfOk result
+        (λ found. IfSome found (λ state. IsKeptUnless whole key state)) }
+    ensures memory { IsOkUnless result StoreError.OutOfMemory }
+{
+    let fate = match closed_fate(files, name, None, watch) {
+        Ok(fate) => fate,
+        Err(error) => return unreadable(error),
+    };
+    let state = match fate {
+        Fate::Odd => State::Odd,
+        Fate::Keep | Fate::Read => State::Whole,
+        Fate::SetAside if !handling.set_aside => State::Damaged(Action::Left),
+        Fate::SetAside => State::Damaged(match set_aside(files, name, None) {
+            Ok(Went::Aside) => Action::Done,
+            // another file has its name since
+            Ok(Went::Back) => Action::Failed(io::Error::from(ErrorKind::NotFound)),
+            Err(error) => failed(error)?,
+        }),
+    };
+    Ok(Some(state))
+}
 
-    // How a file that is half set aside is found: it is settled, where that is asked for. What
-    // another settled meanwhile is passed over.
-    fn half_state<W: Watch>(
-        &self,
-        key: &ShareKey,
-        digest: &Digest,
-        path: &str,
-        handling: &Handling,
-        watch: &mut W,
-    ) -> Result<Option<State>, StoreError>
-        ensures kept { (whole : Option ShareKey) (key : ShareKey) → IfOk result
-            (λ found. IfSome found (λ state. IsKeptUnless whole key state)) }
-        ensures memory { IsOkUnless result StoreError.OutOfMemory }
-    {
-        let found = match standing_at(&self.rt, path) {
-            Ok(Standing::File(found)) => found,
-            Ok(Standing::Odd | Standing::Nothing) | Err(_) => return Ok(None),
-        };
-        if !handling.set_aside {
-            return Ok(Some(State::HalfAside(found.len(), Action::Left)));
-        }
-        let file = self.closed_file(key, digest);
-        match settle(&self.rt, self.rt.alloc(), &file, watch)? {
-            Err(error) if error.kind() == ErrorKind::NotFound => Ok(None),
-            outcome => Ok(Some(State::HalfAside(found.len(), action_of(outcome)))),
-        }
+// How a file that is on its way is found: it is settled, where that is asked for. What another
+// settled meanwhile is passed over.
+fn half_state<R, W>(
+    files: &mut FolderFiles<'_, R>,
+    name: &ClosedName,
+    own: &OwnToken,
+    handling: &Handling,
+    watch: &mut W,
+) -> Result<Option<State>, StoreError>
+where
+    R: Files + RandomSource + AllocGlobal + Clone + Drop,
+    W: Watch,
+    ensures kept { (whole : Option ShareKey) (key : ShareKey) → IfOk result
+        (λ found. IfSome found (λ state. IsKeptUnless whole key state)) }
+    ensures memory { IsOkUnless result StoreError.OutOfMemory }
+{
+    let file = ShareFile::half_aside(name, *own);
+    let Some(length) = length_of(files, &file)? else {
+        return Ok(None);
+    };
+    if !handling.set_aside {
+        return Ok(Some(State::HalfAside(length, Action::Left)));
     }
-
-    // The file of a closed share in the folder.
-    fn closed_file<'a>(&'a self, key: &'a ShareKey, digest: &'a Digest) -> ClosedFile<'a> {
-        ClosedFile {
-            folder: self.folder.as_str(),
-            key,
-            digest,
-        }
-    }
+    let action = match settle(files, name, own, watch) {
+        Ok(_) => Action::Done,
+        Err(error) if error.kind() == ErrorKind::NotFound => return Ok(None),
+        Err(error) => failed(error)?,
+    };
+    Ok(Some(State::HalfAside(length, action)))
 }
 
 // How an open share's file is found, where nobody writes to it any more.
-fn open_state<R: Files>(rt: &R, path: &str, handling: &Handling) -> Option<State>
-    ensures { (whole : Option ShareKey) (key : ShareKey) → IfSome result
-        (λ state. IsKeptUnless whole key state) }
+fn open_state<R>(
+    files: &mut FolderFiles<'_, R>,
+    file: &ShareFile,
+    handling: &Handling,
+) -> Result<Option<State>, StoreError>
+where
+    R: Files + RandomSource + AllocGlobal + Clone + Drop,
+    ensures kept { (whole : Option ShareKey) (key : ShareKey) → IfOk result
+        (λ found. IfSome found (λ state. IsKeptUnless whole key state)) }
+    ensures memory { IsOkUnless result StoreError.OutOfMemory }
 {
-    let found = match standing_at(rt, path) {
-        Ok(Standing::File(found)) => found,
-        Ok(Standing::Odd | Standing::Nothing) => return None,
-        Err(error) => return Some(State::Unreadable(error)),
+    let length = match files.look(file) {
+        Ok(Standing::Regular(length, true)) => length,
+        Ok(_) => return Ok(None),
+        Err(error) => return unreadable(error),
     };
-    if !is_left_over(&found, handling.now) {
-        return None;
-    }
     let action = if handling.remove_open {
-        action_of(fs::remove_file(rt, path))
+        removal(files, file)?
     } else {
         Action::Left
     };
-    Some(State::LeftOpen(found.len(), action))
+    Ok(Some(State::LeftOpen(length, action)))
 }
 
-// How a file that was set aside is found, and it is removed where it is to go. It is no share, so
-// one that cannot be asked is passed over.
-fn aside_state<R: Files>(rt: &R, path: &str, goes: bool) -> Option<State>
-    ensures { (whole : Option ShareKey) (key : ShareKey) → (goes ≡ true → whole ≡ Some key)
-        → IfSome result (λ state. IsKeptUnless whole key state) }
+// How a file that was set aside is found, and it is removed where it is to go.
+fn aside_state<R>(
+    files: &mut FolderFiles<'_, R>,
+    file: &ShareFile,
+    goes: bool,
+) -> Result<Option<State>, StoreError>
+where
+    R: Files + RandomSource + AllocGlobal + Clone + Drop,
+    ensures kept { (whole : Option ShareKey) (key : ShareKey) → (goes ≡ true → whole ≡ Some key)
+        → IfOk result (λ found. IfSome found (λ state. IsKeptUnless whole key state)) }
+    ensures memory { IsOkUnless result StoreError.OutOfMemory }
 {
-    let found = match standing_at(rt, path) {
-        Ok(Standing::File(found)) => found,
-        Ok(Standing::Odd | Standing::Nothing) | Err(_) => return None,
+    let Some(length) = length_of(files, file)? else {
+        return Ok(None);
     };
     let action = if goes {
-        action_of(fs::remove_file(rt, path))
+        removal(files, file)?
     } else {
         Action::Left
     };
-    Some(State::Aside(found.len(), action))
+    Ok(Some(State::Aside(length, action)))
 }
 
-fn action_of(outcome: io::Result<()>) -> Action {
-    match outcome {
-        Ok(()) => Action::Done,
-        Err(error) => Action::Failed(error),
+// How many bytes a regular file has. What is none or cannot be asked is no share, and is passed
+// over.
+fn length_of<R>(files: &mut FolderFiles<'_, R>, file: &ShareFile) -> Result<Option<u64>, StoreError>
+where
+    R: Files + RandomSource + AllocGlobal + Clone + Drop,
+    ensures memory { IsOkUnless result StoreError.OutOfMemory }
+{
+    match files.look(file) {
+        Ok(Standing::Regular(length, _)) => Ok(Some(length)),
+        Ok(Standing::Odd) => Ok(None),
+        Err(error) if error.kind() == ErrorKind::OutOfMemory => Err(StoreError::OutOfMemory),
+        Err(_) => Ok(None),
+    }
+}
+
+// A file that cannot be read. What is gone is passed over.
+fn unreadable(error: io::Error) -> Result<Option<State>, StoreError>
+    ensures kept { (whole : Option ShareKey) (key : ShareKey) → IfOk result
+        (λ found. IfSome found (λ state. IsKeptUnless whole key state)) }
+    ensures memory { IsOkUnless result StoreError.OutOfMemory }
+{
+    match error.kind() {
+        ErrorKind::NotFound => Ok(None),
+        ErrorKind::OutOfMemory => Err(StoreError::OutOfMemory),
+        _ => Ok(Some(State::Unreadable(error))),
+    }
+}
+
+// Removes a file.
+fn removal<R>(files: &mut FolderFiles<'_, R>, file: &ShareFile) -> Result<Action, StoreError>
+where
+    R: Files + RandomSource + AllocGlobal + Clone + Drop,
+    ensures memory { IsOkUnless result StoreError.OutOfMemory }
+{
+    match files.remove(file) {
+        Ok(()) => Ok(Action::Done),
+        Err(error) => failed(error),
+    }
+}
+
+// What was to be done and failed.
+fn failed(error: io::Error) -> Result<Action, StoreError>
+    ensures memory { IsOkUnless result StoreError.OutOfMemory }
+{
+    match error.kind() {
+        ErrorKind::OutOfMemory => Err(StoreError::OutOfMemory),
+        _ => Ok(Action::Failed(error)),
     }
 }

@@ -1,96 +1,33 @@
 //! The files of one storage index, before its shares are put.
 
-ghost use Rattle.std.specs.Prelude.{◌≡◌, ◌≢◌, [], Ok, IsOkUnless, OnErr, OnOk, option_copied};
+ghost use Rattle.std.specs.Prelude.{◌≡◌, ◌≢◌, ◌⊎◌, [], All, Ok, Option, Some, true, IfErr, IfOk};
+ghost use Rattle.std.specs.Prelude.{IsOkUnless, OnErr, OnOk};
 ghost use Rattle.std.specs.IoError.{error_kind};
 ghost use Rattle.std.specs.declared.io.ErrorKind.TheVariants.{NotFound, OutOfMemory};
 ghost use Rattle.share_store.specs.declared.error.StoreError.{StoreError};
-ghost use Rattle.share_scrub.specs.Clearing.{Counts, fate_by, fate_of, fate_read};
+ghost use Rattle.std.specs.List.{AllByRecursion};
+ghost use Rattle.share_scrub.specs.declared.fate.Wanted.{Wanted};
+ghost use Rattle.share_scrub.specs.declared.name.FileKind.TheVariants.{Closed};
+ghost use Rattle.share_scrub.specs.Acts.{AreAllowed, IsOf, is_open, last_listed};
+ghost use Rattle.share_scrub.specs.Clearing.{Counts, IsAway, IsCleared, IsClearedOf};
+ghost use Rattle.share_scrub.specs.Going.{Counted, Goes, GoesCounting, IsCountedSo};
+ghost use Rattle.share_scrub.specs.Going.{IsToldBy, outcome_aside, outcome_removed};
+ghost use Rattle.share_scrub.specs.Name.{closed_file};
 ghost use Rattle.share_scrub.specs.declared.mending.Outcome.TheVariants.{Kept, WasLeft};
 
-use crate::aside::{ClosedFile, set_aside, settle};
-use crate::bytes::{Verdict, Watch};
-use crate::files::{Standing, check_file, is_left_over, standing_at};
-use crate::name::{FileKind, HALF_ASIDE, ShareFile};
-use cap_text::to_base32;
-use share_folders::names::closed_path;
+use crate::acts::Standing;
+use crate::aside::{Went, closed_fate, set_aside, settle};
+use crate::bytes::Watch;
+use crate::fate::{Fate, Wanted};
+use crate::files::FolderFiles;
+use crate::name::{FileKind, ShareFile};
+use share_folders::names::ClosedName;
 use share_store::error::StoreError;
-use share_store::shelf::ShareKey;
 use std::alloc::Global;
-use std::fs::Metadata;
+use std::io;
 use std::io::ErrorKind;
+use std::random::RandomSource;
 use std::rt::Files;
-use std::time::SystemTime;
-use std::{fs, io};
-use wire::message::{Digest, StorageIndex};
-
-/// What the files of one storage index are held against before its shares are put.
-#[derive(Clone, Copy)]
-pub struct Wanted<'a> {
-    pub index: StorageIndex,
-    /// How many bytes each share of the file has.
-    pub length: u64,
-    /// The digests of all shares that were made, by number, where bytes are to be read too.
-    pub digests: Option<&'a [Digest]>,
-    pub now: SystemTime,
-}
-
-/// What the file of a closed share is, as far as its name and its length tell.
-#[derive(Clone, Copy)]
-pub struct Claim {
-    /// The share's number.
-    pub share: u8,
-    /// The digest in the name.
-    pub digest: Digest,
-    /// How many bytes the file has; `None` where it is no regular file.
-    pub length: Option<u64>,
-}
-
-/// What is to become of the file of a closed share.
-#[derive(Clone, Copy, Debug, PartialEq, Eq)]
-pub enum Fate {
-    /// It stays.
-    Keep,
-    /// Its bytes tell: they are read.
-    Read,
-    /// It is none of the shares that are put.
-    SetAside,
-    /// It is no regular file: it stays, and is told.
-    Odd,
-}
-
-/// What is to become of the file of a closed share, as far as its name and its length tell.
-pub fn fate_of(claim: &Claim, wanted: &Wanted<'_>) -> Fate
-    ensures { result ≡ fate_of claim.now wanted.entry.now }
-{
-    match claim.length {
-        None => Fate::Odd,
-        Some(length) if length != wanted.length => Fate::SetAside,
-        Some(_) => match wanted.digests {
-            None => Fate::Keep,
-            Some(made) => fate_by(made.get(claim.share as usize), &claim.digest),
-        },
-    }
-}
-
-// The same by the digest that the share was made with.
-fn fate_by(made: Option<&Digest>, digest: &Digest) -> Fate
-    ensures { result ≡ fate_by (option_copied made.entry) digest.now }
-{
-    match made {
-        Some(made) if *made == *digest => Fate::Read,
-        _ => Fate::SetAside,
-    }
-}
-
-/// What is to become of it once its bytes were read.
-pub fn fate_read(verdict: Verdict) -> Fate
-    ensures { result ≡ fate_read verdict }
-{
-    match verdict {
-        Verdict::Whole => Fate::Keep,
-        Verdict::Damaged => Fate::SetAside,
-    }
-}
 
 /// What became of a file.
 #[derive(Debug, Drop)]
@@ -164,226 +101,212 @@ impl Cleared {
 /// Clears the way for the shares of a storage index in a folder. The file of an open share is
 /// removed where nobody wrote to it for 600 seconds. The file of a closed share is set aside where
 /// it has another length than the shares that are put, and, where their digests are given, where
-/// the digest in its name or that of its bytes is none of them. Before all this, what is half set
-/// aside is settled: a whole share gets its closed name back, and is held against what is wanted as
-/// others are. Nothing else is touched. A folder that is not there has no files.
+/// the digest in its name or that of its bytes is none of them. Before all this, what is on its way
+/// to be set aside is settled: a whole share gets its closed name back, and is held against what is
+/// wanted as others are. Nothing else is touched. A folder that is not there has no files.
 ///
-/// `StoreFault` where the folder cannot be read: then nothing was done, but for what was half set
-/// aside. `OutOfMemory` leaves the files behind which it came as they are, and the one at which it
-/// came too, or half set aside.
+/// `StoreFault` where the folder cannot be read: then nothing was done, but for what was on its
+/// way. `OutOfMemory` leaves the files behind which it came as they are, and the one at which it
+/// came too, or on its way.
 pub fn clear_way<R, W>(
-    rt: &R,
-    folder: &str,
+    files: &mut FolderFiles<'_, R>,
     wanted: &Wanted<'_>,
     watch: &mut W,
 ) -> Result<Cleared, StoreError>
 where
-    R: Files + AllocGlobal + Clone + Drop,
+    R: Files + RandomSource + AllocGlobal + Clone + Drop,
     W: Watch,
+    requires { files.old ≡ [] }
+    ensures cleared { IfOk result (λ cleared. IsCleared wanted.entry.now cleared files.new) }
+    ensures allowed { AreAllowed (Some wanted.entry.now) files.new }
 {
-    let files = match files_of(rt, folder, &wanted.index) {
-        Err(error) if error.kind() == ErrorKind::NotFound => return Ok(Cleared::new(rt.alloc())),
-        outcome => outcome?,
-    };
-    let files = settle_files(rt, folder, files, &wanted.index, watch)?;
-    clear_files(rt, folder, files.as_slice(), wanted, watch)
+    let mut cleared = Cleared::new(files.alloc());
+    let listed = settle_all(files, wanted, &mut cleared, watch)?;
+    clear_files(files, listed.as_slice(), wanted, &mut cleared, watch)?;
+    Ok(cleared)
 }
 
-// Settles those of these files that are half set aside, and lists them anew where there are some.
-// One that cannot be settled is in nobody's way, unless something else is to be set aside.
-fn settle_files<R, W>(
-    rt: &R,
-    folder: &str,
-    files: Vec<ShareFile>,
-    index: &StorageIndex,
+// Settles what is on its way, and lists the files then.
+fn settle_all<R, W>(
+    files: &mut FolderFiles<'_, R>,
+    wanted: &Wanted<'_>,
+    cleared: &mut Cleared,
     watch: &mut W,
 ) -> Result<Vec<ShareFile>, StoreError>
 where
-    R: Files + AllocGlobal + Clone + Drop,
+    R: Files + RandomSource + AllocGlobal + Clone + Drop,
     W: Watch,
+    ensures allowed { AreAllowed (Some wanted.entry.now) files.old
+        → AreAllowed (Some wanted.entry.now) files.new }
+    ensures counted { IsCountedSo wanted.entry.now cleared.old files.old
+        → IfOk result (λ _. IsCountedSo wanted.entry.now cleared.new files.new) }
+    ensures listed { IfOk result (λ listed. last_listed files.new ≡ Some listed.items) }
+    ensures index { IfOk result
+        (λ listed. All (λ f. f.key.0 ≡ wanted.entry.now.index) listed.items) }
 {
-    let mut is_old = false;
-    for file in files.as_slice() {
-        if let FileKind::Aside(digest, HALF_ASIDE) = &file.kind {
-            let key = &file.key;
-            let file = ClosedFile {
-                folder,
-                key,
-                digest,
-            };
-            let _ = settle(rt, rt.alloc(), &file, watch)?;
-            is_old = true;
-        }
-    }
-    if is_old {
-        Ok(files_of(rt, folder, index)?)
+    let listed = files.list(&wanted.index)?;
+    if settle_files(files, listed.as_slice(), wanted, cleared, watch)? {
+        Ok(files.list(&wanted.index)?)
     } else {
-        Ok(files)
+        Ok(listed)
     }
 }
 
-// The share files of a storage index in a folder, in their order. A folder may hold many of others:
-// their names are compared with the letters of the index, and no more.
-fn files_of<R: Files + AllocGlobal + Clone + Drop>(
-    rt: &R,
-    folder: &str,
-    index: &StorageIndex,
-) -> io::Result<Vec<ShareFile>> {
-    let alloc = rt.alloc();
-    let letters = to_base32(alloc, index).map_err(|_| io::Error::from(ErrorKind::OutOfMemory))?;
-    let mut files = Vec::new(alloc);
-    for entry in fs::read_dir(rt, folder)? {
-        match entry {
-            Ok(entry) => note(&mut files, entry.file_name().as_bytes(), letters.as_bytes())?,
-            Err(error) if error.kind() == ErrorKind::InvalidFilename => {}
-            Err(error) => return Err(error),
-        }
+// Settles those of these files that are on their way, and says whether there are some. One that
+// cannot be settled is in nobody's way.
+fn settle_files<R, W>(
+    files: &mut FolderFiles<'_, R>,
+    listed: &[ShareFile],
+    wanted: &Wanted<'_>,
+    cleared: &mut Cleared,
+    watch: &mut W,
+) -> Result<bool, StoreError>
+where
+    R: Files + RandomSource + AllocGlobal + Clone + Drop,
+    W: Watch,
+    requires { All (λ f. f.key.0 ≡ wanted.now.index) listed.now }
+    ensures allowed { AreAllowed (Some wanted.entry.now) files.old
+        → AreAllowed (Some wanted.entry.now) files.new }
+    ensures counted { IfOk result (λ _.
+        GoesCounting wanted.entry.now cleared.old cleared.new files.old files.new) }
+{
+    let mut are_some = false;
+    for file in listed {
+        let outcome = settle_file(files, file, watch)?;
+        are_some = are_some || matches!(file.kind, FileKind::HalfAside(..));
+        cleared.count(file.key.1, outcome)?;
     }
-    files.sort_unstable();
-    Ok(files)
+    Ok(are_some)
 }
 
-// Takes note of a share's file whose name begins with these letters.
-fn note(files: &mut Vec<ShareFile>, name: &[u8], letters: &[u8]) -> io::Result<()> {
-    if name.starts_with(letters) {
-        if let Some(file) = ShareFile::read(name) {
-            files.push(file)?;
-        }
+// Settles a file, where it is on its way.
+fn settle_file<R, W>(
+    files: &mut FolderFiles<'_, R>,
+    file: &ShareFile,
+    watch: &mut W,
+) -> Result<Outcome, StoreError>
+where
+    R: Files + RandomSource + AllocGlobal + Clone + Drop,
+    W: Watch,
+    ensures { (wanted : Option Wanted) → IsOf wanted file.now
+        → Counted wanted files.old files.new result }
+{
+    let FileKind::HalfAside(digest, own) = &file.kind else {
+        return Ok(Outcome::Kept);
+    };
+    let (key, digest) = (file.key, *digest);
+    match settle(files, &ClosedName { key, digest }, own, watch) {
+        Ok(Went::Aside) => Ok(Outcome::WasSetAside),
+        Err(error) if error.kind() == ErrorKind::OutOfMemory => Err(StoreError::OutOfMemory),
+        Ok(Went::Back) => Ok(Outcome::Kept),
+        Err(_) => Ok(Outcome::Kept),
     }
-    Ok(())
 }
 
 // Clears these files away.
 fn clear_files<R, W>(
-    rt: &R,
-    folder: &str,
-    files: &[ShareFile],
+    files: &mut FolderFiles<'_, R>,
+    listed: &[ShareFile],
     wanted: &Wanted<'_>,
+    cleared: &mut Cleared,
     watch: &mut W,
-) -> Result<Cleared, StoreError>
+) -> Result<(), StoreError>
 where
-    R: Files + AllocGlobal,
+    R: Files + RandomSource + AllocGlobal + Clone + Drop,
     W: Watch,
-    ensures memory { IsOkUnless result StoreError.OutOfMemory }
+    requires { All (λ f. f.key.0 ≡ wanted.now.index) listed.now }
+    ensures allowed { AreAllowed (Some wanted.entry.now) files.old
+        → AreAllowed (Some wanted.entry.now) files.new }
+    ensures counted { IfOk result (λ _.
+        GoesCounting wanted.entry.now cleared.old cleared.new files.old files.new) }
+    ensures each { IfOk result (λ _. AllByRecursion
+        (λ f. IsClearedOf wanted.entry.now cleared.new files.new f f.kind) listed.now) }
 {
-    let mut cleared = Cleared::new(rt.alloc());
-    for file in files {
-        let outcome = clear_file(rt, folder, file, wanted, watch)?;
+    for file in listed {
+        let outcome = clear_file(files, file, wanted, watch)?;
         cleared.count(file.key.1, outcome)?;
     }
-    Ok(cleared)
+    Ok(())
 }
 
 // Clears a file away.
 fn clear_file<R, W>(
-    rt: &R,
-    folder: &str,
+    files: &mut FolderFiles<'_, R>,
     file: &ShareFile,
     wanted: &Wanted<'_>,
     watch: &mut W,
 ) -> Result<Outcome, StoreError>
 where
-    R: Files + AllocGlobal,
+    R: Files + RandomSource + AllocGlobal + Clone + Drop,
     W: Watch,
+    ensures goes { IsOf (Some wanted.entry.now) file.now
+        → Counted (Some wanted.entry.now) files.old files.new result }
+    ensures told { IsOf (Some wanted.entry.now) file.now → IfOk result (λ outcome.
+        IsToldBy wanted.entry.now file.now files.new outcome file.now.kind) }
     ensures memory { IsOkUnless result StoreError.OutOfMemory }
 {
     match &file.kind {
         FileKind::Closed(digest) => {
-            let key = &file.key;
-            clear_closed(
-                rt,
-                &ClosedFile {
-                    folder,
-                    key,
-                    digest,
-                },
-                wanted,
-                watch,
-            )
+            let (key, digest) = (file.key, *digest);
+            match clear_closed(files, &ClosedName { key, digest }, wanted, watch) {
+                Ok(outcome) => Ok(outcome),
+                Err(error) => left(error),
+            }
         }
-        FileKind::Open(_) => {
-            let path = file.path(rt.alloc(), folder)?;
-            Ok(clear_open(rt, path.as_str(), wanted.now))
-        }
-        FileKind::Aside(..) => Ok(Outcome::Kept),
+        FileKind::Open(_) => Ok(clear_open(files, file)),
+        FileKind::HalfAside(..) | FileKind::Aside(..) => Ok(Outcome::Kept),
     }
 }
 
 // The file of an open share is removed where nobody writes to it any more. It is in nobody's way,
 // so what becomes of others is not told.
-fn clear_open<R: Files>(rt: &R, path: &str, now: SystemTime) -> Outcome {
-    match standing_at(rt, path) {
-        Ok(Standing::File(found)) if is_left_over(&found, now) => {
-            match fs::remove_file(rt, path) {
-                Ok(()) => Outcome::WasRemoved,
-                Err(_) => Outcome::Kept,
-            }
-        }
+fn clear_open<R>(files: &mut FolderFiles<'_, R>, file: &ShareFile) -> Outcome
+where
+    R: Files + RandomSource + AllocGlobal + Clone + Drop,
+    ensures { (wanted : Option Wanted) → IsOf wanted file.now → is_open file.now.kind ≡ true
+        → Goes wanted (outcome_aside result) (outcome_removed result) files.old files.new }
+{
+    match files.look(file) {
+        Ok(Standing::Regular(_, true)) => match files.remove(file) {
+            Ok(()) => Outcome::WasRemoved,
+            Err(_) => Outcome::Kept,
+        },
         _ => Outcome::Kept,
     }
 }
 
 // Sets the file of a closed share aside, where that is its fate.
 fn clear_closed<R, W>(
-    rt: &R,
-    file: &ClosedFile<'_>,
+    files: &mut FolderFiles<'_, R>,
+    name: &ClosedName,
     wanted: &Wanted<'_>,
     watch: &mut W,
-) -> Result<Outcome, StoreError>
+) -> io::Result<Outcome>
 where
-    R: Files + AllocGlobal,
+    R: Files + RandomSource + AllocGlobal + Clone + Drop,
     W: Watch,
-    ensures memory { IsOkUnless result StoreError.OutOfMemory }
+    ensures goes { IsOf (Some wanted.entry.now) (closed_file name.now)
+        → Counted (Some wanted.entry.now) files.old files.new result }
+    ensures told { IsOf (Some wanted.entry.now) (closed_file name.now)
+        → IfOk result (λ outcome. IsToldBy wanted.entry.now (closed_file name.now) files.new
+        outcome (Closed name.now.digest)) }
+    ensures gone { IsOf (Some wanted.entry.now) (closed_file name.now)
+        → IfErr result (λ e. error_kind e ≡ NotFound → IsAway (closed_file name.now) files.new) }
 {
-    let path = closed_path(rt.alloc(), file.folder, file.key, file.digest)?;
-    let seen = match standing_at(rt, path.as_str()) {
-        Ok(Standing::File(seen)) => seen,
-        Ok(Standing::Odd) => return Ok(Outcome::WasOdd),
-        // what is gone is in nobody's way
-        Ok(Standing::Nothing) => return Ok(Outcome::Kept),
-        Err(error) => return left(error),
-    };
-    match fate_at(rt, file, &seen, wanted, watch)? {
-        Ok(Fate::SetAside) => match set_aside(rt, rt.alloc(), file, &seen, watch)? {
-            Ok(()) => Ok(Outcome::WasSetAside),
-            Err(error) => left(error),
+    match closed_fate(files, name, Some(wanted), watch)? {
+        Fate::SetAside => match set_aside(files, name, Some(wanted))? {
+            Went::Aside => Ok(Outcome::WasSetAside),
+            Went::Back => Ok(Outcome::Kept),
         },
-        Ok(_) => Ok(Outcome::Kept),
-        Err(error) => left(error),
+        Fate::Odd => Ok(Outcome::WasOdd),
+        Fate::Keep | Fate::Read => Ok(Outcome::Kept),
     }
 }
 
-// What is to become of the file of a closed share that was looked at, which is read where its bytes
-// tell.
-fn fate_at<R, W>(
-    rt: &R,
-    file: &ClosedFile<'_>,
-    seen: &Metadata,
-    wanted: &Wanted<'_>,
-    watch: &mut W,
-) -> Result<io::Result<Fate>, StoreError>
-where
-    R: Files + AllocGlobal,
-    W: Watch,
-    ensures memory { IsOkUnless result StoreError.OutOfMemory }
-{
-    let path = closed_path(rt.alloc(), file.folder, file.key, file.digest)?;
-    let claim = Claim {
-        share: file.key.1,
-        digest: *file.digest,
-        length: Some(seen.len()),
-    };
-    match fate_of(&claim, wanted) {
-        Fate::Read => {
-            let read = check_file(rt, rt.alloc(), path.as_str(), file.digest, watch)?;
-            Ok(read.map(fate_read))
-        }
-        fate => Ok(Ok(fate)),
-    }
-}
-
-// A file that could not be read or set aside, where it is not gone meanwhile.
+// A file that could not be looked at or set aside, where it is not gone.
 fn left(error: io::Error) -> Result<Outcome, StoreError>
+    ensures gone { IfOk result (λ outcome. (outcome ≡ WasLeft error)
+        ⊎ ((outcome ≡ Kept) × (error_kind error ≡ NotFound))) }
     ensures left { error_kind error ≢ NotFound → error_kind error ≢ OutOfMemory
         → result ≡ Ok (WasLeft error) }
     ensures memory { IsOkUnless result StoreError.OutOfMemory }

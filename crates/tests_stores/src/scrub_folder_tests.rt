@@ -3,8 +3,8 @@
 use crate::scrub_bytes_tests::{Count, EMPTY, THREE};
 use crate::synced_tests::{NotedFiles, Step, Steps};
 use share_scrub::{
-    Action, Cleared, FileKind, Finding, Handling, OPEN_SECONDS, Scrub, ShareFile, State, Wanted,
-    clear_way,
+    Action, Cleared, FileKind, Finding, FolderFiles, Handling, OPEN_SECONDS, Scrub, ShareFile,
+    State, Wanted, clear_way,
 };
 use share_store::error::StoreError;
 use std::alloc::AllocError;
@@ -42,9 +42,9 @@ fn aside(index: StorageIndex, number: u8) -> ShareFile {
     file(index, number, FileKind::Aside(THREE, 1))
 }
 
-// One that is half set aside, as a process leaves it that is killed there.
+// One that is on its way to be set aside, as a process leaves it that is killed there.
 fn half(index: StorageIndex, number: u8) -> ShareFile {
-    file(index, number, FileKind::Aside(THREE, 0))
+    file(index, number, FileKind::HalfAside(THREE, [9; 16]))
 }
 
 // The only fault of a path is that memory is out, and so it is of the next finding.
@@ -297,7 +297,7 @@ fn aside_files_go_beside_whole_ones(rt: HostRuntime) -> Result<(), Fail> {
     Ok(())
 }
 
-// Half set aside are a whole share, a damaged one, what a rename was to go over, and a folder.
+// On their way are a whole share, a damaged one, an empty one, and a folder.
 fn fill_half(rt: &HostRuntime) -> io::Result<()> {
     begin(rt)?;
     make(rt, &half(INDEX, 0), b"\x01\x02\x03")?;
@@ -315,25 +315,39 @@ fn half_rows(done: Did) -> [(ShareFile, Found); 3] {
     ]
 }
 
-// What is half set aside is settled where that is asked for: a whole share has its name back. A
-// file is set aside beside what others left so.
+// What is on its way is settled where that is asked for: a whole share has its name back. A file is
+// set aside beside what others left so.
 #[test]
-fn half_set_aside_files_are_settled(rt: HostRuntime) -> Result<(), Fail> {
+fn files_on_their_way_are_settled(rt: HostRuntime) -> Result<(), Fail> {
     fill_half(&rt)?;
     assert!(rt; tells(&rt, REMOVE_DAMAGED, &half_rows(Did::Nothing), 0)?);
     assert!(rt; tells(&rt, SET_ASIDE, &half_rows(Did::What), 5)?);
     let whole = (closed(INDEX, 0, THREE), Found::Whole);
     let damaged = (aside(INDEX, 1), Found::Aside(2, Did::Nothing));
-    assert!(rt; tells(&rt, SET_ASIDE, &[whole, damaged], 3)?);
+    let empty = (aside(INDEX, 2), Found::Aside(0, Did::Nothing));
+    assert!(rt; tells(&rt, SET_ASIDE, &[whole, damaged, empty], 3)?);
     let closed = closed(INDEX, 6, THREE);
     make(&rt, &closed, b"\x01")?;
     make(&rt, &half(INDEX, 6), b"\x02\x02")?;
     let done = (closed, Found::Damaged(Did::What));
-    assert!(rt; tells(&rt, SET_ASIDE, &[whole, damaged, done], 6)?);
-    let first = (aside(INDEX, 6), Found::Aside(2, Did::Nothing));
+    let settled = (half(INDEX, 6), Found::HalfAside(2, Did::What));
+    assert!(rt; tells(&rt, SET_ASIDE, &[whole, damaged, empty, done, settled], 6)?);
+    let first = (aside(INDEX, 6), Found::Aside(1, Did::Nothing));
     let second = file(INDEX, 6, FileKind::Aside(THREE, 2));
-    let second = (second, Found::Aside(1, Did::Nothing));
-    assert!(rt; tells(&rt, SET_ASIDE, &[whole, damaged, first, second], 3)?);
+    let second = (second, Found::Aside(2, Did::Nothing));
+    assert!(rt; tells(&rt, SET_ASIDE, &[whole, damaged, empty, first, second], 3)?);
+    remove(&rt)?;
+    Ok(())
+}
+
+// What an earlier version left on its way counts as set aside.
+#[test]
+fn earlier_names_are_set_aside(rt: HostRuntime) -> Result<(), Fail> {
+    begin(&rt)?;
+    let earlier = file(INDEX, 0, FileKind::Aside(THREE, 0));
+    make(&rt, &earlier, b"\x01\x02\x03")?;
+    let row = (earlier, Found::Aside(3, Did::Nothing));
+    assert!(rt; tells(&rt, SET_ASIDE, &[row], 0)?);
     remove(&rt)?;
     Ok(())
 }
@@ -370,9 +384,11 @@ fn clear<'a>(
         digests,
         now: later(SystemTime::now(rt)?, seconds),
     };
-    let files = NotedFiles { rt: *rt, steps };
+    let noted = NotedFiles { rt: *rt, steps };
+    let folder = path(rt, "")?;
+    let mut files = FolderFiles::new(&noted, folder.as_str(), wanted.now);
     let mut count = Count { bytes: 0 };
-    Ok(clear_way(&files, path(rt, "")?.as_str(), &wanted, &mut count)?)
+    Ok(clear_way(&mut files, &wanted, &mut count)?)
 }
 
 // Whether so many files were set aside, so many open ones were removed, and none was left.
@@ -415,30 +431,29 @@ fn the_way_is_cleared(rt: HostRuntime) -> Result<(), Fail> {
     Ok(())
 }
 
-// What is half set aside is settled before the rest, with links and without: a whole share is kept,
-// also one that a whole share or a damaged one of its name stands beside.
+// What is on its way is settled before the rest, without a link: a whole share is kept, also one
+// that a whole share or a damaged one of its name stands beside.
 #[test]
-fn half_set_aside_files_are_in_nobodys_way(rt: HostRuntime) -> Result<(), Fail> {
+fn files_on_their_way_are_in_nobodys_way(rt: HostRuntime) -> Result<(), Fail> {
     let steps = Steps::new(rt.alloc());
-    for failing in [None, Some(Step::Link)] {
-        steps.failing.set(failing);
-        fill_half(&rt)?;
-        make(&rt, &half(OTHER_INDEX, 0), b"\x01\x02\x03")?;
-        for (number, bytes) in [(4, b"\x01\x02\x03"), (5, b"\x01\x02\x02")] {
-            make(&rt, &closed(INDEX, number, THREE), bytes)?;
-            make(&rt, &half(INDEX, number), b"\x01\x02\x03")?;
-        }
-        let cleared = clear(&rt, &steps, Some(&[THREE; 6]), 0)?;
-        assert!(rt; cleared.set_aside == 0 && cleared.left.is_empty() && cleared.odd.is_empty());
-        let rows = [
-            (closed(INDEX, 0, THREE), Found::Whole),
-            (aside(INDEX, 1), Found::Aside(2, Did::Nothing)),
-            (closed(INDEX, 4, THREE), Found::Whole),
-            (closed(INDEX, 5, THREE), Found::Whole),
-            (half(OTHER_INDEX, 0), Found::HalfAside(3, Did::Nothing)),
-        ];
-        assert!(rt; tells(&rt, NOTHING, &rows, 9)?);
+    steps.failing.set(Some(Step::Link));
+    fill_half(&rt)?;
+    make(&rt, &half(OTHER_INDEX, 0), b"\x01\x02\x03")?;
+    for (number, bytes) in [(4, b"\x01\x02\x03"), (5, b"\x01\x02\x02")] {
+        make(&rt, &closed(INDEX, number, THREE), bytes)?;
+        make(&rt, &half(INDEX, number), b"\x01\x02\x03")?;
     }
+    let cleared = clear(&rt, &steps, Some(&[THREE; 6]), 0)?;
+    assert!(rt; cleared.set_aside == 2 && cleared.left.is_empty() && cleared.odd.is_empty());
+    let rows = [
+        (closed(INDEX, 0, THREE), Found::Whole),
+        (aside(INDEX, 1), Found::Aside(2, Did::Nothing)),
+        (aside(INDEX, 2), Found::Aside(0, Did::Nothing)),
+        (closed(INDEX, 4, THREE), Found::Whole),
+        (closed(INDEX, 5, THREE), Found::Whole),
+        (half(OTHER_INDEX, 0), Found::HalfAside(3, Did::Nothing)),
+    ];
+    assert!(rt; tells(&rt, NOTHING, &rows, 9)?);
     remove(&rt)?;
     Ok(())
 }
@@ -463,8 +478,18 @@ fn what_is_left_is_told(rt: HostRuntime) -> Result<(), Fail> {
     }
     steps.failing.set(None);
     assert!(rt; is_cleared(&clear(&rt, &steps, None, 0)?, 2, 0));
-    let half = file_path(&rt, &half(INDEX, 1), "")?;
-    assert!(rt; !fs::exists(&rt, half.as_str())?);
+    let damaged = Found::Damaged(Did::Nothing);
+    let rows = [
+        (closed(INDEX, 0, THREE), Found::Whole),
+        (aside(INDEX, 1), Found::Aside(1, Did::Nothing)),
+        (aside(INDEX, 2), Found::Aside(0, Did::Nothing)),
+        (closed(INDEX, 3, EMPTY), damaged),
+        (closed(INDEX, 4, THREE), damaged),
+        (closed(INDEX, 5, THREE), Found::Whole),
+        (closed(INDEX, 6, THREE), Found::Odd),
+        (closed(OTHER_INDEX, 1, THREE), damaged),
+    ];
+    assert!(rt; tells(&rt, NOTHING, &rows, 13)?);
     remove(&rt)?;
     Ok(())
 }

@@ -18,4 +18,4 @@ pub returns-clause-only : goal.returns-clause-only
 returns-clause-only c = λ key digest number named other few len is.
     let front = c.split_at.ensures.front ∙ front_part c.args.name.now (closed_name key digest) number c.args.digits other len is in
     let closed : c.in_ok-front_of.field-0.now ≡ closed_name key digest = rw c.in_ok-front_of.was at (c.front_of.ensures.only (closed_name key digest) front) in
-    c.aside_file.ensures.only key digest named closed
+    c.numbered_file.ensures.only key digest named closed
