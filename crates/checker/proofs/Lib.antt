@@ -11,5 +11,4 @@ mod Own
 mod ApartLemmas
 mod FoundLemmas
 mod GoodLemmas
-mod KeepingCheckLemmas
 pub mod Following

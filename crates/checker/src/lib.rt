@@ -18,7 +18,6 @@
 mod check;
 mod ending;
 mod good;
-mod keeping_check;
 mod offers;
 mod pieces;
 mod report;
@@ -27,4 +26,3 @@ pub mod status;
 mod steps;
 
 pub use check::Check;
-pub use keeping_check::KeepingCheck;

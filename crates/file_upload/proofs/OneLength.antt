@@ -2,12 +2,13 @@
 use Rattle.std.proofs.Common.{◌≡◌, ℕ, ◌<◌, ◌≤◌, Bool, true, false, true≢false, inl, inr, List, [], length, ◌∙◌, ap, sym, subst, arith}
 use Rattle.std.proofs.lemmas.Bool.{cases_lt}
 use Rattle.std.proofs.lemmas.List.{get_or_default}
-use Rattle.cap_text.specs.Cap.{ReadCapValue}
+use Rattle.cap_text.specs.Cap.{ReadCapValue, VerifyCapValue}
 use Rattle.cap_text.specs.declared.cap.Cap.{Cap}
 use Rattle.cap_text.specs.declared.cap.Cap.TheVariants.{Chk, Verify, Lit}
 use Rattle.ueb.specs.Limits.{min_file_size}
 use Rattle.file_encoding.specs.Encoding.{encoding_of}
 use Rattle.file_encoding.specs.Params.{AreChosen, IsEncodable, UploadParameters, parameters_of}
+use Rattle.file_encoding.specs.RemadeLaws.{ArePassing}
 use Rattle.file_encoding.proofs.Encodable.{has_shape, length-shares}
 use Rattle.file_encoding.proofs.OwnShares.{shares_have_one_length}
 use Rattle.file_encoding.proofs.ShareSizes.{shares_are_not_long}
@@ -45,3 +46,12 @@ chk_are_fit file secret p chosen cap read is literal encodable shares same =
       | inl small ↦ absurd (true≢false (sym (ap is_literal (literal small)) ∙ ap is_literal is))
       | inr large ↦ are_fit file secret p chosen large (encodable large) shares (same large)
     ]
+
+-- and those that are made anew
+pub passing_are_fit : (cap : VerifyCapValue) (shares : List (List ℕ)) → 0 < cap.total → cap.total ≤ 256 → ArePassing cap shares → AreFit shares
+passing_are_fit cap shares some few p = record {
+  few = omega (arith, p.count, few);
+  one_length = λ i d inside. ap length (get_or_default shares i d [] inside) ∙ p.one_length i 0 (omega (arith, p.count, inside)) some;
+  some = p.some 0 some;
+  short = p.short 0 some;
+}

@@ -1,4 +1,5 @@
 -- what public contracts rest on
 pub mod Shares
-pub mod SharesError
 pub mod Prepared
+pub mod Repair
+pub mod RepairError

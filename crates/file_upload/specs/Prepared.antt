@@ -3,6 +3,7 @@ use Rattle.std.specs.Prelude.{ℕ, List}
 use Rattle.cap_text.specs.Cap.{ReadCapValue, verify_cap_of}
 use Rattle.file_encoding.specs.Encoding.{encoding_of}
 use Rattle.file_encoding.specs.Params.{UploadParameters, parameters_of}
+use Rattle.upload_core.specs.Ready.{Ready}
 use Rattle.upload_core.specs.State.{Goal}
 use Rattle.file_upload.specs.Shares.{shares_goal}
 
@@ -21,3 +22,7 @@ prepared_of file secret p =
 -- what is to be placed: the shares by their digests, for the verify cap
 abbrev pub goal_of : Prepared → Goal
 goal_of p = shares_goal (verify_cap_of p.cap) p.shares
+
+-- its upload
+abbrev pub upload_of : Prepared → Ready (List (List ℕ))
+upload_of p = record { pieces = p.shares; goal = goal_of p; happy = p.happy }

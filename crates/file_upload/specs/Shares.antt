@@ -1,15 +1,10 @@
--- Shares that are there already, made ready for their upload.
+-- Shares that are there, made ready for their upload.
 use Rattle.std.specs.Prelude.{ℕ, ◌≤◌, ◌^◌, List, length, map}
 use Rattle.tagged_hash.specs.TaggedHash.{share_digest}
 use Rattle.cap_text.specs.Cap.{VerifyCapValue}
 use Rattle.upload_core.specs.Pieces.{HaveOneLength, length_of}
+use Rattle.upload_core.specs.Ready.{Ready}
 use Rattle.upload_core.specs.State.{Goal}
-
--- a cap, how many servers are to hold a share of their own, and the shares by number
-pub record ReadyShares : Type 0 where
-  pub cap : VerifyCapValue
-  pub happy : ℕ
-  pub shares : List (List ℕ)
 
 -- what is to be placed: the shares by their digests, for a verify cap
 abbrev pub shares_goal : VerifyCapValue → List (List ℕ) → Goal
@@ -18,6 +13,11 @@ shares_goal cap shares = record {
   digests = map share_digest shares;
   share_length = length_of shares;
 }
+
+-- the upload of a cap's shares, of which so many servers are to hold one of their own
+abbrev pub ready_shares : VerifyCapValue → ℕ → List (List ℕ) → Ready (List (List ℕ))
+ready_shares cap happy shares =
+    record { pieces = shares; goal = shares_goal cap shares; happy = happy }
 
 -- so many servers may be wanted for a cap's shares
 pub record MayWant (cap : VerifyCapValue) (happy : ℕ) : Type 0 where

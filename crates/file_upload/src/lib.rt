@@ -1,6 +1,7 @@
-//! The upload of whole shares from memory: of those that a file is encoded to, or of shares that
-//! are there already.
+//! The upload of whole shares from memory: of those that a file is encoded to, or of those that a
+//! repair makes anew of good ones.
 #![tactic(auto)]
 
 pub mod prepared;
-pub mod shares;
+pub mod repair;
+mod shares;

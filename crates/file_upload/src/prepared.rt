@@ -1,25 +1,19 @@
 //! A file made ready for its upload. Once it is, the file's own bytes are not needed any more.
 
-ghost use Rattle.std.specs.Prelude.{◌≡◌, ◌≤◌, ◌<◌, ◌⊎◌, length, map, nat_eq};
-ghost use Rattle.std.specs.Prelude.{IfOk, IfErr, IsErrOf};
-ghost use Rattle.std.specs.List.{IsDistinct};
+ghost use Rattle.std.specs.Prelude.{◌≡◌, ◌≤◌, ◌<◌, ◌⊎◌, length, IfOk, IfErr, IsErrOf};
 ghost use Rattle.tagged_hash.specs.ConvergentKey.{IsSecret};
 ghost use Rattle.ueb.specs.Limits.{max_file_size, min_file_size};
 ghost use Rattle.file_encoding.specs.Params.{HasTooManySegments, IsEncodable};
-ghost use Rattle.upload_core.specs.Moves.{Begins};
-ghost use Rattle.upload_core.specs.Pieces.{length_of};
-ghost use Rattle.upload_core.specs.declared.status.ServerInfo.{ServerInfo};
-ghost use Rattle.file_upload.specs.Prepared.{Prepared, goal_of, prepared_of};
+ghost use Rattle.file_upload.specs.Prepared.{Prepared, prepared_of, upload_of};
 ghost use Rattle.file_upload.specs.declared.prepared.FileUpload.TheVariants.{Literal, Shares};
 
-use crate::shares::PreparedShares;
+use crate::shares::ready_shares;
 use cap_text::{Cap, LitCap, ReadCap};
 use file_encoding::{EncodeError, Encoded, Params, encode_all};
-use std::alloc::{AllocError, Global};
+use std::alloc::Global;
 use std::marker::Model;
-use upload_core::Upload;
+use upload_core::ReadyUpload;
 use upload_core::pieces::WholeShares;
-use upload_core::status::{ServerInfo, UploadGoal};
 
 /// A file that was made ready.
 #[derive(Drop)]
@@ -29,24 +23,25 @@ pub enum FileUpload {
     Shares(PreparedUpload),
 }
 
-/// The shares of a file that has not yet been uploaded, in memory.
+/// The upload of a file that was encoded, with its cap.
 #[derive(Drop)]
 pub struct PreparedUpload {
     cap: ReadCap,
-    shares: PreparedShares,
+    upload: ReadyUpload<WholeShares>,
 }
 
 impl Model for PreparedUpload {
     ghost use Rattle.std.specs.Prelude.{◌≡◌};
     ghost use Rattle.cap_text.specs.Cap.{verify_cap_of};
     ghost use Rattle.file_upload.specs.Prepared.{Prepared};
+    ghost use Rattle.file_upload.specs.Shares.{shares_goal};
 
     ghost Value = { Prepared };
 
     ghost view = { λ p.
-        record { cap = p.cap; happy = p.shares.happy; shares = p.shares.shares } };
+        record { cap = p.cap; happy = p.upload.happy; shares = p.upload.pieces } };
 
-    ghost invariant = { λ p. p.shares.cap ≡ verify_cap_of p.cap };
+    ghost invariant = { λ p. p.upload.goal ≡ shares_goal (verify_cap_of p.cap) p.upload.pieces };
 }
 
 /// Encodes a file and gathers its shares' digests. The secret has at most 64 bytes.
@@ -79,8 +74,8 @@ pub fn prepare(
     match cap {
         Cap::Chk(cap) => {
             let happy = params.happy();
-            let shares = PreparedShares::gather(alloc, cap.to_verify(), happy, shares)?;
-            Ok(FileUpload::Shares(PreparedUpload { cap, shares }))
+            let upload = ready_shares(alloc, cap.to_verify(), happy, shares)?;
+            Ok(FileUpload::Shares(PreparedUpload { cap, upload }))
         }
         Cap::Lit(cap) => Ok(FileUpload::Literal(cap)),
         Cap::Verify(_) => unreachable!(),
@@ -95,42 +90,10 @@ impl PreparedUpload {
         &self.cap
     }
 
-    /// How many servers are to hold a share of their own.
-    pub fn happy(&self) -> u16
-        ensures { result ≡ self.now.happy }
+    /// The upload of its shares, ready to begin.
+    pub fn into_upload(self) -> ReadyUpload<WholeShares>
+        ensures { result ≡ upload_of self }
     {
-        self.shares.happy()
-    }
-
-    /// The bytes of each share.
-    pub fn share_length(&self) -> u64
-        ensures { result ≡ length_of self.now.shares }
-    {
-        self.shares.share_length()
-    }
-
-    /// The shares, and what is to be placed of them.
-    pub fn into_parts(self) -> (WholeShares, UploadGoal)
-        ensures shares { result.0 ≡ self.shares }
-        ensures goal { result.1 ≡ goal_of self }
-    {
-        self.shares.into_parts()
-    }
-
-    /// Begins the upload: each of the servers is asked, in the order of the file, which shares it
-    /// holds. The servers are of distinct nodes.
-    pub fn start(
-        self,
-        alloc: Global,
-        servers: &[ServerInfo],
-        session: u64,
-        now: u64,
-    ) -> Result<Upload<WholeShares>, AllocError>
-        requires distinct { IsDistinct nat_eq (map (λ (s : ServerInfo). s.node) servers.now) }
-        ensures begins { IfOk result (λ upload.
-            Begins (goal_of self) self.happy servers.now session now upload.course) }
-        ensures pieces { IfOk result (λ upload. upload.pieces ≡ self.shares) }
-    {
-        self.shares.start(alloc, servers, session, now)
+        self.upload
     }
 }

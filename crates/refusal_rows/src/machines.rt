@@ -2,7 +2,7 @@
 
 use crate::rows::Rows;
 use download_core::status::DownloadError;
-use file_upload::shares::SharesError;
+use file_upload::repair::RepairError;
 use local_grid::error::LoopError;
 use server_core::error::ServerFault;
 use share_store::error::StoreError;
@@ -40,8 +40,13 @@ fn tell_uploads(rows: &mut Rows) -> Result<(), AllocError> {
     ] {
         rows.name("upload_core::PieceFault", fault.number(), &fault)?;
     }
-    for error in [SharesError::OutOfMemory, SharesError::BadParameters] {
-        rows.name("file_upload::SharesError", error.number(), &error)?;
+    for error in [
+        RepairError::OutOfMemory,
+        RepairError::BadParameters,
+        RepairError::NotEnoughShares,
+        RepairError::Inconsistent,
+    ] {
+        rows.name("file_upload::RepairError", error.number(), &error)?;
     }
     Ok(())
 }

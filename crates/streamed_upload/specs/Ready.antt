@@ -1,14 +1,10 @@
--- A file that was read twice and has not been uploaded yet.
+-- A source that was read twice, made ready for its upload.
 use Rattle.std.specs.Prelude.{ℕ}
 use Rattle.cap_text.specs.Cap.{verify_cap_of}
 use Rattle.file_streaming.specs.Prepared.{PreparedFile, share_length}
+use Rattle.upload_core.specs.Ready.{Ready}
 use Rattle.upload_core.specs.State.{Goal}
 use Rattle.streamed_upload.specs.Streamed.{Streaming}
-
--- how many servers are to hold a share of their own, and where the bytes of the shares come from
-pub record ReadyStream (S : Type 0) : Type 0 where
-  pub happy : ℕ
-  pub pieces : Streaming S
 
 -- what is to be placed: the shares by their digests, for the verify cap
 abbrev pub goal_of : PreparedFile → Goal
@@ -17,3 +13,7 @@ goal_of kept = record {
   digests = kept.digests;
   share_length = share_length kept;
 }
+
+-- the upload of what is kept, of which so many servers are to hold a share of their own
+abbrev pub ready_stream : {S : Type 0} → Streaming S → ℕ → Ready (Streaming S)
+ready_stream s happy = record { pieces = s; goal = goal_of s.kept; happy = happy }

@@ -4,6 +4,7 @@ ghost use Rattle.std.specs.Prelude.{◌≡◌, ◌+◌, ◌<◌, ◌≤◌, leng
 ghost use Rattle.file_streaming.specs.Prepared.{share_length};
 ghost use Rattle.streamed_upload.specs.Streamed.{GaveBytes, GaveNone, fault_of};
 
+use cap_text::ReadCap;
 use file_streaming::{PieceError, Prepared};
 use sources::Source;
 use std::marker::Model;
@@ -22,6 +23,15 @@ impl<S: Source + Drop> Model for Streamed<S> {
     ghost Value = { Streaming S };
 
     ghost view = { λ s. record { source = s.source; kept = s.kept } };
+}
+
+impl<S: Source + Drop> Streamed<S> {
+    /// The read cap of the file.
+    pub fn cap(&self) -> &ReadCap
+        ensures { result.now ≡ self.now.kept.cap }
+    {
+        self.kept.cap()
+    }
 }
 
 impl<S: Source + Drop> Pieces for Streamed<S> {

@@ -2,7 +2,7 @@
 //! blame or find, and what was sent.
 #![tactic(auto)]
 
-use checker::KeepingCheck;
+use checker::Check;
 use checker::status::ShareVerdict;
 use download_core::Download;
 use download_core::status::{Blame, Piece};
@@ -108,12 +108,7 @@ pub fn finds(
     }
 }
 
-fn tells(
-    alloc: Global,
-    check: &KeepingCheck,
-    good: usize,
-    wanted: &[(NodeId, u8, Verdict)],
-) -> bool {
+fn tells(alloc: Global, check: &Check, good: usize, wanted: &[(NodeId, u8, Verdict)]) -> bool {
     match check.report(alloc) {
         Ok(Some(report)) => are_found(report.verdicts.as_slice(), good, wanted),
         _ => false,

@@ -84,7 +84,7 @@ fn upload_ends<S: Source + Drop>(
         Err(error) => return Some(Ending::Refused(error)),
     };
     let id = ShareId {
-        index: *ready.cap().to_verify().storage_index(),
+        index: *ready.pieces().cap().to_verify().storage_index(),
         share: 0,
     };
     let mut upload = ready.start(alloc, &SERVER, 5, 0).ok()?;

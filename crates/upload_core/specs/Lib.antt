@@ -8,6 +8,7 @@ pub mod Rounds
 pub mod Right
 pub mod Moves
 pub mod Sending
+pub mod Ready
 pub mod Calls
 -- words of private clauses
 pub mod Trails

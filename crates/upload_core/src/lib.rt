@@ -2,12 +2,14 @@
 //!
 //! An upload asks every server what it holds, places the shares, carries each transfer to its end,
 //! and says Happy only by what servers acknowledged by digest. It does not care where the bytes of
-//! its shares come from: `trait Pieces` gives them as they are sent.
+//! its shares come from: `trait Pieces` gives them as they are sent. Each upload begins as a
+//! `ReadyUpload`.
 #![tactic(auto)]
 
 mod acknowledged;
 mod ending;
 pub mod pieces;
+mod ready;
 mod rounds;
 mod state;
 pub mod status;
@@ -15,4 +17,5 @@ mod steps;
 mod transfers;
 mod upload;
 
+pub use ready::ReadyUpload;
 pub use upload::Upload;

@@ -50,7 +50,7 @@ impl<P: Pieces + Drop> Upload<P> {
     /// Asks each of the servers, in the order of the file, which shares it holds. With no server
     /// the upload ends at once. The servers are of distinct nodes, and the pieces are those of the
     /// goal's shares.
-    pub fn start(
+    pub(crate) fn start(
         alloc: Global,
         pieces: P,
         goal: UploadGoal,

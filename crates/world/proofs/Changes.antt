@@ -40,7 +40,7 @@ use Rattle.world.specs.Step.{new_operation}
 use Rattle.world.specs.Consistent.{AreConsistent, AreOneRequest, CameFrom, IsFine, IsJustified, IsRecorded, IsRequestOf, without_bytes}
 use Rattle.world.specs.Consistent.{asked, gone}
 use Rattle.world.specs.History.{AnswersComeAfter, HasHistory, IsAnswerBy}
-use Rattle.world.proofs.Acked.{closed_by}
+use Rattle.server_binding.proofs.Acknowledged.{closed_by}
 use Rattle.world.proofs.Alike.{requests_are_one}
 use Rattle.world.proofs.History.{history_more, history_on}
 

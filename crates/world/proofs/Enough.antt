@@ -53,7 +53,7 @@ use Rattle.world.specs.Headline.{goal}
 use Rattle.world.specs.History.{HasHistory}
 use Rattle.world.specs.Started.{HasNoClashInTests, IsCheckOf, IsDownloadOf, IsHashedOrTested, IsStarted, hashed}
 use Rattle.world.specs.State.{WorldState}
-use Rattle.world.proofs.Acked as acked
+use Rattle.server_binding.proofs.Acknowledged as acked
 use Rattle.world.proofs.Alike.{closed_answers, closed_asks, request_by, told_alike}
 use Rattle.world.proofs.Binding as binding
 use Rattle.world.proofs.Hashed.{encoding_among, share_among}

@@ -1,4 +1,3 @@
-pub mod Acked
 pub mod Happy
 pub mod Told
 pub mod Hashed

@@ -22,7 +22,7 @@ ghost use Rattle.world.specs.Parts.{ServerBecomes, ServesBy};
 ghost use Rattle.world.specs.Step.{TicksOrStays, failing, forgotten_by, is_live_at, is_running};
 ghost use Rattle.world.specs.Step.{with_life};
 
-use checker::KeepingCheck;
+use checker::Check;
 use server_core::error::ServerFault;
 use server_core::server::Server;
 use share_store::memory::MemoryStore;
@@ -122,7 +122,7 @@ pub(crate) fn is_running(operation: &Operation) -> bool
 }
 
 /// The check that an operation is, if it is done.
-pub(crate) fn done_check(operation: &Operation) -> Option<&KeepingCheck>
+pub(crate) fn done_check(operation: &Operation) -> Option<&Check>
     ensures some { IfSome result (λ check. (operation.now.task ≡ Checking check.now)
         × (status_of operation.now ≡ Done)) }
     ensures none { IfNone result ((check : CheckState) → operation.now.task ≡ Checking check

@@ -9,14 +9,14 @@ ghost use Rattle.upload_core.specs.declared.status.ServerInfo.{ServerInfo};
 ghost use Rattle.world_operations.specs.Follow.{IsNewTask};
 ghost use Rattle.world_operations.specs.Tasks.{IsRightTask};
 ghost use Rattle.world.specs.Admitted.{MayRepair};
-ghost use Rattle.world.specs.Consistent.{Preserves};
+ghost use Rattle.world.specs.Consistent.{IsConsistent, Preserves};
 ghost use Rattle.world.specs.State.{nodes_of, servers_of, state_of};
 ghost use Rattle.world.specs.Step.{IsDoneCheck, RepairBegins, RepairStarts};
 
 use crate::nodes::{nodes_up_to, servers_at};
 use crate::parts::done_check;
 use crate::scene::Scene;
-use checker::KeepingCheck;
+use checker::Check;
 use std::alloc::AllocError;
 use upload_core::status::ServerInfo;
 use wire::message::NodeId;
@@ -25,7 +25,7 @@ use world_operations::task::{StartError, Task};
 
 impl Scene {
     // The check of this number, if it is one of this node that is done.
-    fn done_check_at(&self, node: NodeId, number: usize) -> Option<&KeepingCheck>
+    fn done_check_at(&self, node: NodeId, number: usize) -> Option<&Check>
         ensures some { IfSome result
             (λ check. IsDoneCheck (state_of self.now) node number check.now) }
         ensures none { IfNone result ((check : CheckState)
@@ -49,7 +49,8 @@ impl Scene {
         number: usize,
         happy: u16,
     ) -> Result<(Job, Task), StartError>
-        requires { length self.now.servers.items + length self.now.heard.items ≤ 256 }
+        requires few { length self.now.servers.items + length self.now.heard.items ≤ 256 }
+        requires consistent { IsConsistent (state_of self.now) }
         ensures begins { IfOk result (λ begun.
             RepairBegins (state_of self.now) node number happy begun.0 begun.1) }
         ensures may { IfOk result (λ _. MayRepair (state_of self.now) node number happy) }
@@ -74,9 +75,10 @@ impl Scene {
         node: NodeId,
         number: usize,
         happy: u16,
-        check: &KeepingCheck,
+        check: &Check,
     ) -> Result<(Job, Task), AllocError>
         requires few { length self.now.servers.items + length self.now.heard.items ≤ 256 }
+        requires consistent { IsConsistent (state_of self.now) }
         requires done { IsDoneCheck (state_of self.now) node number check.now }
         requires may { MayWant check.now.cap happy }
         ensures begins { IfOk result (λ begun.
@@ -94,7 +96,7 @@ impl Scene {
             self.alloc,
             check.cap(),
             happy,
-            &good,
+            good,
             &servers,
             session,
             self.clock,
@@ -125,6 +127,7 @@ impl Scene {
     ) -> Result<(), StartError>
         requires few { length self.old.servers.items + length self.old.heard.items ≤ 256 }
         requires honest { node < length self.old.servers.items }
+        requires consistent { IsConsistent (state_of self.old) }
         ensures may { OnOk result (MayRepair (state_of self.old) node number happy) }
         ensures ok { OnOk result
             (RepairStarts (state_of self.old) node number happy (state_of self.new)) }

@@ -4,7 +4,7 @@ ghost use Rattle.std.specs.Prelude.{◌≡◌, ◌↔◌, ◌+◌, ◌≤◌, Is
 ghost use Rattle.world.specs.declared.event.Event.TheVariants.{Deliver, FailStore, Forge, Pass};
 ghost use Rattle.world.specs.declared.event.Event.TheVariants.{Refuse, Repair, Restart, Start};
 ghost use Rattle.world.specs.declared.event.Event.TheVariants.{Tick, Turn};
-ghost use Rattle.world.specs.Consistent.{Preserves};
+ghost use Rattle.world.specs.Consistent.{IsConsistent, Preserves};
 ghost use Rattle.world.specs.State.{IsLiar, IsNode, state_of};
 ghost use Rattle.world.specs.Taking.{IsTaken};
 
@@ -48,7 +48,8 @@ impl Scene {
 
     // An honest node starts a repair.
     fn take_repair(&mut self, node: NodeId, number: usize, happy: u16) -> Result<(), StartError>
-        requires { length self.old.servers.items + length self.old.heard.items ≤ 256 }
+        requires few { length self.old.servers.items + length self.old.heard.items ≤ 256 }
+        requires consistent { IsConsistent (state_of self.old) }
         ensures taken { IsTaken (state_of self.old) (Repair node number happy) result
             (state_of self.new) }
         ensures keeps { Preserves (state_of self.old) (state_of self.new) }
@@ -168,7 +169,8 @@ impl Scene {
         liars: &mut Vec<Box<dyn Liar>>,
         event: &Event,
     ) -> Result<(), StartError>
-        requires { length self.old.servers.items + length self.old.heard.items ≤ 256 }
+        requires few { length self.old.servers.items + length self.old.heard.items ≤ 256 }
+        requires consistent { IsConsistent (state_of self.old) }
         ensures taken { IsTaken (state_of self.old) event.now result (state_of self.new) }
         ensures keeps { Preserves (state_of self.old) (state_of self.new) }
     {

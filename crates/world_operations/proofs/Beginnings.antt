@@ -109,7 +109,12 @@ new_task servers nodes session now (jobs.Download cap from to) (Downloading d) m
       follows = begun_follows (download.asked_servers from to nodes) session now d.requests b.asks;
     }
 new_task servers nodes session now (jobs.Check cap) (Checking c) may b =
-    record { is_for = b.of_cap; asked = checks_ask_all.begins cap nodes session now c b; clock = now; follows = begun_follows nodes session now c.requests b.asks }
+    record {
+      is_for = (b.0.of_cap, b.1);
+      asked = checks_ask_all.begins cap nodes session now c b.0;
+      clock = now;
+      follows = begun_follows nodes session now c.requests b.0.asks;
+    }
 new_task servers nodes session now _ _ may b = absurd b
 
 -- a repair that makes no shares

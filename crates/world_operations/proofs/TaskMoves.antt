@@ -300,16 +300,20 @@ download_hands d e (Some p) t = (let is = t.1 in
 abbrev StaysAskedBy : CheckState → CheckState → Type 0
 StaysAskedBy c e = (servers : List ℕ) → CheckAsksAll servers c → CheckAsksAll servers e
 
-check_goes : (New : Said) (c e : CheckState) → e.cap ≡ c.cap → Follows New c.requests e.requests → StaysAskedBy c e → GoesOn New (Checking c) (Checking e)
+-- it is of the same cap, and keeps the bytes of shares as before
+abbrev IsSameCheck : CheckState → CheckState → Type 0
+IsSameCheck c e = (e.cap ≡ c.cap) × (e.keeps ≡ c.keeps)
+
+check_goes : (New : Said) (c e : CheckState) → IsSameCheck c e → Follows New c.requests e.requests → StaysAskedBy c e → GoesOn New (Checking c) (Checking e)
 check_goes New c e same f asked = record {
   follows = f;
-  index = ap (λ (cap : VerifyCapValue). cap.storage_index) same;
+  index = ap (λ (cap : VerifyCapValue). cap.storage_index) same.0;
   is_for = kept;
   happy = λ pairs h. h;
   shares = λ these h. h;
   given = λ p h. h;
   hashed = λ input h. h;
-  tested = tests_stay New c e same f;
+  tested = tests_stay New c e same.0 f;
   ended = λ status h. h;
   blamed = λ position b h. h;
   asked = asked;
@@ -322,10 +326,10 @@ check_goes New c e same f asked = record {
     kept (jobs.Repair cap happy) h = absurd h
     kept (jobs.NoRepair cap why) h = absurd h
     kept (jobs.Download cap from to) h = absurd h
-    kept (jobs.Check cap) h = same ∙ h
+    kept (jobs.Check cap) h = (same.0 ∙ h.0, same.1 ∙ h.1)
 
 check_moves : (New : Said) (c e : CheckState) (r : RequestsState) → Follows New c.requests r → check.GoesOn r c e → StaysAskedBy c e → GoesOn New (Checking c) (Checking e)
-check_moves New c e r f a asked = check_goes New c e a.cap (asks_follow New c.requests r e.requests a.asks f a.requests) asked
+check_moves New c e r f a asked = check_goes New c e (a.cap, a.keeps) (asks_follow New c.requests r e.requests a.asks f a.requests) asked
 
 -- a message, whatever came of the call
 pub check_heard : {X E : Type 0} (r : Result X E) (from now : ℕ) (m : Message) (c e : CheckState) → OnOk r (check.Advances from m now c e) → OnErr r (check.Stops (after_message from m now c.requests) c e)
@@ -333,13 +337,13 @@ pub check_heard : {X E : Type 0} (r : Result X E) (from now : ℕ) (m : Message)
 check_heard (Ok x) from now m c e a s =
     check_moves (IsSaid from m c.requests.session) c e (after_message from m now c.requests) (follows_message from now m c.requests) a (λ servers h. checks_ask_all.advances from m now servers c e a h)
 check_heard (Err x) from now m c e a s =
-    check_goes (IsSaid from m c.requests.session) c e s.cap (asks_follow (IsSaid from m c.requests.session) c.requests (after_message from m now c.requests) e.requests s.asks (follows_message from now m c.requests) s.requests)
+    check_goes (IsSaid from m c.requests.session) c e (s.cap, s.keeps) (asks_follow (IsSaid from m c.requests.session) c.requests (after_message from m now c.requests) e.requests s.asks (follows_message from now m c.requests) s.requests)
     (λ servers h. subst (λ (q : RequestsState). AsksAll servers q.entries) (sym s.requests)
     (asked_after_asks servers s.asks (after_message from m now c.requests) (asked_after_message servers from m now c.requests h)))
 
-fails_cap : (now : ℕ) (c e : CheckState) → check.FailsAt now c e → e.cap ≡ c.cap
-fails_cap now c e (check.at_once is) = ap (λ (x : CheckState). x.cap) is
-fails_cap now c e (check.later failed s) = s.cap
+fails_same : (now : ℕ) (c e : CheckState) → check.FailsAt now c e → IsSameCheck c e
+fails_same now c e (check.at_once is) = (ap (λ (x : CheckState). x.cap) is, ap (λ (x : CheckState). x.keeps) is)
+fails_same now c e (check.later failed s) = (s.cap, s.keeps)
 
 -- does a check run?
 check_runs : (s : CheckStatus) → (s ≡ checks.Running) ⊎ (s ≢ checks.Running)
@@ -347,21 +351,21 @@ check_runs checks.Running = inl refl
 check_runs checks.Done = inr (λ e. absurd cc)
 check_runs checks.Failed = inr (λ e. absurd cc)
 
-stops_cap : (now : ℕ) (c e : CheckState) → check.StopsAt now c e → e.cap ≡ c.cap
-stops_cap now c e s = elim (check_runs c.status) [
-  | inl running ↦ fails_cap now c e (s.running running)
-  | inr over ↦ ap (λ (x : CheckState). x.cap) (s.ended over)
+stops_same : (now : ℕ) (c e : CheckState) → check.StopsAt now c e → IsSameCheck c e
+stops_same now c e s = elim (check_runs c.status) [
+  | inl running ↦ fails_same now c e (s.running running)
+  | inr over ↦ let is = s.ended over in (ap (λ (x : CheckState). x.cap) is, ap (λ (x : CheckState). x.keeps) is)
 ]
 
 -- a tick
 pub check_ticked : {X E : Type 0} (r : Result X E) (now : ℕ) (c e : CheckState) → OnOk r (check.TicksOn now c e) → OnErr r (check.StopsAt now c e) → GoesOn Nothing (Checking c) (Checking e)
 check_ticked (Ok x) now c e a s = check_moves Nothing c e (after_tick now c.requests) (follows_tick now c.requests) a (λ servers h. checks_ask_all.ticks now servers c e a h)
-check_ticked (Err x) now c e a s = check_goes Nothing c e (stops_cap now c e s) (follows_stops_at now c e s) (λ servers h. checks_ask_all.stops now servers c e s h)
+check_ticked (Err x) now c e a s = check_goes Nothing c e (stops_same now c e s) (follows_stops_at now c e s) (λ servers h. checks_ask_all.stops now servers c e s h)
 
 check_takes : (c e : CheckState) (f : Option (ℕ × Message)) → check_sends.Takes c f e → GoesOn Nothing (Checking c) (Checking e)
 check_takes c e None t = same_goes Nothing (Checking c) (Checking e) (ap Checking t.1)
 check_takes c e (Some f) t = (let is = t.3 in
-    check_goes Nothing c e (ap (λ (x : CheckState). x.cap) is)
+    check_goes Nothing c e (ap (λ (x : CheckState). x.cap) is, ap (λ (x : CheckState). x.keeps) is)
     (follows_same Nothing c.requests e.requests (ap (λ (x : CheckState). x.requests.session) is) (ap (λ (x : CheckState). x.requests.entries) is))
     (λ servers h. checks_ask_all.sends (Some f) servers c e t h))
 

@@ -1,5 +1,5 @@
 -- What an operation may be started for, and what it is then for.
-use Rattle.std.specs.Prelude.{◌≡◌, ℕ, ◌≤◌, List, length, ⊤}
+use Rattle.std.specs.Prelude.{◌≡◌, ℕ, ◌≤◌, List, length, true, ⊤}
 use Rattle.sources.specs.Texts.{Changing as TwoTexts, read_once, text_of}
 use Rattle.cap_text.specs.Cap.{VerifyCapValue}
 use Rattle.ueb.specs.Limits.{min_file_size}
@@ -78,8 +78,9 @@ pub record IsRepair (cap : VerifyCapValue) (happy : ℕ) (u : upload_sends.Uploa
   pub may : MayWant cap happy
   pub passing : ArePassing cap shares
 
--- An operation's machine is for its job. Of an upload whose machine is gone there is left that it
--- was one that may start, and of another operation nothing.
+-- An operation's machine is for its job. A check keeps the bytes of the shares that it reads, as a
+-- repair of what it found may follow. Of an upload whose machine is gone there is left that it was
+-- one that may start, and of another operation nothing.
 abbrev pub IsFor : Job → Task → Type 0
 IsFor (Upload file secret p) (Uploading u) =
     (u.course.goal ≡ goal_of (prepared_of file secret p)) × (u.course.happy ≡ p.happy)
@@ -96,7 +97,7 @@ IsFor (Changing one other after secret p) task = ⊥
 IsFor (Download cap from to) (Downloading d) = (d.cap ≡ cap) × (d.from ≡ from) × (d.to ≡ to)
 IsFor (Download cap from to) (Gone number) = ⊤
 IsFor (Download cap from to) task = ⊥
-IsFor (Check cap) (Checking c) = c.cap ≡ cap
+IsFor (Check cap) (Checking c) = (c.cap ≡ cap) × (c.keeps ≡ true)
 IsFor (Check cap) (Gone number) = ⊤
 IsFor (Check cap) task = ⊥
 IsFor (Repair cap happy) (Uploading u) = IsRepair cap happy u

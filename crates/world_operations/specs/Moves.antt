@@ -62,7 +62,7 @@ Begins (jobs.Changing file other after secret p) servers nodes session now (Gone
 Begins (jobs.Download cap from to) servers nodes session now (Downloading d) =
     download.Begins cap from to nodes session now d
 Begins (jobs.Check cap) servers nodes session now (Checking c) =
-    check.Begins cap nodes session now c
+    check.Begins cap nodes session now c × (c.keeps ≡ true)
 Begins job servers nodes session now task = ⊥
 
 -- a call that succeeds makes no download fail

@@ -5,6 +5,7 @@ use Rattle.sources.specs.Texts.{GivesChanging}
 use Rattle.file_streaming.specs.Prepared.{share_length}
 use Rattle.upload_core.specs.declared.pieces.PieceFault.{PieceFault}
 use Rattle.upload_core.specs.Pieces.{length_of, piece_of}
+use Rattle.upload_core.specs.Ready.{Ready}
 use Rattle.streamed_upload.specs.Streamed.{GaveBytes, GaveNone}
 use Rattle.world_operations.specs.declared.upload_pieces.UploadPieces.{UploadPieces}
 use Rattle.world_operations.specs.declared.upload_pieces.UploadPieces.TheVariants.{Whole, Streamed}
@@ -32,3 +33,7 @@ abbrev pub fails : UploadPieces → ℕ → ℕ → ℕ → PieceFault → Uploa
 fails (Streamed old) share offset len fault (Streamed new) =
     GaveNone GivesChanging (λ source. 0) old fault new
 fails old share offset len fault new = ⊥
+
+-- the same upload, whose pieces are taken as those of a world
+abbrev pub ready_with : {P : Type 0} → Ready P → (P → UploadPieces) → Ready UploadPieces
+ready_with r taken = record { pieces = taken r.pieces; goal = r.goal; happy = r.happy }

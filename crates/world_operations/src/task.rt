@@ -4,13 +4,9 @@ ghost use Rattle.std.specs.Prelude.{◌≡◌, ℕ, List, IfOk, IfSome, IsErrOf,
 ghost use Rattle.std.specs.Prelude.{nat_eq};
 ghost use Rattle.std.specs.List.{IsDistinct};
 ghost use Rattle.request_record.specs.Follow.{Follows, IsSaid, Nothing};
-ghost use Rattle.streamed_upload.specs.Ready.{goal_of};
-ghost use Rattle.upload_core.specs.Moves as upload;
-ghost use Rattle.upload_core.specs.Sending.{Uploading};
 ghost use Rattle.upload_core.specs.declared.status.ServerInfo.{ServerInfo};
 ghost use Rattle.world_operations.specs.declared.job.Job.TheVariants as jobs;
 ghost use Rattle.world_operations.specs.declared.task.StartError.{StartError};
-ghost use Rattle.world_operations.specs.declared.upload_pieces.UploadPieces.TheVariants.{Streamed};
 ghost use Rattle.world_operations.specs.Follow.{GoesOn};
 ghost use Rattle.world_operations.specs.Given.{IsGivenBy};
 ghost use Rattle.world_operations.specs.Jobs.{MayStart, changing};
@@ -23,7 +19,7 @@ ghost use Rattle.world_operations.specs.Tasks.{IsRightTask, requests_of, runs};
 use crate::job::Job;
 use crate::upload_pieces::UploadPieces;
 use cap_text::{ReadCap, VerifyCap};
-use checker::KeepingCheck;
+use checker::Check;
 use checker::status::CheckStatus;
 use download_core::Download;
 use download_core::status::{DownloadError, DownloadStatus, Piece};
@@ -33,7 +29,7 @@ use file_upload::prepared::{FileUpload, prepare};
 use request_record::operation::Operation;
 use sources::ChangingSource;
 use std::alloc::{AllocError, Global};
-use streamed_upload::prepared::{PreparedStream, prepare_stream};
+use streamed_upload::prepared::prepare_stream;
 use ueb::MIN_FILE_SIZE;
 use upload_core::Upload;
 use upload_core::status::{ServerInfo, UploadStatus};
@@ -73,7 +69,7 @@ impl From<AllocError> for StartError {
 pub enum Task {
     Uploading(Upload<UploadPieces>),
     Downloading(Download),
-    Checking(KeepingCheck),
+    Checking(Check),
     /// There is no machine, only the operation's number: a repair made no shares, or the source of
     /// an upload changed while it was read.
     Gone(u64),
@@ -250,11 +246,8 @@ fn begin_upload(
     let _ = params.needed();
     match prepare(alloc, file, secret, params) {
         Ok(FileUpload::Shares(prepared)) => {
-            let happy = prepared.happy();
-            let (shares, goal) = prepared.into_parts();
-            let pieces = UploadPieces::Whole(shares);
-            let upload = Upload::start(alloc, pieces, goal, happy, servers, session, now)?;
-            Ok(Task::Uploading(upload))
+            let ready = UploadPieces::of_whole(prepared.into_upload());
+            Ok(Task::Uploading(ready.start(alloc, servers, session, now)?))
         }
         Ok(FileUpload::Literal(_)) => Err(StartError::Refused),
         Err(EncodeError::OutOfMemory) => Err(StartError::OutOfMemory),
@@ -293,7 +286,10 @@ fn begin_changing(
     let _ = params.needed();
     let source = two_texts(alloc, file, other, after)?;
     match prepare_stream(alloc, source, secret, params) {
-        Ok(prepared) => begin_stream(alloc, prepared, servers, session, now),
+        Ok(ready) => {
+            let ready = UploadPieces::of_stream(ready);
+            Ok(Task::Uploading(ready.start(alloc, servers, session, now)?))
+        }
         Err(PrepareError::SourceChanged) => Ok(Task::Gone(session)),
         Err(PrepareError::OutOfMemory) => Err(StartError::OutOfMemory),
         Err(PrepareError::SourceFault) => unreachable!(),
@@ -314,28 +310,6 @@ fn two_texts(
     let file = Vec::from_slice(alloc, file)?;
     let other = Vec::from_slice(alloc, other)?;
     Ok(ChangingSource::new(file, other, after))
-}
-
-// Begins the upload of a source that was read twice.
-fn begin_stream(
-    alloc: Global,
-    prepared: PreparedStream<ChangingSource>,
-    servers: &[ServerInfo],
-    session: u64,
-    now: u64,
-) -> Result<Task, StartError>
-    requires { IsDistinct nat_eq (map (λ (s : ServerInfo). s.node) servers.now) }
-    ensures begun { IfOk result (λ task. (u : Uploading UploadPieces) × (task ≡ Task.Uploading u)
-        × (u.pieces ≡ Streamed prepared.pieces)
-        × upload.Begins (goal_of prepared.pieces.kept) prepared.happy servers.now session now
-        u.course) }
-    ensures no_other { IsErrOf result StartError.Refused → ⊥ }
-{
-    let happy = prepared.happy();
-    let (stream, goal) = prepared.into_parts();
-    let pieces = UploadPieces::Streamed(stream);
-    let upload = Upload::start(alloc, pieces, goal, happy, servers, session, now)?;
-    Ok(Task::Uploading(upload))
 }
 
 // Begins a download.
@@ -362,7 +336,7 @@ fn begin_download(
     }
 }
 
-// Begins a check.
+// Begins a check, which keeps the bytes of the shares that it reads: a repair may follow.
 fn begin_check(
     alloc: Global,
     cap: VerifyCap,
@@ -375,7 +349,7 @@ fn begin_check(
         (Begins (jobs.Check cap) servers nodes.now session now) }
     ensures refused { IsErrOf result StartError.Refused → ⊥ }
 {
-    match KeepingCheck::start(alloc, cap, nodes, session, now) {
+    match Check::start_keeping(alloc, cap, nodes, session, now) {
         Ok(check) => Ok(Task::Checking(check)),
         Err(_) => Err(StartError::OutOfMemory),
     }

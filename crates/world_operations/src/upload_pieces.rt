@@ -2,9 +2,11 @@
 
 ghost use Rattle.std.specs.Prelude.{◌≡◌, ◌+◌, ◌<◌, ◌≤◌, length, IfErr, OnOk};
 ghost use Rattle.world_operations.specs.UploadPieces.{digests_of, fails, gives, share_length_of};
+ghost use Rattle.world_operations.specs.UploadPieces.{ready_with};
 
 use sources::ChangingSource;
 use streamed_upload::streamed::Streamed;
+use upload_core::ReadyUpload;
 use upload_core::pieces::{PieceFault, Pieces, WholeShares};
 
 /// The shares of an upload, or what they are made of again when they are asked for.
@@ -14,6 +16,26 @@ pub enum UploadPieces {
     Whole(WholeShares),
     /// A source of two texts, with what is kept of what its second pass brought.
     Streamed(Streamed<ChangingSource>),
+}
+
+impl UploadPieces {
+    /// The same upload, of shares in memory.
+    pub(crate) fn of_whole(ready: ReadyUpload<WholeShares>) -> ReadyUpload<UploadPieces>
+        ensures { result ≡ ready_with ready UploadPieces.Whole }
+    {
+        let (shares, goal, happy) = ready.into_parts();
+        ReadyUpload::new(UploadPieces::Whole(shares), goal, happy)
+    }
+
+    /// The same upload, of a source of two texts.
+    pub(crate) fn of_stream(
+        ready: ReadyUpload<Streamed<ChangingSource>>,
+    ) -> ReadyUpload<UploadPieces>
+        ensures { result ≡ ready_with ready UploadPieces.Streamed }
+    {
+        let (stream, goal, happy) = ready.into_parts();
+        ReadyUpload::new(UploadPieces::Streamed(stream), goal, happy)
+    }
 }
 
 impl Pieces for UploadPieces {
