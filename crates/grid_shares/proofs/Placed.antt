@@ -6,6 +6,7 @@ use Rattle.request_record.specs.Operations.{OperationCalls}
 use Rattle.share_store.specs.Calls.{Calls}
 use Rattle.share_folders.specs.Folder.{FolderState, folder_calls}
 use Rattle.upload_core.specs.Moves.{Begins}
+use Rattle.upload_core.specs.Ready.{Ready}
 use Rattle.upload_core.specs.Right.{IsRight}
 use Rattle.upload_core.specs.Sending.{Uploading}
 use Rattle.upload_core.specs.declared.status.UploadStatus.{UploadStatus}
@@ -21,22 +22,17 @@ use Rattle.grid_servers.specs.Opened.{AreOpened}
 use Rattle.std.specs.List.{range_with_len}
 use Rattle.std.proofs.Common.{Bool}
 use Rattle.cap_text.specs.Cap.{ReadCapValue}
-use Rattle.grid_shares.specs.Placing.{ArePlaced, AreUploaded, MadeShares}
+use Rattle.grid_shares.specs.Placing.{ArePlaced, AreUploaded}
 use Rattle.file_encoding.specs.Params.{UploadParameters}
-use Rattle.file_upload.specs.Prepared.{Prepared, prepared_of}
+use Rattle.file_upload.specs.Prepared.{Prepared, prepared_of, upload_of}
 use Rattle.file_upload.specs.declared.prepared.FileUpload.{FileUpload}
 use Rattle.file_upload.specs.declared.prepared.FileUpload.TheVariants.{Shares}
-use Rattle.streamed_upload.specs.Ready as streamed
+use Rattle.streamed_upload.specs.Ready.{goal_of, ready_stream}
 use Rattle.streamed_upload.specs.Streamed.{Streaming}
 use Rattle.upload_core.specs.State.{Goal}
-use Rattle.grid_shares.specs.Puts.{IsPutOf, IsToldOf, made_of, streamed_of, whole_calls}
+use Rattle.grid_shares.specs.Puts.{IsPutOf, IsToldOf, whole_calls}
 use Rattle.grid_shares.specs.declared.Outcome.{Outcome}
 use Rattle.grid_shares.specs.declared.placing.Stored.{Stored}
-
--- a list of no length is empty
-pub none_left : (xs : List ℕ) → (length xs == 0) ≡ true → xs ≡ []
-none_left [] e = refl
-none_left (x ∷ xs) e = absurd (omega (arith, eqb-true (length (x ∷ xs)) 0 e))
 
 module _ {P S L : Type 0} (operation : OperationCalls (Uploading P)) (calls : Calls S) (carries : Carries L) (begun ended : Uploading P) (old new : GridState S L) where
   by_status : (wanted : ℕ) (status : UploadStatus) → status ≡ ended.course.status → IsCarried operation calls carries begun old ended new → IsRight ended.course
@@ -51,7 +47,7 @@ module _ {P S L : Type 0} (operation : OperationCalls (Uploading P)) (calls : Ca
       → IfOk r (λ happiness. IsStored operation calls carries begun old new happiness)
   reached r wanted status e is c right = subst (λ (x : Result ℕ Fault). IfOk x (λ happiness. IsStored operation calls carries begun old new happiness)) (sym e) (by_status wanted status is c right)
 
-module _ {P L : Type 0} (operation : OperationCalls (Uploading P)) (carries : Carries L) (grid servers : List ℕ) (made : MadeShares P) where
+module _ {P L : Type 0} (operation : OperationCalls (Uploading P)) (carries : Carries L) (grid servers : List ℕ) (made : Ready P) where
   -- shares whose upload was carried to its end
   pub uploaded : (before after : GridState FolderState L) (begun ended : Uploading P) (now : ℕ) (r : Result ℕ Fault) (wanted : ℕ) (status : UploadStatus)
       → r ≡ ending_of wanted status → status ≡ ended.course.status → IsRight ended.course → AreOpened grid before → now ≡ before.clock
@@ -94,18 +90,18 @@ encoded_as r encoded file given secret p was same is =
 
 module _ {L : Type 0} (carries : Carries L) (grid : List ℕ) (quiet : Bool) where
   -- what is told of the shares of a file that was encoded whole
-  pub held_put : (encoded : FileUpload) (upload p : Prepared) (m : MadeShares (List (List ℕ))) (cap : ReadCapValue) → encoded ≡ Shares upload → encoded ≡ Shares p → m ≡ made_of upload → cap ≡ upload.cap
-      → (outcome : Outcome) → IsPutOf whole_calls carries grid m cap quiet outcome → IsPutOf whole_calls carries grid (made_of p) p.cap quiet outcome
+  pub held_put : (encoded : FileUpload) (upload p : Prepared) (m : Ready (List (List ℕ))) (cap : ReadCapValue) → encoded ≡ Shares upload → encoded ≡ Shares p → m ≡ upload_of upload → cap ≡ upload.cap
+      → (outcome : Outcome) → IsPutOf whole_calls carries grid m cap quiet outcome → IsPutOf whole_calls carries grid (upload_of p) p.cap quiet outcome
   held_put encoded upload p m cap is same made own outcome put =
-      subst (λ (q : Prepared). IsPutOf whole_calls carries grid (made_of q) q.cap quiet outcome) (same_shares upload p (sym is ∙ same))
-      (subst (λ (x : ReadCapValue). IsPutOf whole_calls carries grid (made_of upload) x quiet outcome) own
-      (subst (λ (x : MadeShares (List (List ℕ))). IsPutOf whole_calls carries grid x cap quiet outcome) made put))
+      subst (λ (q : Prepared). IsPutOf whole_calls carries grid (upload_of q) q.cap quiet outcome) (same_shares upload p (sym is ∙ same))
+      (subst (λ (x : ReadCapValue). IsPutOf whole_calls carries grid (upload_of upload) x quiet outcome) own
+      (subst (λ (x : Ready (List (List ℕ))). IsPutOf whole_calls carries grid x cap quiet outcome) made put))
 
   -- those of a file that was read twice
-  pub streamed_put : {S : Type 0} (operation : OperationCalls (Uploading (Streaming S))) (m : MadeShares (Streaming S)) (cap : ReadCapValue) (happy : ℕ)
-      → m.goal ≡ streamed.goal_of m.pieces.kept → m.happy ≡ happy → cap ≡ m.pieces.kept.cap
-      → (outcome : Outcome) → IsPutOf operation carries grid m cap quiet outcome → IsPutOf operation carries grid (streamed_of m.pieces happy) m.pieces.kept.cap quiet outcome
+  pub streamed_put : {S : Type 0} (operation : OperationCalls (Uploading (Streaming S))) (m : Ready (Streaming S)) (cap : ReadCapValue) (happy : ℕ)
+      → m.goal ≡ goal_of m.pieces.kept → m.happy ≡ happy → cap ≡ m.pieces.kept.cap
+      → (outcome : Outcome) → IsPutOf operation carries grid m cap quiet outcome → IsPutOf operation carries grid (ready_stream m.pieces happy) m.pieces.kept.cap quiet outcome
   streamed_put {S = S} operation m cap happy goal wanted own outcome put =
-      subst (λ (x : ReadCapValue). IsPutOf operation carries grid (streamed_of m.pieces happy) x quiet outcome) own
-      (subst (λ (n : ℕ). IsPutOf operation carries grid (record { pieces = m.pieces; goal = streamed.goal_of m.pieces.kept; happy = n }) cap quiet outcome) wanted
+      subst (λ (x : ReadCapValue). IsPutOf operation carries grid (ready_stream m.pieces happy) x quiet outcome) own
+      (subst (λ (n : ℕ). IsPutOf operation carries grid (record { pieces = m.pieces; goal = goal_of m.pieces.kept; happy = n }) cap quiet outcome) wanted
       (subst (λ (x : Goal). IsPutOf operation carries grid (record { pieces = m.pieces; goal = x; happy = m.happy }) cap quiet outcome) goal put))

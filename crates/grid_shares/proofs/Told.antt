@@ -15,9 +15,9 @@ use Rattle.carried_operations.specs.Checked.{IsCarried}
 use Rattle.grid_rules.specs.ReportLines.{report_status}
 use Rattle.grid_servers.specs.Opened.{AreOpened}
 use Rattle.grid_shares.specs.Checks.{IsCheckOf, IsChecked, check_text}
-use Rattle.grid_shares.specs.Placing.{ArePlaced, MadeShares}
+use Rattle.grid_shares.specs.Placing.{ArePlaced}
 use Rattle.grid_shares.specs.Puts.{stored_status, whole_calls}
-use Rattle.grid_shares.specs.Repairs.{AreFoundBy, AreMadeOf, IsRepairBy, IsRepairFor, IsRepairOf}
+use Rattle.grid_shares.specs.Repairs.{AreFoundBy, IsRepairBy, IsRepairFor, IsRepairOf}
 use Rattle.grid_shares.specs.Checks.{verify_of}
 use Rattle.grid_words.specs.declared.words.RepairWords.{RepairWords}
 use Rattle.grid_faults.specs.declared.fault.Fault.{Fault}
@@ -26,11 +26,6 @@ use Rattle.cap_text.specs.declared.cap.Cap.{Cap}
 use Rattle.std.proofs.lemmas.Result.{IfOk-weaker}
 use Rattle.std.proofs.Common.{nat_eq}
 use Rattle.std.specs.List.{IsDistinct}
-use Rattle.std.proofs.Common.{refl}
-use Rattle.file_encoding.specs.Regenerated.{AreRegenerated}
-use Rattle.file_encoding.specs.RemadeLaws.{ArePassing}
-use Rattle.file_upload.specs.Shares.{ReadyShares, shares_goal}
-use Rattle.upload_core.specs.State.{Goal}
 use Rattle.grid_shares.specs.declared.Outcome.{Outcome}
 use Rattle.grid_shares.specs.declared.placing.Stored.{Stored}
 
@@ -88,19 +83,3 @@ repair_told carries words read of cap happy servers used spelled is some wanted 
           (servers, distinct, subst (λ (s : List ℕ). IsRepairOf carries words.grid.now cap words.happy s outcome) (sym same) (subst (λ (h : ℕ). IsRepairOf carries words.grid.now cap h used outcome) wanted t));
     })
     told
-
--- shares that were made anew, and made ready
-pub made_anew : (cap : VerifyCapValue) (happy : ℕ) (numbers : List ℕ) (strings shares : List (List ℕ)) (ready : ReadyShares) (pieces : List (List ℕ)) (goal : Goal) (made : MadeShares (List (List ℕ)))
-    → ready ≡ record { cap = cap; happy = happy; shares = shares } → pieces ≡ ready.shares → goal ≡ shares_goal ready.cap ready.shares → made ≡ record { pieces = pieces; goal = goal; happy = happy }
-    → AreRegenerated cap numbers strings shares → ArePassing cap shares → AreMadeOf cap happy numbers strings made
-made_anew cap happy numbers strings shares ready pieces goal made is of to made_is anew passing =
-    let brought : pieces ≡ shares = of ∙ ap (λ (r : ReadyShares). r.shares) is in
-    let wanted : goal ≡ shares_goal cap pieces =
-    to ∙ ap (λ (r : ReadyShares). shares_goal r.cap r.shares) is ∙ ap (λ (s : List (List ℕ)). shares_goal cap s) (sym brought) in
-    subst (λ (m : MadeShares (List (List ℕ))). AreMadeOf cap happy numbers strings m) (sym made_is)
-    (record {
-      goal = wanted;
-      happy_is = refl;
-      anew = subst (λ (s : List (List ℕ)). AreRegenerated cap numbers strings s) (sym brought) anew;
-      passing = subst (λ (s : List (List ℕ)). ArePassing cap s) (sym brought) passing;
-    })

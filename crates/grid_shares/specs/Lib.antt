@@ -1,4 +1,5 @@
 -- what public contracts rest on
+pub mod Ways
 pub mod Placing
 pub mod Puts
 pub mod Checks

@@ -1,9 +1,9 @@
 -- What is placed, and what placing it came to.
-use Rattle.std.specs.Prelude.{◌≡◌, ℕ, List, [], true, map}
+use Rattle.std.specs.Prelude.{◌≡◌, ◌==◌, ℕ, Bool, List, length, map}
 use Rattle.request_record.specs.Operations.{OperationCalls}
 use Rattle.upload_core.specs.Moves.{Begins}
+use Rattle.upload_core.specs.Ready.{Ready}
 use Rattle.upload_core.specs.Sending.{Uploading}
-use Rattle.upload_core.specs.State.{Goal}
 use Rattle.share_folders.specs.Folder.{FolderState, folder_calls}
 use Rattle.local_grid.specs.Nodes.{Carries}
 use Rattle.local_grid.specs.Turns.{GridState}
@@ -12,18 +12,12 @@ use Rattle.grid_faults.specs.Servers.{server_of}
 use Rattle.grid_servers.specs.Opened.{AreOpened}
 use Rattle.grid_servers.specs.Servers.{servers_without}
 use Rattle.grid_shares.specs.declared.placing.Stored.{Stored}
-
--- The shares of a file, all made: where their bytes come from, what they have to be, and how many
--- servers are to hold one of their own.
-pub record MadeShares (P : Type 0) : Type 0 where
-  pub pieces : P
-  pub goal : Goal
-  pub happy : ℕ
+use Rattle.grid_shares.specs.Ways.{AreCleared}
 
 -- Shares were uploaded to these servers of a grid, each over its own folder: their upload was begun
 -- with all of these servers, and is stored with this happiness.
 pub record AreUploaded {P L : Type 0} (operation : OperationCalls (Uploading P))
-    (carries : Carries L) (grid : List ℕ) (servers : List ℕ) (made : MadeShares P)
+    (carries : Carries L) (grid : List ℕ) (servers : List ℕ) (made : Ready P)
     (happiness : ℕ) : Type 0 where
   pub before : GridState FolderState L
   pub opened : AreOpened grid before
@@ -33,12 +27,14 @@ pub record AreUploaded {P L : Type 0} (operation : OperationCalls (Uploading P))
   pub after : GridState FolderState L
   pub stored : IsStored operation folder_calls carries begun before after happiness
 
--- Shares were placed on servers of a grid: uploaded to all of them but some at which what stood
--- under the shares' names could not be set aside.
+-- Shares were placed on servers of a grid. The way was cleared for them at each, and they were
+-- uploaded to all but those at which a share was left; it is told whether there were some.
 pub record ArePlaced {P L : Type 0} (operation : OperationCalls (Uploading P))
-    (carries : Carries L) (grid : List ℕ) (servers : List ℕ) (made : MadeShares P)
+    (carries : Carries L) (grid : List ℕ) (servers : List ℕ) (made : Ready P)
     (stored : Stored) : Type 0 where
+  pub mend : Bool
   pub stuck : List ℕ
-  pub none : stored.is_cleared ≡ true → stuck ≡ []
+  pub cleared : AreCleared made.goal mend servers stuck
+  pub none : stored.is_cleared ≡ (length stuck == 0)
   pub uploaded : AreUploaded operation carries grid (servers_without servers stuck) made
       stored.happiness

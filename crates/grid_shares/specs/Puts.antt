@@ -8,16 +8,17 @@ use Rattle.ueb.specs.Limits.{min_file_size}
 use Rattle.file_encoding.specs.Params.{UploadParameters, parameters_of}
 use Rattle.sources.specs.Opened.{Opened}
 use Rattle.file_streaming.specs.Prepared.{IsPreparedFrom}
-use Rattle.file_upload.specs.Prepared.{Prepared, goal_of, prepared_of}
-use Rattle.streamed_upload.specs.Ready as streamed
+use Rattle.file_upload.specs.Prepared.{prepared_of, upload_of}
+use Rattle.streamed_upload.specs.Ready.{ready_stream}
 use Rattle.streamed_upload.specs.Streamed.{GaveBytes, GaveNone, Streaming}
 use Rattle.request_record.specs.Operations.{OperationCalls}
 use Rattle.upload_core.specs.Calls.{upload_calls}
 use Rattle.upload_core.specs.Pieces.{piece_of}
+use Rattle.upload_core.specs.Ready.{Ready}
 use Rattle.upload_core.specs.Sending.{Uploading}
 use Rattle.local_grid.specs.Nodes.{Carries}
 use Rattle.grid_words.specs.declared.words.PutWords.{PutWords}
-use Rattle.grid_shares.specs.Placing.{ArePlaced, MadeShares}
+use Rattle.grid_shares.specs.Placing.{ArePlaced}
 use Rattle.grid_shares.specs.declared.Outcome.{Outcome}
 use Rattle.grid_shares.specs.declared.placing.Stored.{Stored}
 
@@ -44,20 +45,12 @@ pub record IsToldOf (cap : ReadCapValue) (quiet : Bool) (stored : Stored) (outco
 
 -- Shares that were made are placed on the first servers of a grid, so many, and this is told.
 pub record IsPutOf {P L : Type 0} (operation : OperationCalls (Uploading P)) (carries : Carries L)
-    (grid : List ℕ) (made : MadeShares P) (cap : ReadCapValue) (quiet : Bool) (outcome : Outcome)
+    (grid : List ℕ) (made : Ready P) (cap : ReadCapValue) (quiet : Bool) (outcome : Outcome)
     : Type 0 where
   pub count : ℕ
   pub stored : Stored
   pub placed : ArePlaced operation carries grid (range_with_len 0 count) made stored
   pub told : IsToldOf cap quiet stored outcome
-
--- the shares of a file that was encoded whole
-abbrev pub made_of : Prepared → MadeShares (List (List ℕ))
-made_of p = record { pieces = p.shares; goal = goal_of p; happy = p.happy }
-
--- those of a file that was read twice, which are made again from its source
-abbrev pub streamed_of : {S : Type 0} → Streaming S → ℕ → MadeShares (Streaming S)
-streamed_of s happy = record { pieces = s; goal = streamed.goal_of s.kept; happy = happy }
 
 -- the calls of an upload of whole shares
 abbrev pub whole_calls : OperationCalls (Uploading (List (List ℕ)))
@@ -90,7 +83,7 @@ pub data IsPutBy {F L : Type 0} (gives : Opened F → ℕ → List ℕ → Opene
       → IsPutBy gives carries words outcome
   held : (file secret : List ℕ) → min_file_size ≤ length file
       → IsPutOf whole_calls carries words.grid.now
-      (made_of (prepared_of file secret (numbers_of words)))
+      (upload_of (prepared_of file secret (numbers_of words)))
       (prepared_of file secret (numbers_of words)).cap words.quiet outcome
       → IsPutBy gives carries words outcome
   opened : (source : Opened F) → (secret : List ℕ) → (kept : Streaming (Opened F))
@@ -98,5 +91,5 @@ pub data IsPutBy {F L : Type 0} (gives : Opened F → ℕ → List ℕ → Opene
       → IsPreparedFrom gives source.size source secret (parameters_of (numbers_of words))
       kept.kept kept.source
       → IsPutOf (streamed_calls gives (λ s. s.failures)) carries words.grid.now
-      (streamed_of kept words.happy) kept.kept.cap words.quiet outcome
+      (ready_stream kept words.happy) kept.kept.cap words.quiet outcome
       → IsPutBy gives carries words outcome

@@ -4,9 +4,8 @@ use Rattle.std.specs.List.{IsDistinct}
 use Rattle.cap_text.specs.Cap.{VerifyCapValue}
 use Rattle.cap_text.specs.CapText.{Spells}
 use Rattle.cap_text.specs.declared.cap.Cap.{Cap}
-use Rattle.file_encoding.specs.Regenerated.{AreRegenerated}
-use Rattle.file_encoding.specs.RemadeLaws.{ArePassing}
-use Rattle.file_upload.specs.Shares.{shares_goal}
+use Rattle.file_upload.specs.Repair.{AreMadeOf}
+use Rattle.upload_core.specs.Ready.{Ready}
 use Rattle.share_folders.specs.Folder.{FolderState, folder_calls}
 use Rattle.checker.specs.Good.{AreGoodShares}
 use Rattle.checker.specs.Moves.{Begins}
@@ -17,7 +16,7 @@ use Rattle.carried_operations.specs.Checked.{IsCarried}
 use Rattle.grid_servers.specs.Opened.{AreOpened}
 use Rattle.grid_words.specs.declared.words.RepairWords.{RepairWords}
 use Rattle.grid_shares.specs.Checks.{literal_text, verify_of}
-use Rattle.grid_shares.specs.Placing.{ArePlaced, MadeShares}
+use Rattle.grid_shares.specs.Placing.{ArePlaced}
 use Rattle.grid_shares.specs.Puts.{stored_status, whole_calls}
 use Rattle.grid_shares.specs.declared.Outcome.{Outcome}
 use Rattle.grid_shares.specs.declared.placing.Stored.{Stored}
@@ -35,14 +34,6 @@ pub record AreFoundBy {L : Type 0} (carries : Carries L) (grid : List ℕ) (cap 
   pub carried : IsCarried folder_calls carries begun before ended after
   pub good : AreGoodShares cap ended.requests.entries numbers strings
 
--- All shares of the cap's file, made anew of these, for so many servers. Each passes for the cap.
-pub record AreMadeOf (cap : VerifyCapValue) (happy : ℕ) (numbers : List ℕ)
-    (strings : List (List ℕ)) (made : MadeShares (List (List ℕ))) : Type 0 where
-  pub goal : made.goal ≡ shares_goal cap made.pieces
-  pub happy_is : made.happy ≡ happy
-  pub anew : AreRegenerated cap numbers strings made.pieces
-  pub passing : ArePassing cap made.pieces
-
 -- A check found good shares of a cap's file, of which all shares were made anew; these were placed
 -- on the same servers, and this is told.
 pub record IsRepairOf {L : Type 0} (carries : Carries L) (grid : List ℕ) (cap : VerifyCapValue)
@@ -50,7 +41,7 @@ pub record IsRepairOf {L : Type 0} (carries : Carries L) (grid : List ℕ) (cap 
   pub numbers : List ℕ
   pub strings : List (List ℕ)
   pub found : AreFoundBy carries grid cap servers numbers strings
-  pub made : MadeShares (List (List ℕ))
+  pub made : Ready (List (List ℕ))
   pub anew : AreMadeOf cap happy numbers strings made
   pub stored : Stored
   pub placed : ArePlaced whole_calls carries grid servers made stored

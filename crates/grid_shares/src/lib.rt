@@ -11,7 +11,6 @@ mod mending;
 mod placing;
 mod putting;
 mod repairing;
-mod streaming;
 
 pub use checking::check;
 pub use putting::put;

@@ -1,16 +1,18 @@
 //! The way is cleared for the shares of a file, once all of them are made: what stands in the
 //! servers' folders under the names of its shares, and is none of them, is set aside.
 
-ghost use Rattle.std.specs.Prelude.{◌≡◌, None, Some, if◌then◌else◌, option_map};
+ghost use Rattle.std.specs.Prelude.{◌≡◌, ◌++◌, None, Some, if◌then◌else◌, option_map, IfOk, OnOk};
+ghost use Rattle.grid_shares.specs.Ways.{AreCleared, IsWay, stuck_by, way_by};
 
 use crate::placing::Placing;
 use grid_faults::{Fault, is_memory, server_name, told_path};
 use grid_marks::{server_folder, try_mark};
 use grid_telling::Progress;
-use share_scrub::{Cleared, LeftShare, Wanted, clear_way};
+use share_scrub::{Cleared, FolderFiles, LeftShare, Wanted, clear_way};
 use share_store::error::StoreError;
-use std::alloc::Global;
+use std::alloc::{AllocError, Global};
 use std::io::{IsTerminal, Write};
+use std::random::RandomSource;
 use std::rt::{Clock, Files};
 use std::time::SystemTime;
 use upload_core::status::UploadGoal;
@@ -32,9 +34,20 @@ fn wanted_of<'a>(goal: &'a UploadGoal, mend: bool, now: SystemTime) -> Wanted<'a
     }
 }
 
-/// Clears the way for shares at each of the servers, and gives those at which a share could not be
-/// set aside, in their order. Each such share is told. A folder that cannot be read is passed over,
-/// and so is one without its mark in a grid that knows its servers: its server will be silent.
+/// What became of the files of a server.
+#[derive(Clone, Copy)]
+pub(crate) enum Way {
+    /// Its folder could not be read, or has not its mark: its server will be silent.
+    PassedOver,
+    /// No share was left.
+    Clear,
+    /// A share could not be looked at, or should have been set aside and could not be.
+    Stuck,
+}
+
+/// Clears the way for shares at each of the servers, and gives those at which a share was left, in
+/// their order. Each such share is told. A folder that cannot be read is passed over, and so is one
+/// without its mark in a grid that knows its servers.
 pub(crate) fn clear_servers<R, E>(
     rt: &R,
     placing: &Placing<'_>,
@@ -42,46 +55,70 @@ pub(crate) fn clear_servers<R, E>(
     progress: &mut Progress<'_, R, E>,
 ) -> Result<Vec<NodeId>, Fault>
 where
-    R: Files + Clock + AllocGlobal + Clone + Drop,
+    R: Files + Clock + RandomSource + AllocGlobal + Clone + Drop,
     E: Write + IsTerminal,
+    ensures { IfOk result
+        (λ stuck. AreCleared goal.now placing.now.mend placing.now.servers.now stuck.items) }
 {
     // without a clock no open file is left over
     let now = SystemTime::now(rt).unwrap_or(SystemTime::UNIX_EPOCH);
     let wanted = wanted_of(goal, placing.mend, now);
     let mut stuck = Vec::new(rt.alloc());
     for server in placing.servers {
-        if !clear_server(rt, placing.grid, *server, &wanted, progress)? {
-            stuck.push(*server)?;
-        }
+        let way = clear_server(rt, placing.grid, *server, &wanted, progress)?;
+        note_way(&mut stuck, *server, way)?;
     }
     Ok(stuck)
 }
 
-// The same at one server. False where a share could not be set aside.
+// Takes note of a server at which a share was left.
+fn note_way(stuck: &mut Vec<NodeId>, server: NodeId, way: Way) -> Result<(), AllocError>
+    ensures { OnOk result (stuck.new.items ≡ stuck.old.items ++ stuck_by server way) }
+{
+    if let Way::Stuck = way {
+        stuck.push(server)?;
+    }
+    Ok(())
+}
+
+// The same at one server.
 fn clear_server<R, E>(
     rt: &R,
     grid: &str,
     server: NodeId,
     wanted: &Wanted<'_>,
     progress: &mut Progress<'_, R, E>,
-) -> Result<bool, Fault>
+) -> Result<Way, Fault>
 where
-    R: Files + Clock + AllocGlobal + Clone + Drop,
+    R: Files + Clock + RandomSource + AllocGlobal + Clone + Drop,
     E: Write + IsTerminal,
+    ensures { IfOk result (IsWay wanted.entry.now) }
 {
     match try_mark(rt, grid, server) {
         Ok(()) => {}
         Err(error) if is_memory(&error) => return Err(Fault::OutOfMemory),
-        Err(_) => return Ok(true),
+        Err(_) => return Ok(Way::PassedOver),
     }
     let folder = server_folder(rt.alloc(), grid, server)?;
-    match clear_way(rt, folder.as_str(), wanted, progress) {
+    let mut files = FolderFiles::new(rt, folder.as_str(), wanted.now);
+    match clear_way(&mut files, wanted, progress) {
         Ok(cleared) => {
             tell_cleared(rt.alloc(), server, folder.as_str(), &cleared, progress)?;
-            Ok(cleared.left.is_empty())
+            Ok(way_of(&cleared))
         }
         Err(StoreError::OutOfMemory) => Err(Fault::OutOfMemory),
-        Err(StoreError::StoreFault) => Ok(true),
+        Err(StoreError::StoreFault) => Ok(Way::PassedOver),
+    }
+}
+
+// Whether a share was left.
+fn way_of(cleared: &Cleared) -> Way
+    ensures { result ≡ way_by cleared.now.left.items }
+{
+    if cleared.left.is_empty() {
+        Way::Clear
+    } else {
+        Way::Stuck
     }
 }
 

@@ -8,7 +8,7 @@ ghost use Rattle.upload_core.specs.Moves.{Begins};
 ghost use Rattle.socket_links.specs.Ends.{pair_calls};
 ghost use Rattle.socket_links.specs.Links.{IsCarriedOver};
 ghost use Rattle.upload_core.specs.Calls.{upload_calls};
-ghost use Rattle.grid_shares.specs.Placing.{MadeShares, ArePlaced, AreUploaded};
+ghost use Rattle.grid_shares.specs.Placing.{ArePlaced, AreUploaded};
 ghost use Rattle.grid_shares.specs.Puts.{stored_status};
 
 use crate::mending::clear_servers;
@@ -20,13 +20,12 @@ use grid_servers::{Durability, FIRST_SESSION, Purpose, open_servers, servers_wit
 use grid_telling::{Counting, Progress, Verb, note_servers};
 use std::alloc::Global;
 use std::io::{IsTerminal, Write};
-use std::marker::Model;
 use std::net::Net;
 use std::random::RandomSource;
 use std::rt::{Clock, Files};
-use upload_core::Upload;
 use upload_core::pieces::Pieces;
 use upload_core::status::UploadGoal;
+use upload_core::{ReadyUpload, Upload};
 use wire::message::NodeId;
 
 /// The exit status where a share that is none of the file's could not be set aside.
@@ -57,70 +56,6 @@ pub(crate) struct Placing<'a> {
     pub verb: Verb,
 }
 
-/// The shares of a file, all made: where their bytes come from, what they have to be, and how many
-/// servers are to hold one of their own.
-#[derive(Drop)]
-pub(crate) struct Made<P: Pieces + Drop> {
-    pieces: P,
-    goal: UploadGoal,
-    happy: u16,
-}
-
-impl<P: Pieces + Drop> Model for Made<P> {
-    ghost use Rattle.std.specs.Prelude.{◌≡◌};
-    ghost use Rattle.grid_shares.specs.Placing.{MadeShares};
-
-    ghost Value = { MadeShares P };
-
-    ghost view = { λ m. record { pieces = m.pieces; goal = m.goal; happy = m.happy } };
-
-    ghost invariant = { λ m. (P.digests m.pieces ≡ m.goal.digests)
-        × (P.share_length m.pieces ≡ m.goal.share_length) };
-}
-
-impl<P: Pieces + Drop> Made<P> {
-    /// The pieces are those of the goal's shares.
-    pub(crate) fn new(pieces: P, goal: UploadGoal, happy: u16) -> Made<P>
-        requires own { P.digests pieces ≡ goal.digests }
-        requires long { P.share_length pieces ≡ goal.share_length }
-        ensures { result ≡ record { pieces = pieces; goal = goal; happy = happy } }
-    {
-        Made {
-            pieces,
-            goal,
-            happy,
-        }
-    }
-
-    /// The bytes of all shares together.
-    fn bytes(&self) -> u64
-        ensures { result ≡ min (self.now.goal.share_length * length self.now.goal.digests)
-            (2 ^ 64 - 1) }
-    {
-        let shares = self.goal.share_count() as u64;
-        self.goal.share_length().get().saturating_mul(shares)
-    }
-
-    /// How many turns of the loop their upload may take.
-    fn turns(&self) -> u64 {
-        let shares = self.goal.share_count() as u64;
-        turn_limit(shares, self.goal.share_length().get())
-    }
-
-    /// Begins their upload to these servers, which are distinct.
-    fn begin(self, alloc: Global, servers: &[NodeId], now: u64) -> Result<Upload<P>, Fault>
-        requires { IsDistinct nat_eq servers.now }
-        ensures begins { IfOk result (λ upload. Begins self.goal self.happy
-            (map server_of servers.now) FIRST_SESSION now upload.course) }
-        ensures pieces { IfOk result (λ upload. upload.pieces ≡ self.pieces) }
-    {
-        let infos = servers_of(alloc, servers)?;
-        let (pieces, goal, happy) = (self.pieces, self.goal, self.happy);
-        let begun = Upload::start(alloc, pieces, goal, happy, &infos, FIRST_SESSION, now);
-        Ok(begun?)
-    }
-}
-
 /// What shares that were placed came to.
 #[derive(Clone, Copy)]
 pub(crate) struct Stored {
@@ -147,7 +82,7 @@ impl Stored {
 pub(crate) fn place_shares<R, P, E>(
     rt: &R,
     placing: &Placing<'_>,
-    made: Made<P>,
+    ready: ReadyUpload<P>,
     progress: &mut Progress<'_, R, E>,
 ) -> Result<Stored, Fault>
 where
@@ -157,11 +92,11 @@ where
     requires { IsDistinct nat_eq placing.now.servers.now }
     ensures { IfOk result (ArePlaced (upload_calls P.gives P.fails)
         (IsCarriedOver (pair_calls R.Stream.contents R.Stream.remaining)) placing.now.grid.now
-        placing.now.servers.now made) }
+        placing.now.servers.now ready) }
 {
-    let stuck = clear_servers(rt, placing, &made.goal, progress)?;
+    let stuck = clear_servers(rt, placing, ready.goal(), progress)?;
     let servers = servers_without(rt.alloc(), placing.servers, stuck.as_slice())?;
-    let happiness = upload_to(rt, placing, servers.as_slice(), made, progress)?;
+    let happiness = upload_to(rt, placing, servers.as_slice(), ready, progress)?;
     let is_cleared = stuck.as_slice().is_empty();
     Ok(Stored {
         happiness,
@@ -174,7 +109,7 @@ fn upload_to<R, P, E>(
     rt: &R,
     placing: &Placing<'_>,
     servers: &[NodeId],
-    made: Made<P>,
+    ready: ReadyUpload<P>,
     progress: &mut Progress<'_, R, E>,
 ) -> Result<usize, Fault>
 where
@@ -184,14 +119,44 @@ where
     requires { IsDistinct nat_eq servers.now }
     ensures { IfOk result (AreUploaded (upload_calls P.gives P.fails)
         (IsCarriedOver (pair_calls R.Stream.contents R.Stream.remaining)) placing.now.grid.now
-        servers.now made) }
+        servers.now ready) }
 {
-    progress.begin(placing.verb, Counting::Stored, made.bytes());
+    progress.begin(placing.verb, Counting::Stored, bytes_of(ready.goal()));
     let purpose = Purpose::Writing(placing.durability);
     let mut nodes = open_servers(rt, placing.grid, servers, purpose, placing.net)?;
-    let (happy, turns, now) = (made.happy, made.turns(), nodes.clock());
-    let upload = made.begin(rt.alloc(), servers, now)?;
+    let (happy, turns, now) = (ready.happy(), turns_for(ready.goal()), nodes.clock());
+    let upload = begin(rt.alloc(), ready, servers, now)?;
     let upload = carry_upload(&mut nodes, upload, turns, &mut *progress).map_err(fault_of_loop)?;
     note_servers(rt, placing.grid, servers, &nodes, purpose, progress)?;
     reached_happiness(upload.status(), happy)
+}
+
+// The bytes of all shares together.
+fn bytes_of(goal: &UploadGoal) -> u64
+    ensures { result ≡ min (goal.now.share_length * length goal.now.digests) (2 ^ 64 - 1) }
+{
+    let shares = goal.share_count() as u64;
+    goal.share_length().get().saturating_mul(shares)
+}
+
+// How many turns of the loop their upload may take.
+fn turns_for(goal: &UploadGoal) -> u64 {
+    let shares = goal.share_count() as u64;
+    turn_limit(shares, goal.share_length().get())
+}
+
+// Begins an upload to these servers, which are distinct.
+fn begin<P: Pieces + Drop>(
+    alloc: Global,
+    ready: ReadyUpload<P>,
+    servers: &[NodeId],
+    now: u64,
+) -> Result<Upload<P>, Fault>
+    requires { IsDistinct nat_eq servers.now }
+    ensures begins { IfOk result (λ upload. Begins ready.goal ready.happy
+        (map server_of servers.now) FIRST_SESSION now upload.course) }
+    ensures pieces { IfOk result (λ upload. upload.pieces ≡ ready.pieces) }
+{
+    let infos = servers_of(alloc, servers)?;
+    Ok(ready.start(alloc, &infos, FIRST_SESSION, now)?)
 }

@@ -7,25 +7,25 @@ ghost use Rattle.tagged_hash.specs.ConvergentKey.{IsSecret};
 ghost use Rattle.ueb.specs.Limits.{min_file_size};
 ghost use Rattle.file_encoding.specs.Params.{parameters_of};
 ghost use Rattle.file_streaming.specs.Prepared.{IsPreparedFrom};
-ghost use Rattle.file_upload.specs.Prepared.{prepared_of};
+ghost use Rattle.file_upload.specs.Prepared.{prepared_of, upload_of};
 ghost use Rattle.file_upload.specs.declared.prepared.FileUpload.TheVariants.{Literal, Shares};
 ghost use Rattle.sources.specs.Opened.{GivesOpened};
 ghost use Rattle.socket_links.specs.Ends.{pair_calls};
 ghost use Rattle.socket_links.specs.Links.{IsCarriedOver};
+ghost use Rattle.streamed_upload.specs.Ready.{ready_stream};
 ghost use Rattle.streamed_upload.specs.Streamed.{Streaming};
 ghost use Rattle.upload_core.specs.Calls.{upload_calls};
-ghost use Rattle.grid_shares.specs.Puts.{IsLiteralOf, IsPutOf, IsToldOf, made_of, streamed_of};
+ghost use Rattle.grid_shares.specs.Puts.{IsLiteralOf, IsPutOf, IsToldOf};
 ghost use Rattle.grid_shares.specs.Puts.{IsPutBy, numbers_of, streamed_calls, whole_calls};
 
-use crate::placing::{Made, Placing, Stored, durability_of, place_shares};
-use crate::streaming::make_stream;
+use crate::placing::{Placing, Stored, durability_of, place_shares};
 use crate::{DONE, Environment, Outcome};
 use cap_text::{Cap, LitCap, ReadCap};
 use file_encoding::{MAX_SECRET_SIZE, Params};
-use file_upload::prepared::{FileUpload, PreparedUpload, prepare};
+use file_upload::prepared::{FileUpload, prepare};
 use grid_faults::{Fault, Limit, first_servers, made_line, told_path};
 use grid_marks::{MAX_SERVERS, can_be_grid, grid_servers_count, known_grid, make_grid};
-use grid_rules::becoming::fault_of_encoding;
+use grid_rules::becoming::{fault_of_encoding, fault_of_preparing};
 use grid_servers::{grid_secret, is_new_grid, read_secret_file};
 use grid_telling::{Progress, Verb, note_limits};
 use grid_words::{PutWords, SecretWords};
@@ -35,7 +35,9 @@ use std::io::{self, IsTerminal, Write};
 use std::net::Net;
 use std::random::RandomSource;
 use std::rt::{Clock, Files};
-use upload_core::pieces::{Pieces, WholeShares};
+use streamed_upload::prepared::prepare_stream;
+use upload_core::ReadyUpload;
+use upload_core::pieces::Pieces;
 use user_files::{Input, open_input};
 
 /// The greatest number of shares.
@@ -219,7 +221,7 @@ where
         (secret : List ℕ) × IfSome putting.now.said (λ said. secret ≡ said.now)
         × IsPutOf whole_calls (IsCarriedOver (pair_calls R.Stream.contents R.Stream.remaining))
         putting.now.words.now.grid.now
-        (made_of (prepared_of file.items secret putting.now.params.now))
+        (upload_of (prepared_of file.items secret putting.now.params.now))
         (prepared_of file.items secret putting.now.params.now).cap putting.now.words.now.quiet
         outcome) }
 {
@@ -229,7 +231,7 @@ where
     match encode(rt.alloc(), file, &secret, putting.params)? {
         FileUpload::Shares(upload) => {
             let cap = *upload.cap();
-            place(rt, putting, &cap, made_of(upload), progress)
+            place(rt, putting, &cap, upload.into_upload(), progress)
         }
         FileUpload::Literal(cap) => literal_line(rt.alloc(), cap),
     }
@@ -278,11 +280,13 @@ where
         (parameters_of putting.now.params.now) kept.kept kept.source
         × IsPutOf (streamed_calls S.gives S.failures)
         (IsCarriedOver (pair_calls R.Stream.contents R.Stream.remaining))
-        putting.now.words.now.grid.now (streamed_of kept putting.now.params.now.happy)
+        putting.now.words.now.grid.now (ready_stream kept putting.now.params.now.happy)
         kept.kept.cap putting.now.words.now.quiet outcome) }
 {
-    let (cap, made) = make_stream(rt.alloc(), source, secret, putting.params)?;
-    place(rt, putting, &cap, made, progress)
+    let ready = prepare_stream(rt.alloc(), source, secret, putting.params);
+    let ready = ready.map_err(fault_of_preparing)?;
+    let cap = *ready.pieces().cap();
+    place(rt, putting, &cap, ready, progress)
 }
 
 // Refuses what can be no grid's folder, and where only a grid that is marked is wanted, one that is
@@ -361,22 +365,13 @@ fn encode(alloc: Global, file: Vec<u8>, secret: &[u8], params: &Params) -> Resul
     prepare(alloc, &file, secret, params).map_err(fault_of_encoding)
 }
 
-// The shares of a file that was encoded whole.
-fn made_of(upload: PreparedUpload) -> Made<WholeShares>
-    ensures { result ≡ made_of upload }
-{
-    let happy = upload.happy();
-    let (shares, goal) = upload.into_parts();
-    Made::new(shares, goal, happy)
-}
-
 // Places the shares on the servers of the grid, which is made where it is not there, and gives the
 // lines with the cap and the happiness.
 fn place<R, P, E>(
     rt: &R,
     putting: &Putting<'_>,
     cap: &ReadCap,
-    made: Made<P>,
+    ready: ReadyUpload<P>,
     progress: &mut Progress<'_, R, E>,
 ) -> Result<Outcome, Fault>
 where
@@ -385,7 +380,7 @@ where
     E: Write + IsTerminal,
     ensures { IfOk result (IsPutOf (upload_calls P.gives P.fails)
         (IsCarriedOver (pair_calls R.Stream.contents R.Stream.remaining))
-        putting.now.words.now.grid.now made cap.now putting.now.words.now.quiet) }
+        putting.now.words.now.grid.now ready cap.now putting.now.words.now.quiet) }
 {
     let words = putting.words;
     let servers = first_servers(rt.alloc(), servers_for(rt, putting)?)?;
@@ -398,7 +393,7 @@ where
         verb: Verb::Put,
     };
     begin_grid(rt, &placing, progress)?;
-    let stored = place_shares(rt, &placing, made, progress)?;
+    let stored = place_shares(rt, &placing, ready, progress)?;
     progress.clear();
     outcome_of(rt.alloc(), cap, &stored, words.quiet)
 }

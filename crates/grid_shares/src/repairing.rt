@@ -3,33 +3,27 @@
 
 ghost use Rattle.std.specs.Prelude.{◌≡◌, ◌≤◌, ◌<◌, IfOk, map, nat_eq};
 ghost use Rattle.std.specs.List.{IsDistinct};
-ghost use Rattle.file_encoding.specs.Decoded.{IsDecodedFrom};
-ghost use Rattle.file_encoding.specs.Regenerated.{AreRegenerated};
-ghost use Rattle.file_encoding.specs.RemadeLaws.{ArePassing};
 ghost use Rattle.checker.specs.Good.{AreGoodShares};
 ghost use Rattle.socket_links.specs.Ends.{pair_calls};
 ghost use Rattle.socket_links.specs.Links.{IsCarriedOver};
-ghost use Rattle.grid_shares.specs.Repairs.{AreFoundBy, AreMadeOf, IsRepairBy, IsRepairOf};
+ghost use Rattle.grid_shares.specs.Repairs.{AreFoundBy, IsRepairBy, IsRepairOf};
 
 use crate::checking::{carry, literal_outcome, note_report, share_bytes, verify_cap};
-use crate::placing::{Made, Placing, durability_of, place_shares};
+use crate::placing::{Placing, durability_of, place_shares};
 use crate::{Environment, Outcome};
 use cap_text::VerifyCap;
 use checker::Check;
-use file_encoding::{DecodedFile, Share, decode_shares, regenerated_pass, slices_of};
-use file_upload::shares::prepare_shares;
+use file_upload::repair::prepare_repair;
 use grid_faults::{Fault, Limit};
-use grid_rules::becoming::{fault_of_reading, fault_of_shares};
+use grid_rules::becoming::fault_of_repair;
 use grid_rules::read_cap;
 use grid_servers::{FIRST_SESSION, Purpose, asked_servers, open_servers};
 use grid_telling::{Counting, Progress, Verb, note_limits};
 use grid_words::RepairWords;
-use std::alloc::Global;
 use std::io::{IsTerminal, Write};
 use std::net::Net;
 use std::random::RandomSource;
 use std::rt::{Clock, Files};
-use upload_core::pieces::WholeShares;
 
 /// The greatest number of shares, and so of servers that may be wanted.
 const MAX_SHARES: u64 = 256;
@@ -115,8 +109,8 @@ where
 {
     let good = find_good(rt, placing, cap, progress)?;
     progress.encode(Verb::Repair, cap.size());
-    let made = make_shares(rt.alloc(), cap, happy, good)?;
-    let stored = place_shares(rt, placing, made, progress)?;
+    let ready = prepare_repair(rt.alloc(), cap, happy, good).map_err(fault_of_repair)?;
+    let stored = place_shares(rt, placing, ready, progress)?;
     progress.clear();
     let line = format!(in rt.alloc(); "happiness {}\n", stored.happiness)?;
     outcome(line.into_bytes(), stored.status())
@@ -164,41 +158,4 @@ where
     let report = check.report(rt.alloc())?.ok_or(Fault::OutOfMemory)?;
     note_report(rt, grid, &report, check.cap().total(), progress)?;
     check.good_shares(rt.alloc())?.ok_or(Fault::OutOfMemory)
-}
-
-// All shares of a file, made anew of these.
-fn make_shares(
-    alloc: Global,
-    cap: &VerifyCap,
-    happy: u16,
-    good: Vec<(u16, Vec<u8>)>,
-) -> Result<Made<WholeShares>, Fault>
-    ensures { IfOk result (AreMadeOf cap.now happy (map (λ s. s.0) good.items)
-        (map (λ s. s.1.items) good.items)) }
-{
-    let shares = remake(alloc, cap, good)?;
-    let ready = prepare_shares(alloc, cap, happy, shares).map_err(fault_of_shares)?;
-    let (pieces, goal) = ready.into_parts();
-    Ok(Made::new(pieces, goal, happy))
-}
-
-// All shares of a file. The good ones are let go before the others are made, and the file with them
-// once they are.
-fn remake(alloc: Global, cap: &VerifyCap, good: Vec<(u16, Vec<u8>)>) -> Result<Vec<Share>, Fault>
-    ensures made { IfOk result (λ shares. AreRegenerated cap.now (map (λ s. s.0) good.items)
-        (map (λ s. s.1.items) good.items) shares.items) }
-    ensures passing { IfOk result (λ shares. ArePassing cap.now shares.items) }
-{
-    let file = decode(alloc, cap, good)?;
-    regenerated_pass();
-    file.make_shares(alloc).map_err(fault_of_reading)
-}
-
-// The file that good shares give.
-fn decode(alloc: Global, cap: &VerifyCap, good: Vec<(u16, Vec<u8>)>) -> Result<DecodedFile, Fault>
-    ensures { IfOk result (IsDecodedFrom cap.now (map (λ s. s.0) good.items)
-        (map (λ s. s.1.items) good.items)) }
-{
-    let given = slices_of(alloc, good.as_slice())?;
-    decode_shares(alloc, cap, given.as_slice()).map_err(fault_of_reading)
 }

@@ -10,7 +10,7 @@ returns-in-Shares-clause-stored g c = λ many. IfOk-weaker c.place.result _ _
     (λ outcome put. (
       c.in_ok-secret.secret.items,
       c.in_ok-secret.ensures.said (subst (λ (n : ℕ). min_file_size ≤ n) (ap length (sym c.as_slice-size.ensures.value)) many),
-      held_put _ c.args.putting.now.words.now.grid.now c.args.putting.now.words.now.quiet c.in_ok-upload.field-0 c.in-Shares.upload (prepared_of c.args.file.items c.in_ok-secret.secret.items c.args.putting.now.params.now) c.made_of.result _
-          c.in-Shares.is (encoded_as c.encode-2.result c.in_ok-upload.field-0 _ _ _ _ c.in_ok-upload.was c.deref.ensures.value (c.encode-2.ensures.shares many)) c.made_of.ensures c.cap.ensures outcome put,
+      held_put _ c.args.putting.now.words.now.grid.now c.args.putting.now.words.now.quiet c.in_ok-upload.field-0 c.in-Shares.upload (prepared_of c.args.file.items c.in_ok-secret.secret.items c.args.putting.now.params.now) c.into_upload.result _
+          c.in-Shares.is (encoded_as c.encode-2.result c.in_ok-upload.field-0 _ _ _ _ c.in_ok-upload.was c.deref.ensures.value (c.encode-2.ensures.shares many)) c.into_upload.ensures c.cap.ensures outcome put,
     ))
     c.place.ensures

@@ -1,0 +1,61 @@
+-- At which servers the way was cleared for shares.
+use Rattle.std.specs.Prelude.{◌≡◌, ℕ, Bool, true, false, List, [], ◌∷◌, None, Some, filter, map}
+use Rattle.std.specs.Prelude.{if◌then◌else◌, option_map}
+use Rattle.std.specs.List.{AllByRecursion}
+use Rattle.share_scrub.specs.Clearing.{IsCleared}
+use Rattle.share_scrub.specs.declared.acts.Act.{Act}
+use Rattle.share_scrub.specs.declared.fate.Wanted.{Wanted}
+use Rattle.share_scrub.specs.declared.mending.Cleared.{Cleared}
+use Rattle.share_scrub.specs.declared.mending.LeftShare.{LeftShare}
+use Rattle.upload_core.specs.State.{Goal}
+use Rattle.grid_shares.specs.declared.mending.Way.{Way}
+use Rattle.grid_shares.specs.declared.mending.Way.TheVariants.{PassedOver, Clear, Stuck}
+
+-- a server is stuck where a share was left
+abbrev pub way_by : List LeftShare → Way
+way_by [] = Clear
+way_by (share ∷ more) = Stuck
+
+-- the way was cleared at a server by some acts in its folder, and this is what it came to
+pub record IsClearedAs (wanted : Wanted) (way : Way) : Type 0 where
+  pub acts : List Act
+  pub cleared : Cleared
+  pub is_cleared : IsCleared wanted cleared acts
+  pub is : way ≡ way_by cleared.left.items
+
+-- a server is passed over, or its way was cleared
+abbrev pub IsWay : Wanted → Way → Type 0
+IsWay wanted PassedOver = Unit
+IsWay wanted Clear = IsClearedAs wanted Clear
+IsWay wanted Stuck = IsClearedAs wanted Stuck
+
+abbrev pub is_stuck : Way → Bool
+is_stuck Stuck = true
+is_stuck Clear = false
+is_stuck PassedOver = false
+
+-- what became of a server
+pub record ServerWay : Type 0 where
+  pub server : ℕ
+  pub way : Way
+
+-- By what became of these servers, one after the other, just those are stuck at which a share was
+-- left.
+pub record AreWays (wanted : Wanted) (servers stuck : List ℕ) : Type 0 where
+  pub entries : List ServerWay
+  pub servers_are : map (λ e. e.server) entries ≡ servers
+  pub each : AllByRecursion (λ e. IsWay wanted e.way) entries
+  pub stuck_are : stuck ≡ map (λ e. e.server) (filter (λ e. is_stuck e.way) entries)
+
+-- The way was cleared for the shares of a goal at these servers: by their length and, where they
+-- are mended, by their digests.
+pub record AreCleared (goal : Goal) (mend : Bool) (servers stuck : List ℕ) : Type 0 where
+  pub wanted : Wanted
+  pub index : wanted.index ≡ goal.cap.storage_index
+  pub length : wanted.length ≡ goal.share_length
+  pub digests : option_map (λ d. d.now) wanted.digests ≡ (if mend then Some goal.digests else None)
+  pub ways : AreWays wanted servers stuck
+
+-- a server by what became of it, where it is stuck
+abbrev pub stuck_by : ℕ → Way → List ℕ
+stuck_by server way = if is_stuck way then server ∷ [] else []
