@@ -1,5 +1,5 @@
 -- One law for all operations that the loop carries: what goes on by each call goes on by all turns, by the answers that came in them.
-use Rattle.std.proofs.Common.{◌≡◌, ◌⊎◌, ℕ, List, [], ◌∷◌, Option, Some, None, refl, sym, subst, inl, inr, ◌∙◌}
+use Rattle.std.proofs.Common.{◌≡◌, ℕ, List, [], ◌∷◌, Option, Some, None, refl, sym, subst, inl, inr, ◌∙◌}
 use Rattle.wire.specs.declared.message.Body.{Body}
 use Rattle.wire.specs.declared.message.Message.{Message}
 use Rattle.request_record.specs.declared.requests.Asked.{Asked}
@@ -9,7 +9,7 @@ use Rattle.request_record.specs.Record.{RequestsState}
 use Rattle.share_store.specs.Calls.{Calls}
 use Rattle.local_grid.specs.Nodes.{Carries}
 use Rattle.local_grid.specs.Turns.{Asks, Course, GoesOn, Hears, LoopState, Turns, later}
-use Rattle.carried_operations.specs.Came.{Brings, Came, CameIn}
+use Rattle.carried_operations.specs.Came.{Brings, Came}
 
 -- ---- records that go on
 

@@ -12,9 +12,9 @@ use share_store::memory::MemoryStore;
 use share_store::store::Store;
 use std::alloc::Global;
 use tagged_hash::share_digest;
-use upload_core::Upload;
 use upload_core::pieces::WholeShares;
 use upload_core::status::{ServerInfo, UploadGoal, UploadStatus};
+use upload_core::{ReadyUpload, Upload};
 use wire::message::{Body, Message, NodeId, ShareId, ShareLength};
 
 // How many bytes each share has: two writes.
@@ -113,7 +113,8 @@ fn begun_at(alloc: Global, happy: u16, servers: &[ServerInfo]) -> Option<Upload<
         digests,
         ShareLength::new(SHARE_LENGTH as u64)?,
     );
-    Upload::start(alloc, shares, goal, happy, servers, 5, 0).ok()
+    let ready = ReadyUpload::new(shares, goal, happy);
+    ready.start(alloc, servers, 5, 0).ok()
 }
 
 // An upload of three shares to the four servers.

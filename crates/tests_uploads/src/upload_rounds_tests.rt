@@ -3,14 +3,20 @@
 
 ghost use Rattle.std.specs.Prelude.{◌≡◌, IfSome, length, map, nat_eq};
 ghost use Rattle.std.specs.List.{IsDistinct};
+ghost use Rattle.carried_operations.specs.Stored.{HasBegun};
 ghost use Rattle.upload_core.specs.declared.status.ServerInfo.{ServerInfo};
 
 use crate::courses::{Asked, Course, asked_by};
 use crate::upload_core_tests::{Conduct, SERVERS, SHARE_LENGTH, begun, share, verify_cap};
 use Conduct::{Full, Honest, ReadOnly, Silent};
 use cap_text::{ReadCap, VerifyCap};
+use carried_operations::keeping::carry_to_keeping;
 use file_encoding::{Params, encode_all};
 use file_upload::prepared::{FileUpload, PreparedUpload, prepare};
+use local_grid::grid::LocalGrid;
+use local_grid::link::MemoryLink;
+use local_grid::node::Node;
+use local_grid::watched::Watch;
 use placement::ServerId;
 use request_record::operation::Operation;
 use server_core::server::Server;
@@ -18,10 +24,10 @@ use share_store::memory::MemoryStore;
 use share_store::store::Store;
 use std::alloc::Global;
 use tagged_hash::share_digest;
-use upload_core::Upload;
 use upload_core::pieces::WholeShares;
 use upload_core::status::{ServerInfo, UploadGoal, UploadStatus};
-use wire::message::{NodeId, ShareId, ShareLength};
+use upload_core::{ReadyUpload, Upload};
+use wire::message::{Message, NodeId, ShareId, ShareLength};
 
 const ONE: [ServerInfo; 1] = [ServerInfo {
     node: 0,
@@ -92,7 +98,8 @@ fn begun_one(alloc: Global, servers: &[ServerInfo]) -> Option<Upload<WholeShares
     let cap = ReadCap::new([1; 16], [2; 32], 1, 1, 39_000).ok()?;
     let length = ShareLength::new(SHARE_LENGTH as u64)?;
     let goal = UploadGoal::new(cap.to_verify(), digests, length);
-    Upload::start(alloc, shares, goal, 1, servers, 5, 0).ok()
+    let ready = ReadyUpload::new(shares, goal, 1);
+    ready.start(alloc, servers, 5, 0).ok()
 }
 
 // A store that keeps one share of the file.
@@ -390,10 +397,13 @@ const UNANSWERED: [(u64, Asked); 4] = [
 ];
 
 // The upload of the file to ten servers, and its verify cap.
-fn begun_ten(alloc: Global) -> Option<(VerifyCap, Upload<WholeShares>)> {
+fn begun_ten(alloc: Global) -> Option<(VerifyCap, Upload<WholeShares>)>
+    ensures { IfSome result (λ begun. HasBegun begun.1.course) }
+{
     let prepared = prepared(alloc)?;
     let cap = prepared.cap().to_verify();
-    Some((cap, prepared.start(alloc, &TEN, 5, 0).ok()?))
+    let upload = prepared.into_upload().start(alloc, &TEN, 5, 0).ok()?;
+    Some((cap, upload))
 }
 
 fn nine_of_ten_are_happy(alloc: Global) -> Option<bool> {
@@ -411,4 +421,51 @@ fn nine_of_ten_are_happy(alloc: Global) -> Option<bool> {
 #[test]
 fn one_silent_server_of_ten(rt: HostRuntime) {
     assert!(rt; nine_of_ten_are_happy(rt.alloc()) == Some(true));
+}
+
+// Nobody looks on.
+#[derive(Drop)]
+struct Nobody;
+
+impl Watch for Nobody {
+    fn asked(&mut self, _server: NodeId, _message: &Message) {}
+
+    fn heard(&mut self, _server: NodeId, _message: &Message) {}
+}
+
+// Ten servers in memory, with links in memory.
+fn ten_nodes(alloc: Global) -> Option<LocalGrid<MemoryStore, MemoryLink>> {
+    let mut nodes = Vec::with_capacity(alloc, 10).ok()?;
+    for _ in 0..10 {
+        let server = Server::start(alloc, MemoryStore::new(alloc), 1_000_000, false);
+        let node = Node::new(server, MemoryLink::new(alloc));
+        nodes.push(Some(node)).ok()?;
+    }
+    Some(LocalGrid::new(alloc, nodes))
+}
+
+// The shares that the loop carries to ten servers are closed there afterwards, each at its own.
+fn ten_keep(alloc: Global) -> Option<bool> {
+    let mut nodes = ten_nodes(alloc)?;
+    let (cap, upload) = begun_ten(alloc)?;
+    let upload = carry_to_keeping(&mut nodes, upload, 10_000, Nobody).ok()?;
+    let encoded = encode_all(alloc, &FILE, b"", &params()?).ok()?;
+    let pairs = happy_pairs(&upload)?;
+    for (server, number) in pairs {
+        let share = ShareId {
+            index: *cap.storage_index(),
+            share: u8::try_from(*number).ok()?,
+        };
+        let node = nodes.nodes().get(usize::from(*server))?.as_ref()?;
+        let bytes = encoded.shares.get(usize::from(*number))?.as_slice();
+        if node.server().store().closed(&share) != Some(share_digest(bytes)) {
+            return Some(false);
+        }
+    }
+    Some(pairs.len() == 10)
+}
+
+#[test]
+fn servers_keep_what_the_loop_carries(rt: HostRuntime) {
+    assert!(rt; ten_keep(rt.alloc()) == Some(true));
 }
