@@ -6,13 +6,10 @@
 #
 # NAME is a crate; without one all crates that have such a folder are taken. Run by hand whenever
 # code or clauses of a crate change. It works on a copy of the files as they are now, and begins
-# with the libraries that checks in this checkout have built. A crate takes what one check of it
-# takes, and then some 10 to 60 seconds an edit.
-#
-# Each edit has a line. One that says that only a proof file names what the edit took away shows
-# nothing of the contract: it counts as told by names. The last line counts the edits, those that
-# were not refused, and those told by names. The status is 0 where each was refused by a goal, 1
-# where one was not, 2 where nothing could be run.
+# with what checks in this checkout have proved and built. tests/wrong-bodies.py says how it tries
+# them, what it prints, and its status, which is 2 also where nothing could be run. A crate takes
+# little more than a check of it from nothing, and then some 20 seconds for each edit that is tried
+# alone.
 
 here=$(cd "$(dirname "$0")/.." && pwd) || exit 2
 cd "$here" || exit 2
@@ -37,18 +34,5 @@ for crate in $(tools/crates-below "$@"); do
         cp -a "crates/$crate/out/rlib" "$room/crates/$crate/out/"
     fi
 done
-for name; do
-    rm -rf "$room/crates/$name/must-fail"
-    mv "$room/crates/$name/wrong-bodies" "$room/crates/$name/must-fail" || exit 2
-done
 
-(cd "$room" && "${RT:-rt}" must-fail "$@" 2>&1) | tee "$room/told" | grep '^rt: must-fail'
-tried=$(grep -c '^rt: must-fail' "$room/told")
-by_names=$(grep -c '^rt: must-fail .*only because a proof file names' "$room/told")
-refused=$(grep -c '^rt: must-fail .*: refused, as it must be' "$room/told")
-if [ "$tried" = 0 ]; then
-    cat "$room/told" >&2
-    exit 2
-fi
-echo "$tried tried, $((tried - refused)) not refused, $by_names told by names alone"
-[ "$refused" = "$tried" ] && [ "$by_names" = 0 ]
+python3 tests/wrong-bodies.py "$room" "$@"
