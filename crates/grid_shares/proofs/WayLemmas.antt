@@ -1,8 +1,8 @@
 -- What became of servers, one after the other.
 use Rattle.std.proofs.Common.{◌≡◌, ℕ, List, [], ◌∷◌, ◌++◌, Bool, true, false, cond, map, filter, refl, sym, subst, ap, ◌∙◌}
 use Rattle.std.specs.List.{AllByRecursion}
-use Rattle.share_scrub.specs.declared.acts.Act.{Act}
-use Rattle.share_scrub.specs.declared.fate.Wanted.{Wanted}
+use Rattle.share_files.specs.declared.acts.Act.{Act}
+use Rattle.share_files.specs.declared.fate.Wanted.{Wanted}
 use Rattle.share_scrub.specs.declared.mending.Cleared.{Cleared}
 use Rattle.share_scrub.specs.declared.mending.LeftShare.{LeftShare}
 use Rattle.share_scrub.specs.Clearing.{IsCleared}

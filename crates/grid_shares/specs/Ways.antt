@@ -3,8 +3,8 @@ use Rattle.std.specs.Prelude.{◌≡◌, ℕ, Bool, true, false, List, [], ◌�
 use Rattle.std.specs.Prelude.{if◌then◌else◌, option_map}
 use Rattle.std.specs.List.{AllByRecursion}
 use Rattle.share_scrub.specs.Clearing.{IsCleared}
-use Rattle.share_scrub.specs.declared.acts.Act.{Act}
-use Rattle.share_scrub.specs.declared.fate.Wanted.{Wanted}
+use Rattle.share_files.specs.declared.acts.Act.{Act}
+use Rattle.share_files.specs.declared.fate.Wanted.{Wanted}
 use Rattle.share_scrub.specs.declared.mending.Cleared.{Cleared}
 use Rattle.share_scrub.specs.declared.mending.LeftShare.{LeftShare}
 use Rattle.upload_core.specs.State.{Goal}

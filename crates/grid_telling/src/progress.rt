@@ -280,7 +280,7 @@ where
     }
 }
 
-impl<'a, R, E> share_scrub::Watch for Progress<'a, R, E>
+impl<'a, R, E> share_files::Watch for Progress<'a, R, E>
 where
     R: Clock + AllocGlobal,
     E: Write + IsTerminal,

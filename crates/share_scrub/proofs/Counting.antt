@@ -1,23 +1,25 @@
 -- What was counted and told, file after file.
 use Rattle.std.proofs.Common.{◌≡◌, ◌∙◌, sym, ap, subst, ℕ, ◌+◌, inl, inr, List, [], ◌∷◌, ◌++◌, Option, Some, map, take, length, get_or, ◌<◌, suc, arith}
 use Rattle.std.specs.List.{AllByRecursion, Contains}
+use Rattle.std.specs.Prelude.{IsErrAnd, Result, Ok, Err}
 use Rattle.std.proofs.Math.Seq.{take-suc}
 use Rattle.std.proofs.lemmas.List.{map-append}
 use Rattle.std.proofs.lemmas.List.Elements.{Contains-append_left, Contains-push}
-use Rattle.share_scrub.specs.declared.acts.Act.{Act}
-use Rattle.share_scrub.specs.declared.acts.Act.TheVariants.{Listed, Unlisted}
-use Rattle.share_scrub.specs.declared.fate.Wanted.{Wanted}
+use Rattle.share_files.specs.declared.acts.Act.{Act}
+use Rattle.share_files.specs.declared.acts.Act.TheVariants.{Listed, Unlisted}
+use Rattle.share_files.specs.declared.fate.Wanted.{Wanted}
 use Rattle.share_scrub.specs.declared.mending.Cleared.{Cleared}
 use Rattle.share_scrub.specs.declared.mending.LeftShare.{LeftShare}
 use Rattle.share_scrub.specs.declared.mending.Outcome.{Outcome}
 use Rattle.share_scrub.specs.declared.mending.Outcome.TheVariants.{Kept, WasSetAside, WasRemoved, WasLeft, WasOdd}
-use Rattle.share_scrub.specs.declared.name.FileKind.{FileKind}
-use Rattle.share_scrub.specs.declared.name.FileKind.TheVariants.{Closed, Open, HalfAside, Aside}
-use Rattle.share_scrub.specs.declared.name.ShareFile.{ShareFile}
-use Rattle.share_scrub.specs.Acts.{IsListing, IsRight, Lists, Was, asides, last_listed, removals}
+use Rattle.share_files.specs.declared.name.FileKind.{FileKind}
+use Rattle.share_files.specs.declared.name.FileKind.TheVariants.{Closed, Open, HalfAside, Aside}
+use Rattle.share_files.specs.declared.name.ShareFile.{ShareFile}
+use Rattle.share_files.specs.Acts.{IsListing, IsRight, Lists, Was, asides, last_listed, removals}
 use Rattle.share_scrub.specs.Clearing.{Counts, IsClearedOf, IsInNoWay, IsTold, asides_after, counted, removed_after}
-use Rattle.share_scrub.specs.Going.{Goes, GoesCounting, IsCountedSo, IsToldBy, outcome_aside, outcome_removed}
-use Rattle.share_scrub.proofs.Going.{away_still, both, found_still, still}
+use Rattle.share_files.specs.Going.{Goes}
+use Rattle.share_scrub.specs.Counted.{Counted, GoesCounting, IsCountedSo, IsToldBy, outcome_aside, outcome_removed}
+use Rattle.share_files.proofs.Going.{away_still, both, found_still, still}
 
 -- ---- what was counted
 
@@ -148,3 +150,8 @@ pub all_taken : {X : Type 0} (P : X → Type 0) (xs : List X) (i : ℕ) (d : X) 
 all_taken P xs i d within all last =
     let one_more : i + 1 ≡ suc i = omega arith in
     subst (AllByRecursion P) (sym (ap (λ (n : ℕ). take n xs) one_more ∙ take-suc xs i d within)) (all_push P (take i xs) (get_or xs i d) all last)
+
+-- what a call that failed comes to
+pub err_counted : {E : Type 0} (wanted : Option Wanted) (s t : List Act) (P : E → Type 0) (r : Result Outcome E) → IsErrAnd r P → Goes wanted 0 0 s t → Counted wanted s t r
+err_counted wanted s t P (Ok outcome) is goes = absurd is
+err_counted wanted s t P (Err e) is goes = goes

@@ -2,18 +2,17 @@
 use Rattle.std.specs.Prelude.{◌≡◌, ℕ, ◌+◌, ◌-◌, ◌^◌, ◌⊎◌, min, map, List, [], ◌∷◌, ◌++◌}
 use Rattle.std.specs.Prelude.{Some}
 use Rattle.std.specs.List.{Contains, AllByRecursion}
-use Rattle.share_scrub.specs.declared.acts.Act.{Act}
-use Rattle.share_scrub.specs.declared.acts.Act.TheVariants.{Gone, Moved}
-use Rattle.share_scrub.specs.declared.fate.Wanted.{Wanted}
+use Rattle.share_files.specs.declared.acts.Act.{Act}
+use Rattle.share_files.specs.declared.fate.Wanted.{Wanted}
 use Rattle.share_scrub.specs.declared.mending.Cleared.{Cleared}
 use Rattle.share_scrub.specs.declared.mending.LeftShare.{LeftShare}
 use Rattle.share_scrub.specs.declared.mending.Outcome.{Outcome}
 use Rattle.share_scrub.specs.declared.mending.Outcome.TheVariants.{Kept, WasSetAside, WasRemoved}
 use Rattle.share_scrub.specs.declared.mending.Outcome.TheVariants.{WasLeft, WasOdd}
-use Rattle.share_scrub.specs.declared.name.FileKind.{FileKind}
-use Rattle.share_scrub.specs.declared.name.FileKind.TheVariants.{Closed}
-use Rattle.share_scrub.specs.declared.name.ShareFile.{ShareFile}
-use Rattle.share_scrub.specs.Acts.{AreAllowed, IsRight, Was, asides, last_listed, removals}
+use Rattle.share_files.specs.declared.name.FileKind.{FileKind}
+use Rattle.share_files.specs.declared.name.FileKind.TheVariants.{Closed}
+use Rattle.share_files.specs.declared.name.ShareFile.{ShareFile}
+use Rattle.share_files.specs.Acts.{AreAllowed, IsAway, IsRight, asides, last_listed, removals}
 
 -- one more, up to the most that are counted
 abbrev pub one_more : ℕ → ℕ
@@ -56,10 +55,6 @@ pub record Counts (share : ℕ) (outcome : Outcome) (s t : Cleared) : Type 0 whe
   pub odd : t.odd.items ≡ s.odd.items ++ odd_by share outcome
 
 -- ---- what was done by then
-
--- a closed share's file is away: none stands under its name, or it got another
-abbrev pub IsAway : ShareFile → List Act → Type 0
-IsAway file acts = Was (Gone file) acts ⊎ ((to : ShareFile) × Was (Moved file to) acts)
 
 -- it is in nobody's way: it is away, or right
 abbrev pub IsInNoWay : Wanted → ShareFile → List ℕ → List Act → Type 0

@@ -1,7 +1,7 @@
 -- What a scrub of a folder finds.
 use Rattle.std.specs.Prelude.{◌≡◌, List, Option, Some}
 use Rattle.share_store.specs.Shelf.{ShareKey}
-use Rattle.share_scrub.specs.declared.name.ShareFile.{ShareFile}
+use Rattle.share_files.specs.declared.name.ShareFile.{ShareFile}
 use Rattle.share_scrub.specs.declared.folder.Action.TheVariants.{Left, Done, Failed}
 use Rattle.share_scrub.specs.declared.folder.State.{State}
 use Rattle.share_scrub.specs.declared.folder.State.TheVariants.{Whole, Damaged, Unreadable, Odd}

@@ -5,15 +5,12 @@ ghost use Rattle.std.specs.Prelude.{IsOkUnless, OnErr, None, Some, true};
 ghost use Rattle.std.specs.Bool.{OnTrue};
 ghost use Rattle.share_store.specs.declared.error.StoreError.{StoreError};
 ghost use Rattle.share_store.specs.Shelf.{ShareKey};
-ghost use Rattle.share_scrub.specs.declared.name.ShareFile.{ShareFile};
+ghost use Rattle.share_files.specs.declared.name.ShareFile.{ShareFile};
 ghost use Rattle.share_scrub.specs.Scrub.{IsKeptUnless, whole_after};
 
-use crate::acts::Standing;
-use crate::aside::{Went, closed_fate, set_aside, settle};
-use crate::bytes::Watch;
-use crate::fate::Fate;
-use crate::files::FolderFiles;
-use crate::name::{FileKind, ShareFile};
+use share_files::{
+    Fate, FileKind, FolderFiles, ShareFile, Standing, Watch, Went, closed_fate, set_aside, settle,
+};
 use share_folders::names::{ClosedName, OwnToken};
 use share_store::error::StoreError;
 use share_store::shelf::ShareKey;

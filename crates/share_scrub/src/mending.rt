@@ -6,21 +6,20 @@ ghost use Rattle.std.specs.IoError.{error_kind};
 ghost use Rattle.std.specs.declared.io.ErrorKind.TheVariants.{NotFound, OutOfMemory};
 ghost use Rattle.share_store.specs.declared.error.StoreError.{StoreError};
 ghost use Rattle.std.specs.List.{AllByRecursion};
-ghost use Rattle.share_scrub.specs.declared.fate.Wanted.{Wanted};
-ghost use Rattle.share_scrub.specs.declared.name.FileKind.TheVariants.{Closed};
-ghost use Rattle.share_scrub.specs.Acts.{AreAllowed, IsOf, is_open, last_listed};
-ghost use Rattle.share_scrub.specs.Clearing.{Counts, IsAway, IsCleared, IsClearedOf};
-ghost use Rattle.share_scrub.specs.Going.{Counted, Goes, GoesCounting, IsCountedSo};
-ghost use Rattle.share_scrub.specs.Going.{IsToldBy, outcome_aside, outcome_removed};
-ghost use Rattle.share_scrub.specs.Name.{closed_file};
+ghost use Rattle.share_files.specs.declared.fate.Wanted.{Wanted};
+ghost use Rattle.share_files.specs.declared.name.FileKind.TheVariants.{Closed};
+ghost use Rattle.share_files.specs.Acts.{AreAllowed, IsAway, IsOf, is_open, last_listed};
+ghost use Rattle.share_files.specs.Going.{Goes};
+ghost use Rattle.share_files.specs.Name.{closed_file};
+ghost use Rattle.share_scrub.specs.Clearing.{Counts, IsCleared, IsClearedOf};
+ghost use Rattle.share_scrub.specs.Counted.{Counted, GoesCounting, IsCountedSo, IsToldBy};
+ghost use Rattle.share_scrub.specs.Counted.{outcome_aside, outcome_removed};
 ghost use Rattle.share_scrub.specs.declared.mending.Outcome.TheVariants.{Kept, WasLeft};
 
-use crate::acts::Standing;
-use crate::aside::{Went, closed_fate, set_aside, settle};
-use crate::bytes::Watch;
-use crate::fate::{Fate, Wanted};
-use crate::files::FolderFiles;
-use crate::name::{FileKind, ShareFile};
+use share_files::{
+    Fate, FileKind, FolderFiles, ShareFile, Standing, Wanted, Watch, Went, closed_fate, set_aside,
+    settle,
+};
 use share_folders::names::ClosedName;
 use share_store::error::StoreError;
 use std::alloc::Global;

@@ -1,6 +1,6 @@
 //! What is read, and whether it has a digest. The digests were computed by Python's hashlib.
 
-use share_scrub::{Verdict, Watch, check_bytes};
+use share_files::{Verdict, Watch, check_bytes};
 use std::io;
 use std::io::{ErrorKind, Read};
 use std::test::Fail;

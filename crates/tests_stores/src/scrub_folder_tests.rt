@@ -2,10 +2,8 @@
 
 use crate::scrub_bytes_tests::{Count, EMPTY, THREE};
 use crate::synced_tests::{NotedFiles, Step, Steps};
-use share_scrub::{
-    Action, Cleared, FileKind, Finding, FolderFiles, Handling, OPEN_SECONDS, Scrub, ShareFile,
-    State, Wanted, clear_way,
-};
+use share_files::{FileKind, FolderFiles, OPEN_SECONDS, ShareFile, Wanted};
+use share_scrub::{Action, Cleared, Finding, Handling, Scrub, State, clear_way};
 use share_store::error::StoreError;
 use std::alloc::AllocError;
 use std::io::ErrorKind;

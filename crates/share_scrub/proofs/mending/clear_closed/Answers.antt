@@ -1,5 +1,6 @@
 use Rattle.std.proofs.Common.{Some}
-use Rattle.share_scrub.proofs.Going.{before, err_counted}
+use Rattle.share_files.proofs.Going.{before}
+use Rattle.share_scrub.proofs.Counting.{err_counted}
 use Rattle.share_scrub.proofs.mending.clear_closed.Goals as goal
 
 pub returns-in_err-closed_fate-clause-goes : goal.returns-in_err-closed_fate-clause-goes

@@ -1,5 +1,5 @@
 use Rattle.std.proofs.Common.{Some, ap}
-use Rattle.share_scrub.specs.Acts.{is_open}
+use Rattle.share_files.specs.Acts.{is_open}
 use Rattle.share_scrub.proofs.mending.clear_file.Goals as goal
 
 pub returns-in-Open-clause-goes : goal.returns-in-Open-clause-goes

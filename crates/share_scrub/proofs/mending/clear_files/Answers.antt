@@ -1,6 +1,6 @@
 use Rattle.std.proofs.Common.{[], take, get_or}
-use Rattle.share_scrub.specs.declared.name.FileKind.TheVariants.{Closed}
-use Rattle.share_scrub.specs.declared.name.ShareFile.{ShareFile}
+use Rattle.share_files.specs.declared.name.FileKind.TheVariants.{Closed}
+use Rattle.share_files.specs.declared.name.ShareFile.{ShareFile}
 use Rattle.share_scrub.specs.Clearing.{IsClearedOf}
 use Rattle.share_scrub.proofs.Counting.{all_still, all_taken, cleared_now, cleared_still, none_yet, one_more_file}
 use Rattle.share_scrub.proofs.mending.clear_files.Goals as goal

@@ -1,7 +1,7 @@
 use Rattle.std.proofs.Common.{take}
 use Rattle.std.specs.List.{AllByRecursion}
 use Rattle.share_scrub.specs.Clearing.{IsClearedOf}
-use Rattle.share_scrub.specs.Going.{GoesCounting}
+use Rattle.share_scrub.specs.Counted.{GoesCounting}
 use Rattle.share_scrub.proofs.mending.clear_files.Given as goal
 
 -- what was counted so far is what was done, and each file so far is in nobody's way, or told

@@ -1,5 +1,5 @@
 use Rattle.std.proofs.Common.{refl}
-use Rattle.share_scrub.proofs.Going.{same_index}
+use Rattle.share_files.proofs.Going.{same_index}
 use Rattle.share_scrub.proofs.mending.settle_file.Goals as goal
 
 pub returns-in-Ok-Aside : goal.returns-in-Ok-Aside

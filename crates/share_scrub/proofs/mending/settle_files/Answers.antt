@@ -1,6 +1,6 @@
 use Rattle.std.proofs.Common.{Some, [], get_or}
-use Rattle.share_scrub.specs.declared.name.FileKind.TheVariants.{Closed}
-use Rattle.share_scrub.specs.declared.name.ShareFile.{ShareFile}
+use Rattle.share_files.specs.declared.name.FileKind.TheVariants.{Closed}
+use Rattle.share_files.specs.declared.name.ShareFile.{ShareFile}
 use Rattle.share_scrub.proofs.Counting.{none_yet, one_more_file}
 use Rattle.share_scrub.proofs.mending.settle_files.Goals as goal
 

@@ -1,4 +1,4 @@
-use Rattle.share_scrub.specs.Going.{GoesCounting}
+use Rattle.share_scrub.specs.Counted.{GoesCounting}
 use Rattle.share_scrub.proofs.mending.settle_files.Given as goal
 
 -- what was counted so far is what was done

@@ -1,5 +1,5 @@
 use Rattle.std.proofs.Common.{◌≡◌, ◌++◌, List, length}
-use Rattle.share_scrub.specs.declared.name.ShareFile.{ShareFile}
+use Rattle.share_files.specs.declared.name.ShareFile.{ShareFile}
 use Rattle.share_scrub.proofs.folder.Scrub.next.Given as goal
 
 -- the files that stood behind those that are left were passed over, and none of them was whole

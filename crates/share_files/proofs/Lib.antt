@@ -1,0 +1,2 @@
+mod AsideNames
+pub mod Going

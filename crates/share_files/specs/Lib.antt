@@ -1,0 +1,12 @@
+-- What public contracts rest on.
+pub mod Verdict
+pub mod Name
+pub mod Fates
+pub mod Acts
+pub mod Going
+pub mod Order
+-- The words of private clauses.
+pub mod Reading
+pub mod Failures
+pub mod ActsState
+pub mod Steps
