@@ -6,9 +6,10 @@ ghost use Rattle.std.specs.IoError.{error_kind};
 ghost use Rattle.std.specs.declared.io.ErrorKind.TheVariants.{NotFound, OutOfMemory};
 ghost use Rattle.share_store.specs.declared.error.StoreError.{StoreError};
 ghost use Rattle.std.specs.List.{AllByRecursion};
+ghost use Rattle.share_files.specs.declared.acts.Act.TheVariants.{Unlisted};
 ghost use Rattle.share_files.specs.declared.fate.Wanted.{Wanted};
 ghost use Rattle.share_files.specs.declared.name.FileKind.TheVariants.{Closed};
-ghost use Rattle.share_files.specs.Acts.{AreAllowed, IsAway, IsOf, is_open, last_listed};
+ghost use Rattle.share_files.specs.Acts.{AreAllowed, IsAway, IsOf, Was, is_open, last_listed};
 ghost use Rattle.share_files.specs.Going.{Goes};
 ghost use Rattle.share_files.specs.Name.{closed_file};
 ghost use Rattle.share_scrub.specs.Clearing.{Counts, IsCleared, IsClearedOf};
@@ -118,6 +119,8 @@ where
     requires { files.old ≡ [] }
     ensures cleared { IfOk result (λ cleared. IsCleared wanted.entry.now cleared files.new) }
     ensures allowed { AreAllowed (Some wanted.entry.now) files.new }
+    ensures unread { IfErr result
+        (λ e. e ≡ StoreError.StoreFault → Was Unlisted files.new) }
 {
     let mut cleared = Cleared::new(files.alloc());
     let listed = settle_all(files, wanted, &mut cleared, watch)?;
@@ -142,6 +145,8 @@ where
     ensures listed { IfOk result (λ listed. last_listed files.new ≡ Some listed.items) }
     ensures index { IfOk result
         (λ listed. All (λ f. f.key.0 ≡ wanted.entry.now.index) listed.items) }
+    ensures unread { IfErr result
+        (λ e. e ≡ StoreError.StoreFault → Was Unlisted files.new) }
 {
     let listed = files.list(&wanted.index)?;
     if settle_files(files, listed.as_slice(), wanted, cleared, watch)? {
@@ -168,6 +173,7 @@ where
         → AreAllowed (Some wanted.entry.now) files.new }
     ensures counted { IfOk result (λ _.
         GoesCounting wanted.entry.now cleared.old cleared.new files.old files.new) }
+    ensures memory { IsOkUnless result StoreError.OutOfMemory }
 {
     let mut are_some = false;
     for file in listed {
@@ -187,8 +193,9 @@ fn settle_file<R, W>(
 where
     R: Files + RandomSource + AllocGlobal + Clone + Drop,
     W: Watch,
-    ensures { (wanted : Option Wanted) → IsOf wanted file.now
+    ensures counted { (wanted : Option Wanted) → IsOf wanted file.now
         → Counted wanted files.old files.new result }
+    ensures memory { IsOkUnless result StoreError.OutOfMemory }
 {
     let FileKind::HalfAside(digest, own) = &file.kind else {
         return Ok(Outcome::Kept);
@@ -220,6 +227,7 @@ where
         GoesCounting wanted.entry.now cleared.old cleared.new files.old files.new) }
     ensures each { IfOk result (λ _. AllByRecursion
         (λ f. IsClearedOf wanted.entry.now cleared.new files.new f f.kind) listed.now) }
+    ensures memory { IsOkUnless result StoreError.OutOfMemory }
 {
     for file in listed {
         let outcome = clear_file(files, file, wanted, watch)?;
