@@ -1,0 +1,12 @@
+mod Durable
+mod OwnNames
+mod Kept
+mod Held
+mod Beside
+mod Moments
+mod Read
+mod Changes
+mod Replays
+mod Alone
+mod Named
+mod Polite

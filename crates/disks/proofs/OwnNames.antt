@@ -1,0 +1,78 @@
+-- A name of this program's own through its calls.
+use Rattle.std.proofs.Common.{◌≡◌, ℕ, List, [], sym, ◌∙◌, ap, subst}
+use Rattle.std.specs.Prelude.{Option, Some, None, true, false, All}
+use Rattle.std.proofs.lemmas.List.Elements.{All-cons, All-nil}
+use Rattle.disks.specs.Names.{Name, lasts}
+use Rattle.disks.specs.Folder.{Folder, FileState, StandsFor, IsDurable, IsOwn}
+use Rattle.disks.specs.Steps.{Changes, Renames, SyncsFolder}
+use Rattle.disks.specs.Others.{Others, Steps}
+use Rattle.disks.specs.Calls.{Stays}
+
+pub others_own : (s t : Folder) (name : Name) (i : ℕ) (f : FileState)
+    → Others s t → IsOwn s name i f → IsOwn t name i f
+others_own s t name i f others own = record {
+  own = others.own name ∙ own.own;
+  found = others.own_names name own.own ∙ own.found;
+  file_is = others.own_files name i own.own own.found ∙ own.file_is;
+}
+
+-- nothing was changed
+pub stays_own : (s t : Folder) (name : Name) (i : ℕ) (f : FileState) → Steps Stays s t → IsOwn s name i f → IsOwn t name i f
+stays_own s t name i f steps own =
+    others_own steps.after t name i f steps.then
+    (subst (λ (u : Folder). IsOwn u name i f) (sym steps.step) (others_own s steps.before name i f steps.first own))
+
+-- a change of the own file
+pub changes_own : (i : ℕ) (change : FileState → FileState) (s t : Folder) (name : Name) (f : FileState)
+    → Steps (Changes i change) s t → IsOwn s name i f → IsOwn t name i (change f)
+changes_own i change s t name f steps own =
+    let u = others_own s steps.before name i f steps.first own in
+    let at = steps.step.names name in
+    others_own steps.after t name i (change f) steps.then (record {
+      own = at.own ∙ u.own;
+      found = at.found ∙ u.found;
+      file_is = steps.step.file ∙ ap change u.file_is;
+    })
+
+-- the own file, whose bytes are on the disk, has a name that lasts
+pub renames_stands : (from to : Name) (s t : Folder) (i : ℕ) (bytes : List ℕ) → lasts to ≡ true
+    → Steps (Renames from to) s t
+    → IsOwn s from i (record { bytes = bytes; is_synced = true; is_finished = false })
+    → StandsFor t bytes (t.found to)
+renames_stands from to s t i bytes lasting steps own =
+    let u = others_own s steps.before from i _ steps.first own in
+    let r = steps.step in
+    let same : Some r.inode ≡ Some i = sym r.was ∙ u.found in
+    let file : steps.after.file r.inode ≡ record { bytes = bytes; is_synced = true; is_finished = true } =
+    r.file ∙ ap (λ (f : FileState). record f { is_finished = true }) (file_at steps.before r.inode i _ same u.file_is) in
+    steps.then.settled to bytes lasting (subst (StandsFor steps.after bytes) (sym r.found) file)
+  where
+    file_at : (s : Folder) (i j : ℕ) (f : FileState) → Some i ≡ Some j → s.file j ≡ f → s.file i ≡ f
+    file_at s i j f same is = subst (λ (o : Option ℕ). FileOf s f o) (sym same) is
+      where
+        FileOf : Folder → FileState → Option ℕ → Type 0
+        FileOf s f None = ⊥
+        FileOf s f (Some k) = s.file k ≡ f
+
+-- what stands under a name that lasts is durable once the folder's names are on the disk
+pub syncs_durable : (s t : Folder) (name : Name) (bytes : List ℕ) → lasts name ≡ true
+    → Steps SyncsFolder s t → StandsFor s bytes (s.found name) → IsDurable t name bytes
+syncs_durable s t name bytes lasting steps stands =
+    let u = steps.first.settled name bytes lasting stands in
+    let v : StandsFor steps.after bytes (steps.before.found name) = same_files steps.before steps.after bytes (steps.before.found name) steps.step.files u in
+    steps.then.durable name bytes lasting (record {
+      now = subst (StandsFor steps.after bytes) (sym (steps.step.found name)) v;
+      later = subst (λ (l : List (Option ℕ)). All (StandsFor steps.after bytes) l) (sym (steps.step.left name))
+          (All-cons (StandsFor steps.after bytes) _ [] v (All-nil (StandsFor steps.after bytes)));
+    })
+  where
+    same_files : (s t : Folder) (bytes : List ℕ) (o : Option ℕ) → ((i : ℕ) → t.file i ≡ s.file i) → StandsFor s bytes o → StandsFor t bytes o
+    same_files s t bytes None same stands = stands
+    same_files s t bytes (Some i) same stands = same i ∙ stands
+
+-- what stands under a name that lasts does so where nothing was changed
+pub stays_stand : (s t : Folder) (name : Name) (bytes : List ℕ) → lasts name ≡ true → Steps Stays s t
+    → StandsFor s bytes (s.found name) → StandsFor t bytes (t.found name)
+stays_stand s t name bytes lasting steps stands =
+    steps.then.settled name bytes lasting
+    (subst (λ (u : Folder). StandsFor u bytes (u.found name)) (sym steps.step) (steps.first.settled name bytes lasting stands))

@@ -1,0 +1,28 @@
+use Rattle.std.specs.Prelude.{Result, Ok, Err, OnOk, ℕ, List, true}
+use Rattle.std.proofs.Common.{◌≡◌}
+use Rattle.disks.specs.declared.error.DiskError.{DiskError}
+use Rattle.disks.specs.Names.{Name, lasts}
+use Rattle.disks.specs.Folder.{Folder, StandsFor, IsDurable}
+use Rattle.disks.specs.Steps.{SyncsFolder, MaySyncFolder}
+use Rattle.disks.specs.Calls.{Does}
+use Rattle.disks.proofs.Held.{held_on, folder_held, sync_names_held}
+use Rattle.disks.proofs.OwnNames.{stays_stand, syncs_durable}
+use Rattle.disks.proofs.opening.sync_names.Goals as goal
+
+synced : (r : Result Unit DiskError) (s t : Folder) (name : Name) (bytes : List ℕ) → lasts name ≡ true → Does SyncsFolder MaySyncFolder r s t
+    → StandsFor s bytes (s.found name) → OnOk r (IsDurable t name bytes)
+synced (Ok u) s t name bytes lasting does stands = syncs_durable s t name bytes lasting does stands
+synced (Err e) s t name bytes lasting does stands = tt
+
+pub returns-clause-durable : goal.returns-clause-durable
+returns-clause-durable g c honest name bytes lasting stands =
+    let opened = c.in_ok-folder.ensures.gives (c.sync_folder.ensures.so_far honest) in
+    synced c.sync_folder.result _ _ name bytes lasting (c.sync_folder.ensures.gives honest) (stays_stand _ _ name bytes lasting opened stands)
+
+pub returns-in_err-folder-clause-stays : goal.returns-in_err-folder-clause-stays
+returns-in_err-folder-clause-stays g c honest = folder_held c.open_folder.result _ _ (c.open_folder.ensures.gives honest)
+
+pub returns-clause-stays : goal.returns-clause-stays
+returns-clause-stays g c honest =
+    held_on _ _ _ (folder_held c.open_folder.result _ _ (c.open_folder.ensures.gives (c.sync_folder.ensures.so_far honest)))
+    (sync_names_held c.sync_folder.result _ _ (c.sync_folder.ensures.gives honest))

@@ -1,0 +1,26 @@
+use Rattle.disks.proofs.Held.{held_on, created_held}
+use Rattle.disks.proofs.own.begin.Goals as goal
+
+pub returns-in_err-remove_regular-clause-kept : goal.returns-in_err-remove_regular-clause-kept
+returns-in_err-remove_regular-clause-kept g c honest =
+    held_on _ _ _ (created_held g.D.Disk.inode c.args.name.now c.create.result _ _ c.requires.passing (c.create.ensures.gives (c.remove_regular.ensures.so_far honest)))
+    (c.remove_regular.ensures.kept honest)
+
+pub returns-clause-kept : goal.returns-clause-kept
+returns-clause-kept g c honest =
+    let removed = c.create-2.ensures.so_far honest in
+    let first = c.remove_regular.ensures.so_far removed in
+    held_on _ _ _ (created_held g.D.Disk.inode c.args.name.now c.create.result _ _ c.requires.passing (c.create.ensures.gives first))
+    (held_on _ _ _ (c.remove_regular.ensures.kept removed)
+    (created_held g.D.Disk.inode c.args.name.now c.create-2.result _ _ c.requires.passing (c.create-2.ensures.gives honest)))
+
+pub returns-in-Ok-clause-kept : goal.returns-in-Ok-clause-kept
+returns-in-Ok-clause-kept g c honest = created_held g.D.Disk.inode c.args.name.now c.create.result _ _ c.requires.passing (c.create.ensures.gives honest)
+
+pub returns-in-Err : goal.returns-in-Err
+returns-in-Err g c = record {
+  place = c.create.ensures.place;
+  so_far = c.create.ensures.so_far;
+  begun = λ honest. tt;
+  kept = λ honest. created_held g.D.Disk.inode c.args.name.now c.create.result _ _ c.requires.passing (c.create.ensures.gives honest);
+}

@@ -1,0 +1,32 @@
+-- What holds of folders.
+use Rattle.std.specs.Prelude.{◌≡◌, ◌≢◌, ℕ, List, Some, true}
+use Rattle.disks.specs.Names.{Name, lasts}
+use Rattle.disks.specs.Folder.{Folder, HasBytes, IsDurable, Crashes}
+
+-- What is durable stays so through a crash.
+abbrev pub DurableOutlasts : Type 0
+DurableOutlasts = (s t : Folder) (name : Name) (bytes : List ℕ)
+    → IsDurable s name bytes → Crashes s t → IsDurable t name bytes
+
+-- What names that last stand for, what finished files have, and what is durable stays so.
+pub record StaysHeld (s t : Folder) : Type 0 where
+  pub names : (name : Name) (bytes : List ℕ) → lasts name ≡ true
+      → HasBytes s bytes (s.found name) → HasBytes t bytes (t.found name)
+  pub files : (i : ℕ) (bytes : List ℕ) → HasBytes s bytes (Some i) → HasBytes t bytes (Some i)
+  pub durable : (name : Name) (bytes : List ℕ) → lasts name ≡ true
+      → IsDurable s name bytes → IsDurable t name bytes
+
+-- What finished files have stays so.
+abbrev pub FilesStay : Folder → Folder → Type 0
+FilesStay s t = (i : ℕ) (bytes : List ℕ) → HasBytes s bytes (Some i) → HasBytes t bytes (Some i)
+
+-- What is durable under the names that last stays so, but that what stood under this one stays only
+-- where it has these bytes.
+abbrev pub KeepsBut : Name → List ℕ → Folder → Folder → Type 0
+KeepsBut last bytes s t = (name : Name) (kept : List ℕ) → lasts name ≡ true
+    → (name ≡ last → kept ≡ bytes) → IsDurable s name kept → IsDurable t name kept
+
+-- What is durable under the names that last stays so, but under this one.
+abbrev pub KeepsBeside : Name → Folder → Folder → Type 0
+KeepsBeside last s t = (name : Name) (bytes : List ℕ) → lasts name ≡ true
+    → name ≢ last → IsDurable s name bytes → IsDurable t name bytes
