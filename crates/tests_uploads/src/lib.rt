@@ -5,6 +5,8 @@
 #[cfg(test)]
 mod courses;
 #[cfg(test)]
+mod kept_tests;
+#[cfg(test)]
 mod placement_tests;
 #[cfg(test)]
 mod upload_core_tests;

@@ -10,13 +10,8 @@ use crate::courses::{Asked, Course, asked_by};
 use crate::upload_core_tests::{Conduct, SERVERS, SHARE_LENGTH, begun, share, verify_cap};
 use Conduct::{Full, Honest, ReadOnly, Silent};
 use cap_text::{ReadCap, VerifyCap};
-use carried_operations::keeping::carry_to_keeping;
-use file_encoding::{Params, encode_all};
+use file_encoding::{Encoded, Params, encode_all};
 use file_upload::prepared::{FileUpload, PreparedUpload, prepare};
-use local_grid::grid::LocalGrid;
-use local_grid::link::MemoryLink;
-use local_grid::node::Node;
-use local_grid::watched::Watch;
 use placement::ServerId;
 use request_record::operation::Operation;
 use server_core::server::Server;
@@ -27,7 +22,7 @@ use tagged_hash::share_digest;
 use upload_core::pieces::WholeShares;
 use upload_core::status::{ServerInfo, UploadGoal, UploadStatus};
 use upload_core::{ReadyUpload, Upload};
-use wire::message::{Message, NodeId, ShareId, ShareLength};
+use wire::message::{NodeId, ShareId, ShareLength};
 
 const ONE: [ServerInfo; 1] = [ServerInfo {
     node: 0,
@@ -129,7 +124,7 @@ fn is_happy_with(upload: &Upload<WholeShares>, expected: &[(NodeId, u16)]) -> bo
 }
 
 // The pairs of a happy upload.
-fn happy_pairs(upload: &Upload<WholeShares>) -> Option<&[(NodeId, u16)]> {
+pub(crate) fn happy_pairs(upload: &Upload<WholeShares>) -> Option<&[(NodeId, u16)]> {
     match upload.status() {
         UploadStatus::Happy(pairs) => Some(pairs.as_slice()),
         _ => None,
@@ -360,6 +355,11 @@ fn prepared(alloc: Global) -> Option<PreparedUpload> {
     }
 }
 
+// The shares of the file.
+pub(crate) fn encoded(alloc: Global) -> Option<Encoded> {
+    encode_all(alloc, &FILE, b"", &params()?).ok()
+}
+
 // Does each of these servers keep its share of the file?
 fn all_keep(
     alloc: Global,
@@ -367,7 +367,7 @@ fn all_keep(
     cap: &VerifyCap,
     pairs: &[(NodeId, u16)],
 ) -> Option<bool> {
-    let encoded = encode_all(alloc, &FILE, b"", &params()?).ok()?;
+    let encoded = encoded(alloc)?;
     for (node, number) in pairs {
         let bytes = encoded.shares.get(usize::from(*number))?.as_slice();
         if !course.keeps(cap, *node, u8::try_from(*number).ok()?, bytes) {
@@ -397,13 +397,15 @@ const UNANSWERED: [(u64, Asked); 4] = [
 ];
 
 // The upload of the file to ten servers, and its verify cap.
-fn begun_ten(alloc: Global) -> Option<(VerifyCap, Upload<WholeShares>)>
+pub(crate) fn begun_ten(alloc: Global) -> Option<(VerifyCap, Upload<WholeShares>)>
     ensures { IfSome result (λ begun. HasBegun begun.1.course) }
 {
     let prepared = prepared(alloc)?;
     let cap = prepared.cap().to_verify();
-    let upload = prepared.into_upload().start(alloc, &TEN, 5, 0).ok()?;
-    Some((cap, upload))
+    match prepared.into_upload().start(alloc, &TEN, 5, 0) {
+        Ok(upload) => Some((cap, upload)),
+        Err(_) => None,
+    }
 }
 
 fn nine_of_ten_are_happy(alloc: Global) -> Option<bool> {
@@ -421,51 +423,4 @@ fn nine_of_ten_are_happy(alloc: Global) -> Option<bool> {
 #[test]
 fn one_silent_server_of_ten(rt: HostRuntime) {
     assert!(rt; nine_of_ten_are_happy(rt.alloc()) == Some(true));
-}
-
-// Nobody looks on.
-#[derive(Drop)]
-struct Nobody;
-
-impl Watch for Nobody {
-    fn asked(&mut self, _server: NodeId, _message: &Message) {}
-
-    fn heard(&mut self, _server: NodeId, _message: &Message) {}
-}
-
-// Ten servers in memory, with links in memory.
-fn ten_nodes(alloc: Global) -> Option<LocalGrid<MemoryStore, MemoryLink>> {
-    let mut nodes = Vec::with_capacity(alloc, 10).ok()?;
-    for _ in 0..10 {
-        let server = Server::start(alloc, MemoryStore::new(alloc), 1_000_000, false);
-        let node = Node::new(server, MemoryLink::new(alloc));
-        nodes.push(Some(node)).ok()?;
-    }
-    Some(LocalGrid::new(alloc, nodes))
-}
-
-// The shares that the loop carries to ten servers are closed there afterwards, each at its own.
-fn ten_keep(alloc: Global) -> Option<bool> {
-    let mut nodes = ten_nodes(alloc)?;
-    let (cap, upload) = begun_ten(alloc)?;
-    let upload = carry_to_keeping(&mut nodes, upload, 10_000, Nobody).ok()?;
-    let encoded = encode_all(alloc, &FILE, b"", &params()?).ok()?;
-    let pairs = happy_pairs(&upload)?;
-    for (server, number) in pairs {
-        let share = ShareId {
-            index: *cap.storage_index(),
-            share: u8::try_from(*number).ok()?,
-        };
-        let node = nodes.nodes().get(usize::from(*server))?.as_ref()?;
-        let bytes = encoded.shares.get(usize::from(*number))?.as_slice();
-        if node.server().store().closed(&share) != Some(share_digest(bytes)) {
-            return Some(false);
-        }
-    }
-    Some(pairs.len() == 10)
-}
-
-#[test]
-fn servers_keep_what_the_loop_carries(rt: HostRuntime) {
-    assert!(rt; ten_keep(rt.alloc()) == Some(true));
 }
