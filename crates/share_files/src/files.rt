@@ -11,6 +11,7 @@ ghost use Rattle.share_files.specs.declared.acts.Act.TheVariants.{Removed, Unlis
 ghost use Rattle.share_files.specs.declared.name.ShareFile.{ShareFile};
 ghost use Rattle.share_files.specs.Acts.{Lists};
 ghost use Rattle.share_files.specs.Failures.{failure_of};
+ghost use Rattle.share_files.specs.Verdict.{IsReadAs};
 ghost use Rattle.share_files.specs.Order.{file_order};
 
 use crate::acts::{Act, Acts, Standing};
@@ -183,12 +184,13 @@ where
     }
 
     /// Whether the bytes of a file have this digest.
-    pub(crate) fn judge<W: Watch>(
+    pub fn judge<W: Watch>(
         &mut self,
         file: &ShareFile,
         digest: &Digest,
         watch: &mut W,
     ) -> io::Result<Verdict>
+        ensures read { IfOk result (IsReadAs R.File.remaining digest.now) }
         ensures judged { IfOk result
             (λ verdict. self.new ≡ Judged file.now digest.now verdict ∷ self.old) }
         ensures err { IfErr result
@@ -212,7 +214,9 @@ where
         file: &ShareFile,
         digest: &Digest,
         watch: &mut W,
-    ) -> io::Result<Verdict> {
+    ) -> io::Result<Verdict>
+        ensures { IfOk result (IsReadAs R.File.remaining digest.now) }
+    {
         let path = self.path(file)?;
         let mut buffer = vec![in self.rt.alloc(); 0u8; PIECE_SIZE]?;
         check_with(self.rt, path.as_str(), digest, &mut buffer, watch)
@@ -378,6 +382,7 @@ fn check_with<R: Files, W: Watch>(
     watch: &mut W,
 ) -> io::Result<Verdict>
     requires { 0 < length buffer.old }
+    ensures { IfOk result (IsReadAs R.File.remaining digest.now) }
 {
     let mut file = File::open(rt, path)?;
     check_bytes(&mut file, digest, buffer, watch)

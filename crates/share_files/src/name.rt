@@ -58,7 +58,7 @@ pub enum FileKind {
 
 impl ShareFile {
     /// The file of a closed share.
-    pub(crate) fn closed(name: &ClosedName) -> ShareFile
+    pub fn closed(name: &ClosedName) -> ShareFile
         ensures { result ≡ closed_file name.now }
     {
         ShareFile {

@@ -1,15 +1,25 @@
 //! The share files of a server's folder, one after the other.
 
-ghost use Rattle.std.specs.Prelude.{◌≡◌, ◌++◌, ◌∷◌, [], List, Option, IfNone, IfOk, IfSome};
+ghost use Rattle.std.specs.Prelude.{◌≡◌, ◌≢◌, ◌++◌, ◌∷◌, [], List, Option, IfNone, IfOk, IfSome};
 ghost use Rattle.std.specs.Prelude.{IsOkUnless, OnErr, None, Some, true};
+ghost use Rattle.std.specs.IoError.{error_kind};
+ghost use Rattle.std.specs.declared.io.ErrorKind.TheVariants.{NotFound};
 ghost use Rattle.std.specs.Bool.{OnTrue};
 ghost use Rattle.share_store.specs.declared.error.StoreError.{StoreError};
 ghost use Rattle.share_store.specs.Shelf.{ShareKey};
 ghost use Rattle.share_files.specs.declared.name.ShareFile.{ShareFile};
+ghost use Rattle.share_files.specs.declared.acts.Act.{Act};
+ghost use Rattle.share_files.specs.declared.acts.Act.TheVariants.{Judged};
+ghost use Rattle.share_files.specs.declared.bytes.Verdict.TheVariants.{Damaged};
+ghost use Rattle.share_files.specs.Acts.{IsNone, Was};
+ghost use Rattle.share_files.specs.Name.{closed_file, half_file};
+ghost use Rattle.share_scrub.specs.declared.folder.State.TheVariants.{Unreadable};
 ghost use Rattle.share_scrub.specs.Scrub.{IsKeptUnless, whole_after};
+ghost use Rattle.share_scrub.specs.Seen.{IsSeen, IsSeenAside, IsSeenClosed, IsSeenHalf, IsSeenOpen};
+ghost use Rattle.share_scrub.specs.Seen.{StoodThere, WasSeen};
 
 use share_files::{
-    Fate, FileKind, FolderFiles, ShareFile, Standing, Watch, Went, closed_fate, set_aside, settle,
+    FileKind, FolderFiles, ShareFile, Standing, Verdict, Watch, Went, set_aside, settle,
 };
 use share_folders::names::{ClosedName, OwnToken};
 use share_store::error::StoreError;
@@ -141,6 +151,7 @@ impl<R: Files + RandomSource + AllocGlobal + Clone + Drop> Scrub<R> {
             self.new.whole ≡ whole_after finding.file.key finding.state self.old.whole)) }
         ensures kept { IfOk result (λ found. IfSome found (λ finding.
             IsKeptUnless self.old.whole finding.file.key finding.state)) }
+        ensures seen { IfOk result (λ found. IfSome found WasSeen) }
         ensures memory { IsOkUnless result StoreError.OutOfMemory }
     {
         while let Some(file) = self.left.pop() {
@@ -163,6 +174,7 @@ impl<R: Files + RandomSource + AllocGlobal + Clone + Drop> Scrub<R> {
     ) -> Result<Option<State>, StoreError>
         ensures kept { IfOk result (λ found. IfSome found (λ state.
             IsKeptUnless self.now.whole file.now.key state)) }
+        ensures seen { IfOk result (λ found. IfSome found (IsSeen file.now)) }
         ensures memory { IsOkUnless result StoreError.OutOfMemory }
     {
         let mut files = FolderFiles::new(&self.rt, self.folder.as_str(), handling.now);
@@ -201,7 +213,7 @@ impl<R: Files + RandomSource + AllocGlobal + Clone + Drop> Scrub<R> {
     }
 }
 
-// How the file of a closed share is found: a damaged one is set aside, where that is asked for.
+// How the file of a closed share is found: by its bytes, where it is a regular file.
 fn closed_state<R, W>(
     files: &mut FolderFiles<'_, R>,
     name: &ClosedName,
@@ -213,24 +225,49 @@ where
     W: Watch,
     ensures kept { (whole : Option ShareKey) (key : ShareKey) → IfOk result
         (λ found. IfSome found (λ state. IsKeptUnless whole key state)) }
+    ensures seen { IfOk result (λ found. IfSome found
+        (IsSeenClosed (closed_file name.now) name.now.digest files.new)) }
     ensures memory { IsOkUnless result StoreError.OutOfMemory }
 {
-    let fate = match closed_fate(files, name, None, watch) {
-        Ok(fate) => fate,
+    let file = ShareFile::closed(name);
+    match files.look(&file) {
+        Ok(Standing::Odd) => return Ok(Some(State::Odd)),
+        Ok(Standing::Regular(..)) => {}
         Err(error) => return unreadable(error),
+    }
+    match files.judge(&file, &name.digest, watch) {
+        Ok(Verdict::Whole) => Ok(Some(State::Whole)),
+        Ok(Verdict::Damaged) => damaged_state(files, name, handling),
+        Err(error) => unreadable(error),
+    }
+}
+
+// A damaged file is set aside, where that is asked for.
+fn damaged_state<R>(
+    files: &mut FolderFiles<'_, R>,
+    name: &ClosedName,
+    handling: &Handling,
+) -> Result<Option<State>, StoreError>
+where
+    R: Files + RandomSource + AllocGlobal + Clone + Drop,
+    ensures kept { (whole : Option ShareKey) (key : ShareKey) → IfOk result
+        (λ found. IfSome found (λ state. IsKeptUnless whole key state)) }
+    ensures seen { IsNone None (closed_file name.now) name.now.digest files.old
+        → Was (Judged (closed_file name.now) name.now.digest Damaged) files.old
+        → IfOk result (λ found. IfSome found
+        (IsSeenClosed (closed_file name.now) name.now.digest files.new)) }
+    ensures memory { IsOkUnless result StoreError.OutOfMemory }
+{
+    if !handling.set_aside {
+        return Ok(Some(State::Damaged(Action::Left)));
+    }
+    let action = match set_aside(files, name, None) {
+        Ok(Went::Aside) => Action::Done,
+        // another file has its name since
+        Ok(Went::Back) => Action::Failed(io::Error::from(ErrorKind::NotFound)),
+        Err(error) => failed(error)?,
     };
-    let state = match fate {
-        Fate::Odd => State::Odd,
-        Fate::Keep | Fate::Read => State::Whole,
-        Fate::SetAside if !handling.set_aside => State::Damaged(Action::Left),
-        Fate::SetAside => State::Damaged(match set_aside(files, name, None) {
-            Ok(Went::Aside) => Action::Done,
-            // another file has its name since
-            Ok(Went::Back) => Action::Failed(io::Error::from(ErrorKind::NotFound)),
-            Err(error) => failed(error)?,
-        }),
-    };
-    Ok(Some(state))
+    Ok(Some(State::Damaged(action)))
 }
 
 // How a file that is on its way is found: it is settled, where that is asked for. What another
@@ -247,6 +284,8 @@ where
     W: Watch,
     ensures kept { (whole : Option ShareKey) (key : ShareKey) → IfOk result
         (λ found. IfSome found (λ state. IsKeptUnless whole key state)) }
+    ensures seen { IfOk result
+        (λ found. IfSome found (IsSeenHalf (half_file name.now own.now) files.new)) }
     ensures memory { IsOkUnless result StoreError.OutOfMemory }
 {
     let file = ShareFile::half_aside(name, *own);
@@ -274,6 +313,7 @@ where
     R: Files + RandomSource + AllocGlobal + Clone + Drop,
     ensures kept { (whole : Option ShareKey) (key : ShareKey) → IfOk result
         (λ found. IfSome found (λ state. IsKeptUnless whole key state)) }
+    ensures seen { IfOk result (λ found. IfSome found (IsSeenOpen file.now files.new)) }
     ensures memory { IsOkUnless result StoreError.OutOfMemory }
 {
     let length = match files.look(file) {
@@ -299,6 +339,7 @@ where
     R: Files + RandomSource + AllocGlobal + Clone + Drop,
     ensures kept { (whole : Option ShareKey) (key : ShareKey) → (goes ≡ true → whole ≡ Some key)
         → IfOk result (λ found. IfSome found (λ state. IsKeptUnless whole key state)) }
+    ensures seen { IfOk result (λ found. IfSome found (IsSeenAside file.now files.new)) }
     ensures memory { IsOkUnless result StoreError.OutOfMemory }
 {
     let Some(length) = length_of(files, file)? else {
@@ -317,6 +358,8 @@ where
 fn length_of<R>(files: &mut FolderFiles<'_, R>, file: &ShareFile) -> Result<Option<u64>, StoreError>
 where
     R: Files + RandomSource + AllocGlobal + Clone + Drop,
+    ensures stood { IfOk result
+        (λ found. IfSome found (λ length. StoodThere file.now length files.new)) }
     ensures memory { IsOkUnless result StoreError.OutOfMemory }
 {
     match files.look(file) {
@@ -331,6 +374,8 @@ where
 fn unreadable(error: io::Error) -> Result<Option<State>, StoreError>
     ensures kept { (whole : Option ShareKey) (key : ShareKey) → IfOk result
         (λ found. IfSome found (λ state. IsKeptUnless whole key state)) }
+    ensures seen { IfOk result (λ found. IfSome found
+        (λ state. (state ≡ Unreadable error) × (error_kind error ≢ NotFound))) }
     ensures memory { IsOkUnless result StoreError.OutOfMemory }
 {
     match error.kind() {
@@ -344,6 +389,7 @@ fn unreadable(error: io::Error) -> Result<Option<State>, StoreError>
 fn removal<R>(files: &mut FolderFiles<'_, R>, file: &ShareFile) -> Result<Action, StoreError>
 where
     R: Files + RandomSource + AllocGlobal + Clone + Drop,
+    ensures still { (act : Act) → Was act files.old → Was act files.new }
     ensures memory { IsOkUnless result StoreError.OutOfMemory }
 {
     match files.remove(file) {
