@@ -1,7 +1,6 @@
 -- What the end of an upload comes to.
-use Rattle.std.proofs.Common.{◌≡◌, ◌==◌, ℕ, List, [], ◌∷◌, length, true, refl, map, arith, Result, Ok, Err, IfOk, sym, subst, ◌∙◌}
+use Rattle.std.proofs.Common.{◌≡◌, ℕ, List, map, Result, Ok, IfOk, sym, subst, ◌∙◌}
 use Rattle.std.proofs.lemmas.Result.{IfOk-weaker}
-use Rattle.std.proofs.lemmas.Bool.{eqb-true}
 use Rattle.request_record.specs.Operations.{OperationCalls}
 use Rattle.share_store.specs.Calls.{Calls}
 use Rattle.share_folders.specs.Folder.{FolderState, folder_calls}
@@ -70,12 +69,12 @@ module _ {P L : Type 0} (operation : OperationCalls (Uploading P)) (carries : Ca
   used_as happiness used same u = subst (λ (s : List ℕ). AreUploaded operation carries grid s made happiness) same u
 
   -- what is told of shares that were placed on the first servers
-  pub put_of : (count : ℕ) (used : List ℕ) (s : Stored) (cap : ReadCapValue) (quiet : Bool) → used ≡ range_with_len 0 count → ArePlaced operation carries grid used made s
-      → (outcome : Outcome) → IsToldOf cap quiet s outcome → IsPutOf operation carries grid made cap quiet outcome
-  put_of count used s cap quiet first placed outcome told = record {
+  pub put_of : (count : ℕ) (mend : Bool) (used : List ℕ) (s : Stored) (cap : ReadCapValue) (quiet : Bool) → used ≡ range_with_len 0 count → ArePlaced operation carries grid mend used made s
+      → (outcome : Outcome) → IsToldOf cap quiet s outcome → IsPutOf operation carries grid mend made cap quiet outcome
+  put_of count mend used s cap quiet first placed outcome told = record {
     count = count;
     stored = s;
-    placed = subst (λ (x : List ℕ). ArePlaced operation carries grid x made s) first placed;
+    placed = subst (λ (x : List ℕ). ArePlaced operation carries grid mend x made s) first placed;
     told = told;
   }
 
@@ -88,20 +87,20 @@ pub encoded_as : (r : Result FileUpload Fault) (encoded : FileUpload) (file give
 encoded_as r encoded file given secret p was same is =
     subst (λ (s : List ℕ). encoded ≡ Shares (prepared_of file s p)) same (subst (λ (x : Result FileUpload Fault). IfOk x (λ u. u ≡ Shares (prepared_of file given p))) was is)
 
-module _ {L : Type 0} (carries : Carries L) (grid : List ℕ) (quiet : Bool) where
+module _ {L : Type 0} (carries : Carries L) (grid : List ℕ) (mend quiet : Bool) where
   -- what is told of the shares of a file that was encoded whole
   pub held_put : (encoded : FileUpload) (upload p : Prepared) (m : Ready (List (List ℕ))) (cap : ReadCapValue) → encoded ≡ Shares upload → encoded ≡ Shares p → m ≡ upload_of upload → cap ≡ upload.cap
-      → (outcome : Outcome) → IsPutOf whole_calls carries grid m cap quiet outcome → IsPutOf whole_calls carries grid (upload_of p) p.cap quiet outcome
+      → (outcome : Outcome) → IsPutOf whole_calls carries grid mend m cap quiet outcome → IsPutOf whole_calls carries grid mend (upload_of p) p.cap quiet outcome
   held_put encoded upload p m cap is same made own outcome put =
-      subst (λ (q : Prepared). IsPutOf whole_calls carries grid (upload_of q) q.cap quiet outcome) (same_shares upload p (sym is ∙ same))
-      (subst (λ (x : ReadCapValue). IsPutOf whole_calls carries grid (upload_of upload) x quiet outcome) own
-      (subst (λ (x : Ready (List (List ℕ))). IsPutOf whole_calls carries grid x cap quiet outcome) made put))
+      subst (λ (q : Prepared). IsPutOf whole_calls carries grid mend (upload_of q) q.cap quiet outcome) (same_shares upload p (sym is ∙ same))
+      (subst (λ (x : ReadCapValue). IsPutOf whole_calls carries grid mend (upload_of upload) x quiet outcome) own
+      (subst (λ (x : Ready (List (List ℕ))). IsPutOf whole_calls carries grid mend x cap quiet outcome) made put))
 
   -- those of a file that was read twice
   pub streamed_put : {S : Type 0} (operation : OperationCalls (Uploading (Streaming S))) (m : Ready (Streaming S)) (cap : ReadCapValue) (happy : ℕ)
       → m.goal ≡ goal_of m.pieces.kept → m.happy ≡ happy → cap ≡ m.pieces.kept.cap
-      → (outcome : Outcome) → IsPutOf operation carries grid m cap quiet outcome → IsPutOf operation carries grid (ready_stream m.pieces happy) m.pieces.kept.cap quiet outcome
+      → (outcome : Outcome) → IsPutOf operation carries grid mend m cap quiet outcome → IsPutOf operation carries grid mend (ready_stream m.pieces happy) m.pieces.kept.cap quiet outcome
   streamed_put {S = S} operation m cap happy goal wanted own outcome put =
-      subst (λ (x : ReadCapValue). IsPutOf operation carries grid (ready_stream m.pieces happy) x quiet outcome) own
-      (subst (λ (n : ℕ). IsPutOf operation carries grid (record { pieces = m.pieces; goal = goal_of m.pieces.kept; happy = n }) cap quiet outcome) wanted
-      (subst (λ (x : Goal). IsPutOf operation carries grid (record { pieces = m.pieces; goal = x; happy = m.happy }) cap quiet outcome) goal put))
+      subst (λ (x : ReadCapValue). IsPutOf operation carries grid mend (ready_stream m.pieces happy) x quiet outcome) own
+      (subst (λ (n : ℕ). IsPutOf operation carries grid mend (record { pieces = m.pieces; goal = goal_of m.pieces.kept; happy = n }) cap quiet outcome) wanted
+      (subst (λ (x : Goal). IsPutOf operation carries grid mend (record { pieces = m.pieces; goal = x; happy = m.happy }) cap quiet outcome) goal put))

@@ -1,5 +1,5 @@
 -- What a check and a repair come to.
-use Rattle.std.proofs.Common.{◌≡◌, ℕ, List, ◌++◌, Bool, Option, Some, None, Result, Ok, Err, IfOk, IfSome, codes, decimal, sym, subst, ap, ◌∙◌}
+use Rattle.std.proofs.Common.{◌≡◌, ℕ, List, Option, Some, None, Result, Ok, Err, IfOk, IfSome, sym, subst, ◌∙◌}
 use Rattle.std.proofs.Common.{MatchResult, is_ok, true≢false}
 use Rattle.std.specs.Option.{ok_or}
 use Rattle.cap_text.specs.Cap.{VerifyCapValue}
@@ -12,11 +12,8 @@ use Rattle.checker.specs.declared.status.Report.{Report}
 use Rattle.local_grid.specs.Nodes.{Carries}
 use Rattle.local_grid.specs.Turns.{GridState}
 use Rattle.carried_operations.specs.Checked.{IsCarried}
-use Rattle.grid_rules.specs.ReportLines.{report_status}
 use Rattle.grid_servers.specs.Opened.{AreOpened}
-use Rattle.grid_shares.specs.Checks.{IsCheckOf, IsChecked, check_text}
-use Rattle.grid_shares.specs.Placing.{ArePlaced}
-use Rattle.grid_shares.specs.Puts.{stored_status, whole_calls}
+use Rattle.grid_shares.specs.Checks.{IsChecked}
 use Rattle.grid_shares.specs.Repairs.{AreFoundBy, IsRepairBy, IsRepairFor, IsRepairOf}
 use Rattle.grid_shares.specs.Checks.{verify_of}
 use Rattle.grid_words.specs.declared.words.RepairWords.{RepairWords}
@@ -27,7 +24,6 @@ use Rattle.std.proofs.lemmas.Result.{IfOk-weaker}
 use Rattle.std.proofs.Common.{nat_eq}
 use Rattle.std.specs.List.{IsDistinct}
 use Rattle.grid_shares.specs.declared.Outcome.{Outcome}
-use Rattle.grid_shares.specs.declared.placing.Stored.{Stored}
 
 -- what is there is handed out
 pub told_ok : {A E : Type 0} (o : Option A) (e : E) (r : Result A E) (P Q : A → Type 0) → r ≡ ok_or o e → ((a : A) → P a → Q a) → IfSome o P → IfOk r Q
@@ -74,12 +70,12 @@ module _ {L : Type 0} (carries : Carries L) (grid : List ℕ) (cap : VerifyCapVa
 -- what a repair tells by its words
 pub repair_told : {L : Type 0} (carries : Carries L) (words : RepairWords) (read : Cap) (of : Option VerifyCapValue) (cap : VerifyCapValue) (happy : ℕ) (servers used : List ℕ) → Spells words.cap.now read
     → of ≡ verify_of read → of ≡ Some cap → happy ≡ words.happy → servers ≡ used → IsDistinct nat_eq servers
-    → (r : Result Outcome Fault) → IfOk r (IsRepairOf carries words.grid.now cap happy used) → IfOk r (IsRepairBy carries words)
+    → (r : Result Outcome Fault) → IfOk r (IsRepairOf carries words.grid.now words.mend cap happy used) → IfOk r (IsRepairBy carries words)
 repair_told carries words read of cap happy servers used spelled is some wanted same distinct r told = IfOk-weaker r _ _
     (λ outcome t. record {
       cap = read;
       spelled = spelled;
       told = subst (λ (x : Option VerifyCapValue). IsRepairFor carries words x outcome) (sym some ∙ is)
-          (servers, distinct, subst (λ (s : List ℕ). IsRepairOf carries words.grid.now cap words.happy s outcome) (sym same) (subst (λ (h : ℕ). IsRepairOf carries words.grid.now cap h used outcome) wanted t));
+          (servers, distinct, subst (λ (s : List ℕ). IsRepairOf carries words.grid.now words.mend cap words.happy s outcome) (sym same) (subst (λ (h : ℕ). IsRepairOf carries words.grid.now words.mend cap h used outcome) wanted t));
     })
     told

@@ -7,8 +7,7 @@ use Rattle.share_scrub.specs.declared.mending.Cleared.{Cleared}
 use Rattle.share_scrub.specs.declared.mending.LeftShare.{LeftShare}
 use Rattle.share_scrub.specs.Clearing.{IsCleared}
 use Rattle.grid_shares.specs.declared.mending.Way.{Way}
-use Rattle.grid_shares.specs.declared.mending.Way.TheVariants.{Clear, Stuck}
-use Rattle.grid_shares.specs.Ways.{AreWays, IsClearedAs, IsWay, ServerWay, is_stuck, stuck_by, way_by}
+use Rattle.grid_shares.specs.Ways.{AreWays, IsWay, ServerWay, is_stuck, stuck_by, way_by}
 
 -- what clearing the way at a server came to
 pub way_is : (wanted : Wanted) (cleared : Cleared) (acts : List Act) (way : Way) → IsCleared wanted cleared acts → way ≡ way_by cleared.left.items → IsWay wanted way

@@ -27,12 +27,12 @@ pub record AreUploaded {P L : Type 0} (operation : OperationCalls (Uploading P))
   pub after : GridState FolderState L
   pub stored : IsStored operation folder_calls carries begun before after happiness
 
--- Shares were placed on servers of a grid. The way was cleared for them at each, and they were
--- uploaded to all but those at which a share was left; it is told whether there were some.
+-- Shares were placed on servers of a grid. The way was cleared for them at each, by their digests
+-- too where they are to be mended, and they were uploaded to all but those at which a share was
+-- left; it is told whether there were some.
 pub record ArePlaced {P L : Type 0} (operation : OperationCalls (Uploading P))
-    (carries : Carries L) (grid : List ℕ) (servers : List ℕ) (made : Ready P)
+    (carries : Carries L) (grid : List ℕ) (mend : Bool) (servers : List ℕ) (made : Ready P)
     (stored : Stored) : Type 0 where
-  pub mend : Bool
   pub stuck : List ℕ
   pub cleared : AreCleared made.goal mend servers stuck
   pub none : stored.is_cleared ≡ (length stuck == 0)

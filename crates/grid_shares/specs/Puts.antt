@@ -1,6 +1,6 @@
 -- What a put tells.
 use Rattle.std.specs.Prelude.{◌≡◌, ℕ, ◌<◌, ◌≤◌, List, ◌++◌, Bool, if◌then◌else◌, codes, decimal}
-use Rattle.std.specs.Prelude.{length, map}
+use Rattle.std.specs.Prelude.{length}
 use Rattle.std.specs.List.{range_with_len}
 use Rattle.cap_text.specs.Cap.{ReadCapValue}
 use Rattle.cap_text.specs.CapText.{lit_cap_text, read_cap_text}
@@ -45,11 +45,11 @@ pub record IsToldOf (cap : ReadCapValue) (quiet : Bool) (stored : Stored) (outco
 
 -- Shares that were made are placed on the first servers of a grid, so many, and this is told.
 pub record IsPutOf {P L : Type 0} (operation : OperationCalls (Uploading P)) (carries : Carries L)
-    (grid : List ℕ) (made : Ready P) (cap : ReadCapValue) (quiet : Bool) (outcome : Outcome)
-    : Type 0 where
+    (grid : List ℕ) (mend : Bool) (made : Ready P) (cap : ReadCapValue) (quiet : Bool)
+    (outcome : Outcome) : Type 0 where
   pub count : ℕ
   pub stored : Stored
-  pub placed : ArePlaced operation carries grid (range_with_len 0 count) made stored
+  pub placed : ArePlaced operation carries grid mend (range_with_len 0 count) made stored
   pub told : IsToldOf cap quiet stored outcome
 
 -- the calls of an upload of whole shares
@@ -82,7 +82,7 @@ pub data IsPutBy {F L : Type 0} (gives : Opened F → ℕ → List ℕ → Opene
   small : (file : List ℕ) → length file < min_file_size → IsLiteralOf file outcome
       → IsPutBy gives carries words outcome
   held : (file secret : List ℕ) → min_file_size ≤ length file
-      → IsPutOf whole_calls carries words.grid.now
+      → IsPutOf whole_calls carries words.grid.now words.mend
       (upload_of (prepared_of file secret (numbers_of words)))
       (prepared_of file secret (numbers_of words)).cap words.quiet outcome
       → IsPutBy gives carries words outcome
@@ -90,6 +90,6 @@ pub data IsPutBy {F L : Type 0} (gives : Opened F → ℕ → List ℕ → Opene
       → min_file_size ≤ source.size
       → IsPreparedFrom gives source.size source secret (parameters_of (numbers_of words))
       kept.kept kept.source
-      → IsPutOf (streamed_calls gives (λ s. s.failures)) carries words.grid.now
+      → IsPutOf (streamed_calls gives (λ s. s.failures)) carries words.grid.now words.mend
       (ready_stream kept words.happy) kept.kept.cap words.quiet outcome
       → IsPutBy gives carries words outcome

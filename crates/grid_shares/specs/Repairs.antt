@@ -1,5 +1,6 @@
 -- What a repair tells.
-use Rattle.std.specs.Prelude.{◌≡◌, ℕ, List, ◌++◌, Option, Some, None, false, codes, decimal, nat_eq}
+use Rattle.std.specs.Prelude.{◌≡◌, ℕ, List, ◌++◌, Bool, Option, Some, None, false, codes, decimal}
+use Rattle.std.specs.Prelude.{nat_eq}
 use Rattle.std.specs.List.{IsDistinct}
 use Rattle.cap_text.specs.Cap.{VerifyCapValue}
 use Rattle.cap_text.specs.CapText.{Spells}
@@ -36,15 +37,15 @@ pub record AreFoundBy {L : Type 0} (carries : Carries L) (grid : List ℕ) (cap 
 
 -- A check found good shares of a cap's file, of which all shares were made anew; these were placed
 -- on the same servers, and this is told.
-pub record IsRepairOf {L : Type 0} (carries : Carries L) (grid : List ℕ) (cap : VerifyCapValue)
-    (happy : ℕ) (servers : List ℕ) (outcome : Outcome) : Type 0 where
+pub record IsRepairOf {L : Type 0} (carries : Carries L) (grid : List ℕ) (mend : Bool)
+    (cap : VerifyCapValue) (happy : ℕ) (servers : List ℕ) (outcome : Outcome) : Type 0 where
   pub numbers : List ℕ
   pub strings : List (List ℕ)
   pub found : AreFoundBy carries grid cap servers numbers strings
   pub made : Ready (List (List ℕ))
   pub anew : AreMadeOf cap happy numbers strings made
   pub stored : Stored
-  pub placed : ArePlaced whole_calls carries grid servers made stored
+  pub placed : ArePlaced whole_calls carries grid mend servers made stored
   pub told : outcome.text.items ≡ codes "happiness " ++ (decimal stored.happiness ++ codes "\n")
   pub status_is : outcome.status ≡ stored_status stored.is_cleared
 
@@ -55,7 +56,7 @@ abbrev pub IsRepairFor : {L : Type 0} → Carries L → RepairWords → Option V
 IsRepairFor carries words None outcome =
     (outcome.text.items ≡ literal_text false) × (outcome.status ≡ 0)
 IsRepairFor carries words (Some cap) outcome = (servers : List ℕ) × IsDistinct nat_eq servers
-    × IsRepairOf carries words.grid.now cap words.happy servers outcome
+    × IsRepairOf carries words.grid.now words.mend cap words.happy servers outcome
 
 -- What a repair tells by its words, whose text is that of a cap.
 pub record IsRepairBy {L : Type 0} (carries : Carries L) (words : RepairWords) (outcome : Outcome)

@@ -4,12 +4,14 @@ use Rattle.std.specs.Prelude.{if◌then◌else◌, option_map}
 use Rattle.std.specs.List.{AllByRecursion}
 use Rattle.share_scrub.specs.Clearing.{IsCleared}
 use Rattle.share_files.specs.declared.acts.Act.{Act}
+use Rattle.share_files.specs.declared.acts.Act.TheVariants.{Unlisted}
 use Rattle.share_files.specs.declared.fate.Wanted.{Wanted}
+use Rattle.share_files.specs.Acts.{Was}
 use Rattle.share_scrub.specs.declared.mending.Cleared.{Cleared}
 use Rattle.share_scrub.specs.declared.mending.LeftShare.{LeftShare}
 use Rattle.upload_core.specs.State.{Goal}
 use Rattle.grid_shares.specs.declared.mending.Way.{Way}
-use Rattle.grid_shares.specs.declared.mending.Way.TheVariants.{PassedOver, Clear, Stuck}
+use Rattle.grid_shares.specs.declared.mending.Way.TheVariants.{Unmarked, Unread, Clear, Stuck}
 
 -- a server is stuck where a share was left
 abbrev pub way_by : List LeftShare → Way
@@ -23,16 +25,18 @@ pub record IsClearedAs (wanted : Wanted) (way : Way) : Type 0 where
   pub is_cleared : IsCleared wanted cleared acts
   pub is : way ≡ way_by cleared.left.items
 
--- a server is passed over, or its way was cleared
+-- A server's folder has not its mark, or could not be listed, or the way was cleared there.
 abbrev pub IsWay : Wanted → Way → Type 0
-IsWay wanted PassedOver = Unit
+IsWay wanted Unmarked = Unit
+IsWay wanted Unread = (acts : List Act) × Was Unlisted acts
 IsWay wanted Clear = IsClearedAs wanted Clear
 IsWay wanted Stuck = IsClearedAs wanted Stuck
 
 abbrev pub is_stuck : Way → Bool
 is_stuck Stuck = true
 is_stuck Clear = false
-is_stuck PassedOver = false
+is_stuck Unread = false
+is_stuck Unmarked = false
 
 -- what became of a server
 pub record ServerWay : Type 0 where

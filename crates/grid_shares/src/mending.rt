@@ -1,7 +1,9 @@
 //! The way is cleared for the shares of a file, once all of them are made: what stands in the
 //! servers' folders under the names of its shares, and is none of them, is set aside.
 
-ghost use Rattle.std.specs.Prelude.{◌≡◌, ◌++◌, None, Some, if◌then◌else◌, option_map, IfOk, OnOk};
+ghost use Rattle.std.specs.Prelude.{◌≡◌, ◌≢◌, ◌++◌, None, Some, if◌then◌else◌, option_map};
+ghost use Rattle.std.specs.Prelude.{IfOk, OnOk};
+ghost use Rattle.grid_shares.specs.declared.mending.Way.TheVariants.{Unmarked};
 ghost use Rattle.grid_shares.specs.Ways.{AreCleared, IsWay, stuck_by, way_by};
 
 use crate::placing::Placing;
@@ -38,8 +40,10 @@ fn wanted_of<'a>(goal: &'a UploadGoal, mend: bool, now: SystemTime) -> Wanted<'a
 /// What became of the files of a server.
 #[derive(Clone, Copy)]
 pub(crate) enum Way {
-    /// Its folder could not be read, or has not its mark: its server will be silent.
-    PassedOver,
+    /// Its folder has not its mark: its server will be silent.
+    Unmarked,
+    /// Its folder could not be listed: its server will be silent.
+    Unread,
     /// No share was left.
     Clear,
     /// A share could not be looked at, or should have been set aside and could not be.
@@ -82,7 +86,7 @@ fn note_way(stuck: &mut Vec<NodeId>, server: NodeId, way: Way) -> Result<(), All
     Ok(())
 }
 
-// The same at one server.
+// The same at one server. One without its mark is passed over.
 fn clear_server<R, E>(
     rt: &R,
     grid: &str,
@@ -96,10 +100,26 @@ where
     ensures { IfOk result (IsWay wanted.entry.now) }
 {
     match try_mark(rt, grid, server) {
-        Ok(()) => {}
-        Err(error) if is_memory(&error) => return Err(Fault::OutOfMemory),
-        Err(_) => return Ok(Way::PassedOver),
+        Ok(()) => clear_marked(rt, grid, server, wanted, progress),
+        Err(error) if is_memory(&error) => Err(Fault::OutOfMemory),
+        Err(_) => Ok(Way::Unmarked),
     }
+}
+
+// The same at one whose mark, if any, is right.
+fn clear_marked<R, E>(
+    rt: &R,
+    grid: &str,
+    server: NodeId,
+    wanted: &Wanted<'_>,
+    progress: &mut Progress<'_, R, E>,
+) -> Result<Way, Fault>
+where
+    R: Files + Clock + RandomSource + AllocGlobal + Clone + Drop,
+    E: Write + IsTerminal,
+    ensures way { IfOk result (IsWay wanted.entry.now) }
+    ensures marked { IfOk result (λ way. way ≢ Unmarked) }
+{
     let folder = server_folder(rt.alloc(), grid, server)?;
     let mut files = FolderFiles::new(rt, folder.as_str(), wanted.now);
     match clear_way(&mut files, wanted, progress) {
@@ -108,7 +128,7 @@ where
             Ok(way_of(&cleared))
         }
         Err(StoreError::OutOfMemory) => Err(Fault::OutOfMemory),
-        Err(StoreError::StoreFault) => Ok(Way::PassedOver),
+        Err(StoreError::StoreFault) => Ok(Way::Unread),
     }
 }
 

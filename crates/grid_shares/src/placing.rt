@@ -92,7 +92,7 @@ where
     requires { IsDistinct nat_eq placing.now.servers.now }
     ensures { IfOk result (ArePlaced (upload_calls P.gives P.fails)
         (IsCarriedOver (pair_calls R.Stream.contents R.Stream.remaining)) placing.now.grid.now
-        placing.now.servers.now ready) }
+        placing.now.mend placing.now.servers.now ready) }
 {
     let stuck = clear_servers(rt, placing, ready.goal(), progress)?;
     let servers = servers_without(rt.alloc(), placing.servers, stuck.as_slice())?;

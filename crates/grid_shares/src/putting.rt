@@ -220,7 +220,7 @@ where
     ensures stored { min_file_size ≤ length file.items → IfOk result (λ outcome.
         (secret : List ℕ) × IfSome putting.now.said (λ said. secret ≡ said.now)
         × IsPutOf whole_calls (IsCarriedOver (pair_calls R.Stream.contents R.Stream.remaining))
-        putting.now.words.now.grid.now
+        putting.now.words.now.grid.now putting.now.words.now.mend
         (upload_of (prepared_of file.items secret putting.now.params.now))
         (prepared_of file.items secret putting.now.params.now).cap putting.now.words.now.quiet
         outcome) }
@@ -280,8 +280,9 @@ where
         (parameters_of putting.now.params.now) kept.kept kept.source
         × IsPutOf (streamed_calls S.gives S.failures)
         (IsCarriedOver (pair_calls R.Stream.contents R.Stream.remaining))
-        putting.now.words.now.grid.now (ready_stream kept putting.now.params.now.happy)
-        kept.kept.cap putting.now.words.now.quiet outcome) }
+        putting.now.words.now.grid.now putting.now.words.now.mend
+        (ready_stream kept putting.now.params.now.happy) kept.kept.cap
+        putting.now.words.now.quiet outcome) }
 {
     let ready = prepare_stream(rt.alloc(), source, secret, putting.params);
     let ready = ready.map_err(fault_of_preparing)?;
@@ -380,7 +381,8 @@ where
     E: Write + IsTerminal,
     ensures { IfOk result (IsPutOf (upload_calls P.gives P.fails)
         (IsCarriedOver (pair_calls R.Stream.contents R.Stream.remaining))
-        putting.now.words.now.grid.now ready cap.now putting.now.words.now.quiet) }
+        putting.now.words.now.grid.now putting.now.words.now.mend ready cap.now
+        putting.now.words.now.quiet) }
 {
     let words = putting.words;
     let servers = first_servers(rt.alloc(), servers_for(rt, putting)?)?;

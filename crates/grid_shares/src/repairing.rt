@@ -105,7 +105,8 @@ where
     E: Write + IsTerminal,
     requires { IsDistinct nat_eq placing.now.servers.now }
     ensures { IfOk result (IsRepairOf (IsCarriedOver (pair_calls R.Stream.contents
-        R.Stream.remaining)) placing.now.grid.now cap.now happy placing.now.servers.now) }
+        R.Stream.remaining)) placing.now.grid.now placing.now.mend cap.now happy
+        placing.now.servers.now) }
 {
     let good = find_good(rt, placing, cap, progress)?;
     progress.encode(Verb::Repair, cap.size());

@@ -7,7 +7,6 @@ use Rattle.grid_shares.proofs.placing.place_shares.Goals as goal
 
 pub returns : goal.returns
 returns g c = record {
-  mend = c.args.placing.now.mend;
   stuck = c.in_ok-stuck.stuck.items;
   cleared = subst (λ (aim : Goal). AreCleared aim c.args.placing.now.mend c.args.placing.now.servers.now c.in_ok-stuck.stuck.items) c.goal.ensures c.in_ok-stuck.ensures;
   none = c.is_empty-is_cleared.ensures ∙ ap (λ (xs : List ℕ). length xs == 0) c.as_slice-3.ensures.value;

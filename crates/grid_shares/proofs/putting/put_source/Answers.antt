@@ -12,7 +12,7 @@ returns g c =
     (λ outcome put. (
       c.in_ok-ready.ready.pieces,
       still_ok c.prepare_stream-ready.result (Ok c.in_ok-ready.ready) _ _ c.in_ok-ready.ensures.cases c.in_ok-ready.ensures.variant c.prepare_stream-ready.ensures.prepared,
-      streamed_put _ c.args.putting.now.words.now.grid.now c.args.putting.now.words.now.quiet (streamed_calls g.S.Source.gives g.S.Source.failures) c.in_ok-ready.ready _ c.args.putting.now.params.now.happy
+      streamed_put _ c.args.putting.now.words.now.grid.now c.args.putting.now.words.now.mend c.args.putting.now.words.now.quiet (streamed_calls g.S.Source.gives g.S.Source.failures) c.in_ok-ready.ready _ c.args.putting.now.params.now.happy
           (still_ok c.prepare_stream-ready.result (Ok c.in_ok-ready.ready) _ _ c.in_ok-ready.ensures.cases c.in_ok-ready.ensures.variant c.prepare_stream-ready.ensures.goal) (still_ok c.prepare_stream-ready.result (Ok c.in_ok-ready.ready) _ _ c.in_ok-ready.ensures.cases c.in_ok-ready.ensures.variant c.prepare_stream-ready.ensures.happy) (c.cap.ensures ∙ ap (λ (s : Streaming _). s.kept.cap) c.pieces.ensures) outcome put,
     ))
     c.place.ensures

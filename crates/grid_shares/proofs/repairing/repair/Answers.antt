@@ -1,4 +1,4 @@
-use Rattle.std.proofs.Common.{◌≡◌, ap, sym, ◌∙◌}
+use Rattle.std.proofs.Common.{sym}
 use Rattle.grid_shares.proofs.Told.{repair_told}
 use Rattle.grid_shares.proofs.repairing.repair.Goals as goal
 
