@@ -1,1 +1,5 @@
-pub mod Written
+pub mod RunLemmas
+pub mod SpanLemmas
+pub mod TriedLemmas
+pub mod WordLemmas
+pub mod GotLemmas

@@ -1,4 +1,6 @@
 -- what public contracts rest on
-pub mod WritingDownload
+pub mod Gets
 -- where the bytes of a `get -o` are written
 pub mod Target
+-- how the spans of a range are got
+pub mod Spans

@@ -4,7 +4,9 @@
 mod output;
 mod range;
 mod spans;
+mod suspects;
 mod target;
-mod writing_download;
+mod tried;
+mod watching;
 
 pub use range::get;

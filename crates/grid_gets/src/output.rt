@@ -1,5 +1,7 @@
 //! The file that a `get` writes with `-o`.
 
+ghost use Rattle.std.specs.Prelude.{◌≡◌, OnOk};
+
 use crate::target::{
     Found, MOST_LINKS, MOST_PARTS, Target, folder_of, found_of, part_name, target_of,
 };
@@ -67,10 +69,12 @@ impl<R: Files + AllocGlobal> Part<R> {
 
     /// Ends the file, of which so much was written as this outcome says: one that is whole is put
     /// on the disk, and gets its name.
-    pub(crate) fn finish(self, rt: &R, outcome: Result<(), Failure>) -> Result<(), Failure> {
+    pub(crate) fn finish(self, rt: &R, outcome: Result<(), Failure>) -> Result<(), Failure>
+        ensures { OnOk result (outcome ≡ Ok tt) }
+    {
         match outcome {
             Ok(()) => Ok(self.keep(rt)?),
-            Err(failure) => self.give_up(rt, failure),
+            Err(failure) => Err(self.give_up(rt, failure)),
         }
     }
 
@@ -89,7 +93,7 @@ impl<R: Files + AllocGlobal> Part<R> {
 
     // Leaves the file as it is, or removes one without a byte. Where it could not be written the
     // fault names it.
-    fn give_up(self, rt: &R, failure: Failure) -> Result<(), Failure> {
+    fn give_up(self, rt: &R, failure: Failure) -> Failure {
         let path = self.path.as_str();
         if self.whole.is_some() && self.written == 0 {
             let _ = fs::remove_file(rt, path);
@@ -98,9 +102,12 @@ impl<R: Files + AllocGlobal> Part<R> {
             Failure::Writer => {
                 let fault = self.fault.unwrap_or(io::Error::from(ErrorKind::Other));
                 let written: io::Result<()> = Err(fault);
-                Ok(at_path(rt.alloc(), written, path)?)
+                match at_path(rt.alloc(), written, path) {
+                    Ok(()) => Failure::Writer,
+                    Err(fault) => Failure::Fault(fault),
+                }
             }
-            failure => Err(failure),
+            failure => failure,
         }
     }
 }
@@ -192,6 +199,8 @@ fn sync_folder<R: Files>(rt: &R, folder: &str) -> io::Result<()> {
 }
 
 impl<R: Files> Write for Part<R> {
+    ghost contents = { λ part. R.File.contents part.file };
+
     fn write(&mut self, buf: &[u8]) -> io::Result<usize> {
         let outcome = self.file.write(buf);
         match &outcome {

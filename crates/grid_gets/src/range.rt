@@ -1,7 +1,18 @@
 //! `grid get`: bytes of a cap's file, from the servers of a grid.
 
-ghost use Rattle.std.specs.Prelude.{◌≡◌, ◌≤◌, length};
+ghost use Rattle.std.specs.Prelude.{◌≡◌, ℕ, List, Option, Err, IfErr, IfOk, IfSome, OnOk};
+ghost use Rattle.std.specs.Prelude.{IsSome, IsTrue, None, is_some, length};
+ghost use Rattle.std.specs.Io.KnownBytes.{Appends};
+ghost use Rattle.cap_text.specs.Cap.{VerifyCapValue};
+ghost use Rattle.cap_text.specs.CapText.{Spells};
+ghost use Rattle.cap_text.specs.declared.cap.Cap.TheVariants.{Chk, Verify, Lit};
+ghost use Rattle.grid_faults.specs.declared.fault.Fault.TheVariants as faults;
+ghost use Rattle.socket_links.specs.Ends.{pair_calls};
+ghost use Rattle.socket_links.specs.Links.{IsCarriedOver};
 ghost use Rattle.grid_rules.specs.Range.{IsWithin};
+ghost use Rattle.grid_telling.specs.declared.outcome.Failure.TheVariants as failures;
+ghost use Rattle.grid_gets.specs.Gets.{IsBegunBy, IsBegunOf, IsGotBy, IsGotOf, UnlessWriter};
+ghost use Rattle.grid_gets.specs.Gets.{bytes_in, file_size, range_by};
 
 use crate::output::Part;
 use crate::spans::Spans;
@@ -31,25 +42,71 @@ where
     R: Files + Net + Clock + RandomSource + AllocGlobal + Clone + Drop,
     O: Write,
     E: Write + IsTerminal,
+    ensures got { words.now.output ≡ None → OnOk result (IsGotBy (IsCarriedOver (pair_calls
+        R.Stream.contents R.Stream.remaining)) words.now (O.contents out.old)
+        (O.contents out.new)) }
+    ensures begun { words.now.output ≡ None → IfErr result (λ failure. UnlessWriter failure
+        (IsBegunBy (IsCarriedOver (pair_calls R.Stream.contents R.Stream.remaining)) words.now
+        (O.contents out.old) (O.contents out.new))) }
+    // With a file of a name it is what the file has that is written.
+    ensures file { IfSome words.now.output (λ _. OnOk result ((held holds : Option (List ℕ))
+        × IsGotBy (IsCarriedOver (pair_calls R.Stream.contents R.Stream.remaining)) words.now
+        held holds)) }
+    ensures kept { IfSome words.now.output (λ _. out.new ≡ out.old) }
+    ensures verify { (cap : VerifyCapValue) → Spells words.now.cap.now (Verify cap)
+        → result ≡ Err (failures.Fault faults.NeedsReadCap) }
 {
-    let cap = read_cap(words.cap)?;
-    let range = range_of(words.from, words.to, size_of(&cap)?)?;
-    if is_known && matches!(cap, Cap::Chk(_)) {
-        known_grid(rt, words.grid)?;
-    }
+    let asked = asked_by(words)?;
+    may_get(rt, words, is_known, &asked.cap)?;
     match words.output {
-        None => write_bytes(rt, words, &cap, &range, out, progress),
-        Some(path) => write_file(rt, words, path, &cap, &range, progress),
+        None => write_bytes(rt, words, &asked.cap, &asked.range, out, progress),
+        Some(path) => write_file(rt, words, path, &asked.cap, &asked.range, progress),
     }
 }
 
+// What is asked for: a range of a cap's file.
+#[derive(Drop)]
+struct Asked {
+    cap: Cap,
+    range: ByteRange,
+}
+
+// What these words ask for. A verify cap does not read.
+fn asked_by(words: &GetWords<'_>) -> Result<Asked, Fault>
+    ensures spelled { IfOk result (λ asked. Spells words.now.cap.now asked.cap) }
+    ensures range { IfOk result (λ asked. asked.range ≡ range_by words.now asked.cap) }
+    ensures within { IfOk result (λ asked. IsWithin (file_size asked.cap) asked.range) }
+    ensures verify { (cap : VerifyCapValue) → Spells words.now.cap.now (Verify cap)
+        → result ≡ Err faults.NeedsReadCap }
+{
+    let cap = read_cap(words.cap)?;
+    let size = size_of(&cap)?;
+    let range = range_of(words.from, words.to, size)?;
+    Ok(Asked { cap, range })
+}
+
 // The size of a cap's file. A verify cap does not read.
-fn size_of(cap: &Cap) -> Result<u64, Fault> {
+fn size_of(cap: &Cap) -> Result<u64, Fault>
+    ensures size { IfOk result (λ size. size ≡ file_size cap.now) }
+    ensures verify { (verify : VerifyCapValue) → cap.now ≡ Verify verify
+        → result ≡ Err faults.NeedsReadCap }
+{
     match cap {
         Cap::Chk(cap) => Ok(cap.size()),
         Cap::Verify(_) => Err(Fault::NeedsReadCap),
         Cap::Lit(cap) => Ok(cap.data().len() as u64),
     }
+}
+
+// Where only a grid that is marked is wanted, refuses to ask one that is not.
+fn may_get<R>(rt: &R, words: &GetWords<'_>, is_known: bool, cap: &Cap) -> Result<(), Fault>
+where
+    R: Files + AllocGlobal,
+{
+    if is_known && matches!(cap, Cap::Chk(_)) {
+        known_grid(rt, words.grid)?;
+    }
+    Ok(())
 }
 
 // Writes a range of a cap's file to a file of this path.
@@ -64,6 +121,9 @@ fn write_file<R, E>(
 where
     R: Files + Net + Clock + RandomSource + AllocGlobal + Clone + Drop,
     E: Write + IsTerminal,
+    requires { IsWithin (file_size cap.now) range.now }
+    ensures { OnOk result ((held holds : Option (List ℕ)) × IsGotOf (IsCarriedOver (pair_calls
+        R.Stream.contents R.Stream.remaining)) words.now cap.now range.now held holds) }
 {
     let mut part = Part::create(rt, path)?;
     let written = write_bytes(rt, words, cap, range, &mut part, progress);
@@ -83,19 +143,27 @@ where
     R: Files + Net + Clock + RandomSource + AllocGlobal + Clone + Drop,
     O: Write,
     E: Write + IsTerminal,
+    requires { IsWithin (file_size cap.now) range.now }
+    ensures ok { OnOk result (IsGotOf (IsCarriedOver (pair_calls R.Stream.contents
+        R.Stream.remaining)) words.now cap.now range.now (O.contents out.old)
+        (O.contents out.new)) }
+    ensures err { IfErr result (λ failure. UnlessWriter failure (IsBegunOf (IsCarriedOver
+        (pair_calls R.Stream.contents R.Stream.remaining)) words.now range.now
+        (O.contents out.old) (O.contents out.new) cap.now)) }
 {
     match cap {
         Cap::Chk(cap) => get_range(rt, words, cap, range, out, progress),
         Cap::Verify(_) => Err(Failure::Fault(Fault::NeedsReadCap)),
-        Cap::Lit(cap) => print(out, bytes_in(cap.data(), range)),
+        Cap::Lit(cap) => send(out, bytes_in(cap.data(), range)),
     }
 }
 
-// The bytes of a range, where they are there.
-fn bytes_in<'a>(bytes: &'a [u8], range: &ByteRange) -> &'a [u8] {
-    bytes
-        .get(range.from as usize..range.to as usize)
-        .unwrap_or(&[])
+// The bytes of a range, which are there.
+fn bytes_in<'a>(bytes: &'a [u8], range: &ByteRange) -> &'a [u8]
+    requires { IsWithin (length bytes.now) range.now }
+    ensures { result.now ≡ bytes_in bytes.now range.now }
+{
+    &bytes[range.from as usize..range.to as usize]
 }
 
 // Writes a range of a cap's file from what the servers answer.
@@ -111,6 +179,13 @@ where
     R: Files + Net + Clock + RandomSource + AllocGlobal + Clone + Drop,
     O: Write,
     E: Write + IsTerminal,
+    requires { IsWithin cap.now.size range.now }
+    ensures ok { OnOk result (IsGotOf (IsCarriedOver (pair_calls R.Stream.contents
+        R.Stream.remaining)) words.now (Chk cap.now) range.now (O.contents out.old)
+        (O.contents out.new)) }
+    ensures err { IfErr result (λ failure. UnlessWriter failure (IsBegunOf (IsCarriedOver
+        (pair_calls R.Stream.contents R.Stream.remaining)) words.now range.now
+        (O.contents out.old) (O.contents out.new) (Chk cap.now))) }
 {
     is_grid(rt, words.grid)?;
     let standing = standing_servers(rt, words.grid)?;
@@ -123,14 +198,26 @@ where
     );
     let mut spans = Spans::new(rt, words.grid, nodes);
     let written = spans.write_range(servers, cap, range, out, progress);
-    note_servers(
+    let noted = note_servers(
         rt,
         words.grid,
         servers,
         spans.nodes(),
         Purpose::Reading,
         progress,
-    )?;
+    );
     written?;
-    print(out, &[])
+    noted?;
+    send(out, &[])
+}
+
+// Writes bytes, and all that was written before them. It fails only where the writer does.
+fn send<O: Write>(out: &mut O, bytes: &[u8]) -> Result<(), Failure>
+    ensures ok { OnOk result (Appends (O.contents out.old) (O.contents out.new) bytes.now) }
+    ensures err { IfErr result (λ failure. failure ≡ failures.Writer) }
+{
+    match print(out, bytes) {
+        Ok(()) => Ok(()),
+        Err(_) => Err(Failure::Writer),
+    }
 }

@@ -1,23 +1,30 @@
 //! A range of a file that is got in spans, one download after another over the same servers, so
 //! that memory holds what one span takes.
 
-ghost use Rattle.std.specs.Prelude.{nat_eq};
+ghost use Rattle.std.specs.Prelude.{◌≡◌, ◌≤◌, ◌<◌, IfErr, IfOk, IfSome, OnOk, None, Some, nat_eq};
 ghost use Rattle.std.specs.List.{IsDistinct};
+ghost use Rattle.carried_operations.specs.declared.downloads.CutShort.TheVariants as cuts;
+ghost use Rattle.download_core.specs.Moves.{Begins};
+ghost use Rattle.socket_links.specs.Ends.{pair_calls};
+ghost use Rattle.socket_links.specs.Links.{IsCarriedOver};
+ghost use Rattle.grid_telling.specs.declared.outcome.Failure.TheVariants as failures;
+ghost use Rattle.grid_gets.specs.Gets.{AcceptsOnly, UnlessWriter};
+ghost use Rattle.grid_gets.specs.Spans.{EndsWith, Leads, StaysBlock, Stops, reached_by};
 
-use crate::writing_download::WritingDownload;
+use crate::suspects::Suspects;
+use crate::tried::{Tried, end_of};
+use crate::watching::Watching;
 use cap_text::ReadCap;
+use carried_operations::downloads::{Carried, CutShort, carry_download};
 use download_core::Download;
-use download_shares::holding::Blame;
 use grid_faults::Fault;
-use grid_rules::becoming::{fault_of_download, fault_of_loop};
-use grid_rules::{ByteRange, reached_range_end};
-use grid_servers::{FIRST_SESSION, FolderGrid, is_silent, servers_without};
-use grid_telling::{Counted, Failure, Progress, Writing, note_blame};
-use local_grid::error::LoopError;
-use local_grid::watched::Watched;
+use grid_rules::ByteRange;
+use grid_rules::becoming::fault_of_download;
+use grid_servers::{FIRST_SESSION, FolderGrid};
+use grid_telling::{Failure, Progress};
 use std::alloc::Global;
-use std::cell::Cell;
 use std::io::{IsTerminal, Write};
+use std::marker::Model;
 use std::net::Net;
 use std::rt::{Clock, Files};
 use wire::message::NodeId;
@@ -33,21 +40,31 @@ pub(crate) struct Spans<'a, R>
 where
     R: Files + Net + AllocGlobal + Clone + Drop,
 {
-    rt: &'a R,
-    grid: &'a str,
+    alloc: Global,
     nodes: FolderGrid<R>,
     // those that are asked only where the others do not have enough
-    suspects: Vec<NodeId>,
+    suspects: Suspects<'a, R>,
     // that of the spans before
     extension_block: Option<Vec<u8>>,
     session: u64,
 }
 
-/// How a download of a span ended that was not refused.
-enum Tried {
-    Done,
-    /// There were too few shares; all bytes up to this offset were written.
-    TooFew(u64),
+impl<'a, R> Model for Spans<'a, R>
+where
+    R: Files + Net + AllocGlobal + Clone + Drop,
+{
+    ghost use Rattle.std.specs.Prelude.{option_map};
+    ghost use Rattle.socket_links.specs.declared.ends.SocketPair.{SocketPair};
+    ghost use Rattle.socket_links.specs.declared.link.GridLink.{GridLink};
+    ghost use Rattle.grid_gets.specs.Spans.{Spanning};
+
+    ghost Value = { Spanning (GridLink (SocketPair R.Stream)) };
+
+    ghost view = { λ s. record {
+      session = s.session;
+      grid = s.nodes;
+      block = option_map (λ block. block.items) s.extension_block;
+    } };
 }
 
 impl<'a, R> Spans<'a, R>
@@ -55,12 +72,13 @@ where
     R: Files + Net + Clock + AllocGlobal + Clone + Drop,
 {
     /// Before the first span.
-    pub(crate) fn new(rt: &'a R, grid: &'a str, nodes: FolderGrid<R>) -> Spans<'a, R> {
+    pub(crate) fn new(rt: &'a R, grid: &'a str, nodes: FolderGrid<R>) -> Spans<'a, R>
+        ensures { result ≡ record { session = FIRST_SESSION; grid = nodes; block = None } }
+    {
         Spans {
-            rt,
-            grid,
+            alloc: rt.alloc(),
             nodes,
-            suspects: Vec::new(rt.alloc()),
+            suspects: Suspects::new(rt, grid),
             extension_block: None,
             session: FIRST_SESSION,
         }
@@ -84,12 +102,20 @@ where
     where
         O: Write,
         E: Write + IsTerminal,
-        requires { IsDistinct nat_eq servers.now }
+        requires distinct { IsDistinct nat_eq servers.now }
+        requires ordered { range.now.from ≤ range.now.to }
+        ensures ok { OnOk result (Leads (IsCarriedOver (pair_calls R.Stream.contents
+            R.Stream.remaining)) cap.now self.old range.now.from (O.contents out.old) self.new
+            range.now.to (O.contents out.new)) }
+        ensures err { IfErr result (λ failure. UnlessWriter failure (Stops (IsCarriedOver
+            (pair_calls R.Stream.contents R.Stream.remaining)) cap.now self.old range.now.from
+            range.now.to (O.contents out.old) (O.contents out.new))) }
     {
-        let last = range.to.saturating_sub(1).max(range.from) / SPAN;
-        for number in range.from / SPAN..=last {
-            let span = span_of(range, number);
-            self.write_span(servers, cap, &span, out, progress)?;
+        let mut from = range.from;
+        'spans: while from < range.to {
+            let to = span_end(from, range.to);
+            self.write_span(servers, cap, from, to, out, progress)?;
+            from = to;
         }
         Ok(())
     }
@@ -100,23 +126,55 @@ where
         &mut self,
         servers: &[NodeId],
         cap: &ReadCap,
-        span: &ByteRange,
+        from: u64,
+        to: u64,
         out: &mut O,
         progress: &mut Progress<'_, R, E>,
     ) -> Result<(), Failure>
     where
         O: Write,
         E: Write + IsTerminal,
-        requires { IsDistinct nat_eq servers.now }
+        requires distinct { IsDistinct nat_eq servers.now }
+        requires ordered { from ≤ to }
+        ensures ok { OnOk result (Leads (IsCarriedOver (pair_calls R.Stream.contents
+            R.Stream.remaining)) cap.now self.old from (O.contents out.old) self.new to
+            (O.contents out.new)) }
+        ensures err { IfErr result (λ failure. UnlessWriter failure (Stops (IsCarriedOver
+            (pair_calls R.Stream.contents R.Stream.remaining)) cap.now self.old from to
+            (O.contents out.old) (O.contents out.new))) }
     {
-        let trusted = servers_without(self.rt.alloc(), servers, self.suspects.as_slice())?;
+        let trusted = self.suspects.without(servers)?;
         let are_all = trusted.len() == servers.len();
-        let rest = match self.try_span(trusted.as_slice(), cap, span, out, progress)? {
-            Tried::Done => return Ok(()),
-            Tried::TooFew(_) if are_all => return Err(Failure::Fault(Fault::NotEnoughShares)),
-            Tried::TooFew(from) => ByteRange { from, to: span.to },
-        };
-        match self.try_span(servers, cap, &rest, out, progress)? {
+        match self.try_span(trusted.as_slice(), cap, from, to, out, progress)? {
+            Tried::Done => Ok(()),
+            Tried::TooFew(_) if are_all => Err(Failure::Fault(Fault::NotEnoughShares)),
+            Tried::TooFew(at) => self.try_all(servers, cap, at, to, out, progress),
+        }
+    }
+
+    // Writes the rest of a span, from all of these servers.
+    fn try_all<O, E>(
+        &mut self,
+        servers: &[NodeId],
+        cap: &ReadCap,
+        from: u64,
+        to: u64,
+        out: &mut O,
+        progress: &mut Progress<'_, R, E>,
+    ) -> Result<(), Failure>
+    where
+        O: Write,
+        E: Write + IsTerminal,
+        requires distinct { IsDistinct nat_eq servers.now }
+        requires ordered { from ≤ to }
+        ensures ok { OnOk result (Leads (IsCarriedOver (pair_calls R.Stream.contents
+            R.Stream.remaining)) cap.now self.old from (O.contents out.old) self.new to
+            (O.contents out.new)) }
+        ensures err { IfErr result (λ failure. UnlessWriter failure (Stops (IsCarriedOver
+            (pair_calls R.Stream.contents R.Stream.remaining)) cap.now self.old from to
+            (O.contents out.old) (O.contents out.new))) }
+    {
+        match self.try_span(servers, cap, from, to, out, progress)? {
             Tried::Done => Ok(()),
             Tried::TooFew(_) => Err(Failure::Fault(Fault::NotEnoughShares)),
         }
@@ -127,129 +185,129 @@ where
         &mut self,
         servers: &[NodeId],
         cap: &ReadCap,
-        span: &ByteRange,
+        from: u64,
+        to: u64,
         out: &mut O,
         progress: &mut Progress<'_, R, E>,
     ) -> Result<Tried, Failure>
     where
         O: Write,
         E: Write + IsTerminal,
-        requires { IsDistinct nat_eq servers.now }
+        requires distinct { IsDistinct nat_eq servers.now }
+        requires ordered { from ≤ to }
+        ensures ok { IfOk result (λ tried. Leads (IsCarriedOver (pair_calls R.Stream.contents
+            R.Stream.remaining)) cap.now self.old from (O.contents out.old) self.new
+            (reached_by tried to) (O.contents out.new)) }
+        ensures within { IfOk result (λ tried. reached_by tried to ≤ to) }
+        ensures err { IfErr result (λ failure. UnlessWriter failure (Stops (IsCarriedOver
+            (pair_calls R.Stream.contents R.Stream.remaining)) cap.now self.old from to
+            (O.contents out.old) (O.contents out.new))) }
     {
         let session = self.session;
         self.session = session.saturating_add(1);
         let now = self.nodes.clock();
-        let download = begin_download(self.rt.alloc(), cap, span, servers, session, now)?;
-        let count = Cell::new(0);
-        let download = WritingDownload::new(download, Counted::new(&mut *out, &count));
-        let mut watched = Watched::new(download, Writing::new(&mut *progress, &count));
-        let carried = self.nodes.run(&mut watched);
-        let download = watched.into_operation();
-        let offset = span.from.saturating_add(count.get());
-        self.conclude(servers, &download, carried, offset, progress)
+        let download = begin_download(self.alloc, cap, from, to, servers, session, now)?;
+        let mut watch = Watching::new(&mut *progress);
+        let carried = carry_download(&mut self.nodes, download, from, out, &mut watch);
+        self.conclude(servers, &carried, progress)
     }
 
-    // How a download ended that was carried as far as it goes, and wrote the bytes up to this
-    // offset.
-    fn conclude<W, E>(
+    // How a download ended that was carried. Where the writer failed, that is told before all else.
+    fn conclude<E>(
         &mut self,
         servers: &[NodeId],
-        download: &WritingDownload<W>,
-        carried: Result<(), LoopError>,
-        offset: u64,
+        carried: &Carried,
         progress: &mut Progress<'_, R, E>,
     ) -> Result<Tried, Failure>
     where
-        W: Write,
         E: Write + IsTerminal,
+        ensures ended { IfOk result
+            (λ tried. (carried.now.ended ≡ Ok tt) × EndsWith carried.now tried) }
+        ensures same { IfOk result (λ _. self.new ≡ record self.old { block = self.new.block }) }
+        ensures stays { IfOk result (λ _. StaysBlock self.old.block self.new.block) }
+        ensures accepts { IfOk result (λ _. AcceptsOnly self.new.block carried.now.download) }
+        ensures writer { carried.now.ended ≡ Err cuts.Writer → result ≡ Err failures.Writer }
     {
-        self.compare(download.extension_block())?;
-        self.suspect(servers, download.blamed(), progress)?;
-        reached(end_of(carried, download), offset)
-    }
-
-    // Compares the extension block of a span with that of the spans before. Both have the hash that
-    // the cap tells.
-    fn compare(&mut self, block: Option<&[u8]>) -> Result<(), Fault> {
-        let Some(block) = block else {
-            return Ok(());
-        };
-        match &self.extension_block {
-            Some(first) if first.as_slice() != block => Err(Fault::Inconsistent),
-            Some(_) => Ok(()),
-            None => {
-                self.extension_block = Some(Vec::from_slice(self.rt.alloc(), block)?);
-                Ok(())
-            }
+        let noted = self.note(servers, &carried.download, progress);
+        if let Err(CutShort::Writer) = carried.ended {
+            return Err(Failure::Writer);
         }
+        noted?;
+        end_of(carried)
     }
 
-    // Takes note of the servers that were blamed, or are silent now.
-    fn suspect<E>(
+    // Takes note of what a download found: its extension block is compared with that of those
+    // before, and servers that are silent or were blamed are suspects.
+    fn note<E>(
         &mut self,
         servers: &[NodeId],
-        blamed: &[Blame],
+        download: &Download,
         progress: &mut Progress<'_, R, E>,
     ) -> Result<(), Fault>
     where
         E: Write + IsTerminal,
+        ensures same { OnOk result (self.new ≡ record self.old { block = self.new.block }) }
+        ensures stays { OnOk result (StaysBlock self.old.block self.new.block) }
+        ensures accepts { OnOk result (AcceptsOnly self.new.block download.now) }
     {
-        for blame in blamed {
-            if !self.suspects.contains(&blame.server) {
-                self.suspects.push(blame.server)?;
-                note_blame(self.rt, self.grid, blame.server, blame.share, progress)?;
+        self.compare(download.extension_block())?;
+        self.suspects
+            .note(&self.nodes, servers, download.blamed(), progress)
+    }
+
+    // Compares the extension block of a download with that of those before. Both have the hash that
+    // the cap tells.
+    fn compare(&mut self, block: Option<&[u8]>) -> Result<(), Fault>
+        ensures same { OnOk result (self.new ≡ record self.old { block = self.new.block }) }
+        ensures stays { OnOk result (StaysBlock self.old.block self.new.block) }
+        ensures some { OnOk result (IfSome block.entry (λ b. self.new.block ≡ Some b.now)) }
+    {
+        let Some(block) = block else {
+            return Ok(());
+        };
+        match &self.extension_block {
+            Some(first) => same_block(first.as_slice(), block),
+            None => {
+                self.extension_block = Some(Vec::from_slice(self.alloc, block)?);
+                Ok(())
             }
         }
-        for server in servers {
-            if is_silent(&self.nodes, *server) && !self.suspects.contains(server) {
-                self.suspects.push(*server)?;
-            }
-        }
-        Ok(())
     }
 }
 
-// The bytes of a range that lie in the span of this number.
-fn span_of(range: &ByteRange, number: u64) -> ByteRange {
-    let begin = number.saturating_mul(SPAN);
-    ByteRange {
-        from: range.from.max(begin),
-        to: range.to.min(begin.saturating_add(SPAN)),
+// Refuses an extension block that is not the first one.
+fn same_block(first: &[u8], block: &[u8]) -> Result<(), Fault>
+    ensures { OnOk result (first.now ≡ block.now) }
+{
+    if first == block {
+        Ok(())
+    } else {
+        Err(Fault::Inconsistent)
     }
+}
+
+// Where the span ends that begins at an offset before the range's end.
+fn span_end(from: u64, to: u64) -> u64
+    requires { from < to }
+    ensures goes_on { from < result }
+    ensures within { result ≤ to }
+{
+    let next = (from / SPAN).saturating_add(1).saturating_mul(SPAN);
+    to.min(next)
 }
 
 // The download of a span, from these servers, which are distinct.
 fn begin_download(
     alloc: Global,
     cap: &ReadCap,
-    span: &ByteRange,
+    from: u64,
+    to: u64,
     servers: &[NodeId],
     session: u64,
     now: u64,
 ) -> Result<Download, Fault>
     requires { IsDistinct nat_eq servers.now }
+    ensures { IfOk result (Begins cap.now from to servers.now session now) }
 {
-    let (from, to) = (span.from, span.to);
     Download::start(alloc, *cap, from, to, servers, session, now).map_err(fault_of_download)
-}
-
-// How a download ended that was carried as far as it goes.
-fn end_of<W: Write>(
-    carried: Result<(), LoopError>,
-    download: &WritingDownload<W>,
-) -> Result<(), Failure> {
-    carried.map_err(fault_of_loop)?;
-    if download.has_failed() {
-        return Err(Failure::Writer);
-    }
-    Ok(reached_range_end(download.status())?)
-}
-
-// The same, where too few shares are no fault yet. All bytes up to this offset were written.
-fn reached(ended: Result<(), Failure>, offset: u64) -> Result<Tried, Failure> {
-    match ended {
-        Ok(()) => Ok(Tried::Done),
-        Err(Failure::Fault(Fault::NotEnoughShares)) => Ok(Tried::TooFew(offset)),
-        Err(failure) => Err(failure),
-    }
 }

@@ -3,13 +3,11 @@
 //! has no result.
 #![tactic(auto)]
 
-mod counted;
 mod notes;
 mod outcome;
 mod progress;
 mod progress_lines;
 
-pub use counted::{Counted, Writing};
 pub use notes::{note_blame, note_limits, note_servers};
 pub use outcome::{Failure, print};
 pub use progress::{Counting, Progress};

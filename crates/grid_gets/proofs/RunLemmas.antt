@@ -1,0 +1,48 @@
+-- Downloads of a get, one after another, and the bytes of their pieces.
+use Rattle.std.proofs.Common.{◌≡◌, ℕ, ◌+◌, ◌≤◌, List, [], ◌∷◌, ◌++◌, length, Option, refl, sym, ap, subst, ◌∙◌}
+use Rattle.std.proofs.KnownBytes.{Appends-nil, Appends-trans}
+use Rattle.std.proofs.lemmas.Grind.{flat_map-append}
+use Rattle.std.proofs.lemmas.List.{append-nil}
+use Rattle.std.specs.Io.KnownBytes.{Appends}
+use Rattle.cap_text.specs.Cap.{ReadCapValue}
+use Rattle.download_segments.specs.Pieces.{AreConsecutive}
+use Rattle.download_segments.specs.declared.piece.Piece.{Piece}
+use Rattle.download_file.specs.Whole.{joined}
+use Rattle.download_core.specs.State.{handed}
+use Rattle.local_grid.specs.Nodes.{Carries}
+use Rattle.carried_operations.proofs.DownloadRuns.{consecutive_more, joined_more}
+use Rattle.grid_gets.specs.Gets.{AreRuns, AreWritten, IsRun, Point, Run, pieces_of}
+
+runs_trans : {L : Type 0} (carries : Carries L) (cap : ReadCapValue) (a b c : Point L) (rs ss : List (Run L)) → AreRuns carries cap a rs b → AreRuns carries cap b ss c → AreRuns carries cap a (rs ++ ss) c
+runs_trans {L = L} carries cap a b c [] ss first second = subst (λ (p : Point L). AreRuns carries cap p ss c) first second
+runs_trans carries cap a b c (r ∷ rs) ss first second = (first.0, runs_trans carries cap r.after b c rs ss first.1 second)
+
+-- some, and then others
+pub written_trans : {L : Type 0} (carries : Carries L) (cap : ReadCapValue) (a b c : Point L) (rs ss : List (Run L)) (held middle holds : Option (List ℕ))
+    → AreWritten carries cap a held rs b middle → AreWritten carries cap b middle ss c holds → AreWritten carries cap a held (rs ++ ss) c holds
+written_trans {L = L} carries cap a b c rs ss held middle holds w v =
+    let both : pieces_of (rs ++ ss) ≡ pieces_of rs ++ pieces_of ss = flat_map-append (λ (r : Run L). r.pieces) rs ss in
+    record {
+      runs_are = runs_trans carries cap a b c rs ss w.runs_are v.runs_are;
+      consecutive = subst (λ (ps : List Piece). AreConsecutive a.offset ps c.offset) (sym both)
+          (consecutive_more a.offset b.offset c.offset (pieces_of rs) (pieces_of ss) w.consecutive v.consecutive);
+      written = subst (λ (l : List ℕ). Appends held holds l) (sym (ap joined both ∙ joined_more (pieces_of rs) (pieces_of ss)))
+          (Appends-trans held middle holds (joined (pieces_of rs)) (joined (pieces_of ss)) w.written v.written);
+    }
+
+-- none
+pub written_nil : {L : Type 0} (carries : Carries L) (cap : ReadCapValue) (a : Point L) (held : Option (List ℕ)) → AreWritten carries cap a held [] a held
+written_nil carries cap a held = record { runs_are = refl; consecutive = refl; written = Appends-nil held }
+
+-- one
+pub written_one : {L : Type 0} (carries : Carries L) (cap : ReadCapValue) (a : Point L) (r : Run L) (held holds : Option (List ℕ)) → IsRun carries cap a r → Appends held holds (joined r.pieces)
+    → AreWritten carries cap a held (r ∷ []) r.after holds
+written_one carries cap a r held holds i added =
+    let alone : r.pieces ++ [] ≡ r.pieces = append-nil r.pieces in
+    let from : AreConsecutive a.offset r.pieces (handed r.ended) = subst (λ (n : ℕ). AreConsecutive n r.pieces (handed r.ended)) i.begins.range.0 i.carried.consecutive in
+    record {
+      runs_are = (i, refl);
+      consecutive = subst (λ (ps : List Piece). AreConsecutive a.offset ps r.after.offset) (sym alone)
+          (subst (λ (n : ℕ). AreConsecutive a.offset r.pieces n) (sym i.offset) from);
+      written = subst (λ (l : List ℕ). Appends held holds l) (ap joined (sym alone)) added;
+    }

@@ -1,0 +1,61 @@
+-- What a get writes by its words.
+use Rattle.std.proofs.Common.{◌≡◌, ◌↔◌, ℕ, List, Option, Some, None, Result, Ok, Err, OnOk, IfOk, IfErr, IfSome, sym, ap, subst, ◌∙◌}
+use Rattle.std.specs.Io.KnownBytes.{Keeps}
+use Rattle.cap_text.specs.Cap.{VerifyCapValue}
+use Rattle.cap_text.specs.CapText.{Spells}
+use Rattle.cap_text.specs.declared.cap.Cap.{Cap}
+use Rattle.cap_text.specs.declared.cap.Cap.TheVariants.{Verify}
+use Rattle.grid_faults.specs.declared.fault.Fault.{Fault}
+use Rattle.local_grid.specs.Nodes.{Carries}
+use Rattle.grid_rules.specs.Range.{IsWithin}
+use Rattle.grid_rules.specs.declared.range.ByteRange.{ByteRange}
+use Rattle.grid_telling.specs.declared.outcome.Failure.{Failure}
+use Rattle.grid_words.specs.declared.words.GetWords.{GetWords}
+use Rattle.grid_gets.specs.Gets.{IsBegunBy, IsBegunOf, IsGotBy, IsGotOf, UnlessWriter, file_size, range_by, read}
+use Rattle.grid_gets.proofs.SpanLemmas.{if_err_weaker}
+
+-- ---- the cap that a text spells
+
+pub ok_same : {A E : Type 0} (a b : A) → ◌≡◌ {A = Result A E} (Ok a) (Ok b) → a ≡ b
+ok_same a b e = cc
+
+pub err_same : {A E : Type 0} (a b : E) → ◌≡◌ {A = Result A E} (Err a) (Err b) → a ≡ b
+err_same a b e = cc
+
+pub ok_is_no_err : {A E : Type 0} (a : A) (e : E) → ◌≡◌ {A = Result A E} (Ok a) (Err e) → ⊥
+ok_is_no_err a e same = cc
+
+module _ (text : List ℕ) (r : Result Cap Fault) (said : (cap : Cap) → (r ≡ Ok cap) ↔ Spells text cap) (v : VerifyCapValue) (spelled : Spells text (Verify v)) where
+  pub is_verify : (cap : Cap) → r ≡ Ok cap → cap ≡ Verify v
+  is_verify cap is = ok_same cap (Verify v) (sym is ∙ (said (Verify v)).1 spelled)
+
+  pub is_read : (fault : Fault) → r ≡ Err fault → ⊥
+  is_read fault is = ok_is_no_err (Verify v) fault (sym ((said (Verify v)).1 spelled) ∙ is)
+
+pub some_then : {A : Type 0} (o : Option A) (P : Type 0) → P → IfSome o (λ _. P)
+some_then None P p = tt
+some_then (Some a) P p = p
+
+-- ---- what is written
+
+module _ {L : Type 0} (carries : Carries L) (words : GetWords) (cap : Cap) (range : ByteRange) (spelled : Spells words.cap.now cap) (is : range ≡ range_by words cap) (within : IsWithin (file_size cap) range) where
+  fits : IsWithin (file_size cap) (range_by words cap)
+  fits = subst (λ (r : ByteRange). IsWithin (file_size cap) r) is within
+
+  by_words : (held holds : Option (List ℕ)) → IsGotOf carries words cap range held holds → IsGotBy carries words held holds
+  by_words held holds g = record { cap = cap; spelled = spelled; within = fits; got = subst (λ (r : ByteRange). IsGotOf carries words cap r held holds) is g }
+
+  -- to a writer
+  pub got_by : (r : Result (Unit {0}) Failure) (held holds : Option (List ℕ)) → OnOk r (IsGotOf carries words cap range held holds) → OnOk r (IsGotBy carries words held holds)
+  got_by (Ok tt) held holds g = by_words held holds g
+  got_by (Err f) held holds g = tt
+
+  -- to a file
+  pub file_by : (r : Result (Unit {0}) Failure) → OnOk r ((held holds : Option (List ℕ)) × IsGotOf carries words cap range held holds) → OnOk r ((held holds : Option (List ℕ)) × IsGotBy carries words held holds)
+  file_by (Ok tt) g = (g.0, g.1, by_words g.0 g.1 g.2)
+  file_by (Err f) g = tt
+
+  pub begun_by : (r : Result (Unit {0}) Failure) (held holds : Option (List ℕ)) → IfErr r (λ f. UnlessWriter f (IsBegunOf carries words range held holds cap))
+      → IfErr r (λ f. UnlessWriter f (IsBegunBy carries words held holds))
+  begun_by r held holds b = if_err_weaker r (IsBegunOf carries words range held holds cap) (IsBegunBy carries words held holds)
+      (λ begun. read cap spelled fits (subst (λ (x : ByteRange). IsBegunOf carries words x held holds cap) is begun)) b
