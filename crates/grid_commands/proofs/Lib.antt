@@ -1,1 +1,3 @@
 mod Faulting
+mod RunLemmas
+mod ScrubLemmas

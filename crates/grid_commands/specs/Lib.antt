@@ -1,2 +1,10 @@
+-- what public contracts rest on
 pub mod Texts
+pub mod Inits
+pub mod Scrubs
+pub mod Exit
+pub mod Commands
+pub mod Grid
+-- the words of private clauses
 pub mod Faults
+pub mod Scrubbing

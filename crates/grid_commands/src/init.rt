@@ -1,6 +1,8 @@
 //! `grid init`: a grid comes to know its servers, or other servers than before.
 
-ghost use Rattle.std.specs.Prelude.{◌≡◌, ◌≤◌, ◌<◌, ◌^◌, IfOk};
+ghost use Rattle.std.specs.Prelude.{◌≡◌, ◌≤◌, ◌<◌, ◌-◌, ◌^◌, IfOk, IfSome, unwrap_or};
+ghost use Rattle.std.specs.String.{string_bytes};
+ghost use Rattle.grid_commands.specs.Inits.{IsCountBy, IsInitBy, IsSecretText};
 
 use grid_faults::{Fault, Limit, told_path};
 use grid_marks::{
@@ -13,6 +15,7 @@ use grid_servers::{
 };
 use grid_telling::{Progress, note_limits};
 use grid_words::{InitWords, Marking};
+use std::alloc::Global;
 use std::io::{self, ErrorKind, IsTerminal, Write};
 use std::random::RandomSource;
 use std::rt::{Clock, Files};
@@ -34,15 +37,26 @@ pub(crate) fn init<R, E>(
 where
     R: Files + Clock + RandomSource + AllocGlobal + Clone + Drop,
     E: Write + IsTerminal,
+    ensures { IfOk result (λ lines. IsInitBy words.now lines.items) }
 {
     let servers = mark(rt, words, progress)?;
-    let mut lines = format!(in rt.alloc(); "servers {servers}\n")?;
-    if words.secret_file.is_some() {
-        let path = secret_path(rt.alloc(), words.grid)?;
-        let told = told_path(rt.alloc(), path.as_str())?;
-        lines.push_str(format!(in rt.alloc(); "secret {told}\n")?.as_str())?;
+    let secret = secret_text(rt.alloc(), words)?;
+    Ok(format!(in rt.alloc(); "servers {servers}\n{secret}")?.into_bytes())
+}
+
+// The line that tells where the grid's secret lies, where one is asked for.
+fn secret_text(alloc: Global, words: &InitWords<'_>) -> Result<String, Fault>
+    ensures { IfOk result
+        (λ text. IsSecretText words.now.grid.now words.now.secret_file (string_bytes text)) }
+{
+    match words.secret_file {
+        None => Ok(String::from_str(alloc, "")?),
+        Some(_) => {
+            let path = secret_path(alloc, words.grid)?;
+            let told = told_path(alloc, path.as_str())?;
+            Ok(format!(in alloc; "secret {told}\n")?)
+        }
     }
-    Ok(lines.into_bytes())
 }
 
 // Does what is asked of the marks, and gives how many servers the grid has then.
@@ -54,6 +68,8 @@ fn mark<R, E>(
 where
     R: Files + Clock + RandomSource + AllocGlobal + Clone + Drop,
     E: Write + IsTerminal,
+    ensures marked { IfOk result (λ count. IsCountBy words.now.marking count) }
+    ensures few { IfOk result (λ count. count ≤ 256) }
 {
     match words.marking {
         Marking::New(servers) => new_grid(rt, words, servers, progress),
@@ -73,6 +89,7 @@ fn new_grid<R, E>(
 where
     R: Files + Clock + RandomSource + AllocGlobal + Clone + Drop,
     E: Write + IsTerminal,
+    ensures { IfOk result (λ count. (count ≡ unwrap_or servers 10) × (count ≤ 256)) }
 {
     let asked = servers.unwrap_or(USUAL_SERVERS);
     within(rt, &server_limit(asked, 1), progress)?;
@@ -97,6 +114,7 @@ fn replace<R, E>(
 where
     R: Files + Clock + RandomSource + AllocGlobal + Clone + Drop,
     E: Write + IsTerminal,
+    ensures { IfOk result (λ count. (server ≤ count - 1) × (count ≤ 256)) }
 {
     let servers = known_count(rt, grid)?;
     let limit = Limit {
@@ -115,6 +133,7 @@ fn add<R, E>(rt: &R, grid: &str, more: u64, progress: &mut Progress<'_, R, E>) -
 where
     R: Files + Clock + RandomSource + AllocGlobal + Clone + Drop,
     E: Write + IsTerminal,
+    ensures { IfOk result (λ count. (more ≤ count) × (count ≤ 256)) }
 {
     let limit = Limit {
         option: "--add",
@@ -136,6 +155,8 @@ fn adopt<R, E>(
 where
     R: Files + Clock + RandomSource + AllocGlobal + Clone + Drop,
     E: Write + IsTerminal,
+    ensures asked { IfSome servers (λ wanted. IfOk result (λ count. count ≡ wanted)) }
+    ensures few { IfOk result (λ count. count ≤ 256) }
 {
     can_be_marked(rt, words.grid)?;
     let servers = match servers {
@@ -153,6 +174,7 @@ where
 fn known_count<R>(rt: &R, grid: &str) -> Result<u16, Fault>
 where
     R: Files + AllocGlobal,
+    ensures { IfOk result (λ count. count ≤ 256) }
 {
     match grid_servers_count(rt, grid)? {
         Some(servers) => Ok(servers),

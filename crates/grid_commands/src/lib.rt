@@ -8,22 +8,31 @@
 //! and `grid_telling`.
 #![tactic(auto)]
 
+mod exit;
 mod faults;
 mod init;
 mod running;
 mod script;
 mod scrub;
+mod scrub_telling;
 
-ghost use Rattle.std.specs.Prelude.{◌≡◌, IfOk, OnOk};
+ghost use Rattle.std.specs.Prelude.{◌≡◌, IfErr, IfOk, IsOkAnd, map};
 ghost use Rattle.std.specs.Io.KnownBytes.{Appends};
+ghost use Rattle.std.specs.IoError.{error_kind};
+ghost use Rattle.grid_commands.specs.Commands.{AreCapLines, IsRunBy, IsServedBy, IsUnwritten};
+ghost use Rattle.grid_commands.specs.Exit.{IsToldAs, unread_status};
+ghost use Rattle.grid_commands.specs.Grid.{IsGridBy};
+ghost use Rattle.socket_links.specs.Ends.{pair_calls};
+ghost use Rattle.socket_links.specs.Links.{IsCarriedOver};
+ghost use Rattle.sources.specs.Opened.{GivesOpened};
 
-use clap::error::ErrorKind;
-use grid_faults::{Fault, reason_line};
+use crate::exit::{DONE, WRONG_WORDS, exit_of, report, tell_words, write, written};
+use grid_faults::Fault;
 use grid_gets::get;
 use grid_rules::{cap_lines, read_cap};
 pub use grid_shares::Environment;
 use grid_shares::{Outcome, check, put, repair};
-use grid_telling::{Failure, Progress, print};
+use grid_telling::{Failure, Progress};
 use grid_words::{Request, read_words};
 use std::alloc::Global;
 use std::convert::AsStr;
@@ -31,14 +40,6 @@ use std::io::{self, IsTerminal};
 use std::net::Net;
 use std::random::RandomSource;
 use std::rt::{Clock, Files};
-
-// The exit status of what is done, that of wrong words, and that of a failed file, writer or
-// allocation.
-const DONE: u8 = 0;
-
-const WRONG_WORDS: u8 = 2;
-
-const FAILED: u8 = 7;
 
 /// Runs the command that `words` asks for, of which the first is the program's name. Its result
 /// goes to `out`, and a fault, as one line with its number and name, to `err`. A `get` writes as it
@@ -72,6 +73,9 @@ where
     S: AsStr,
     O: io::Write,
     E: io::Write + IsTerminal,
+    ensures { IsGridBy (GivesOpened R.File.stream_position R.File.stream_bytes R.File.remaining)
+        (IsCarriedOver (pair_calls R.Stream.contents R.Stream.remaining)) (map S.text words.now)
+        result (O.contents out.old) (O.contents out.new) }
 {
     match read_words(rt.alloc(), words) {
         Ok(request) => serve(rt, &request, environment, out, err),
@@ -91,40 +95,22 @@ where
     R: Files + io::Input + Net + Clock + RandomSource + AllocGlobal + Clone + Drop,
     O: io::Write,
     E: io::Write + IsTerminal,
+    ensures { IsServedBy (GivesOpened R.File.stream_position R.File.stream_bytes R.File.remaining)
+        (IsCarriedOver (pair_calls R.Stream.contents R.Stream.remaining)) request.now result
+        (O.contents out.old) (O.contents out.new) }
 {
     let mut progress = Progress::new(rt, &mut *err);
     progress.set_verbose(request.is_verbose());
     let ended = run(rt, request, environment, out, &mut progress);
     progress.clear();
-    match ended {
-        Ok(status) => status,
-        Err(Failure::Writer) => report(rt.alloc(), err, &Fault::Output),
-        Err(Failure::Fault(fault)) => report(rt.alloc(), err, &fault),
-    }
-}
-
-// Tells why words ask for no command, or the help that they ask for, and gives the exit status.
-fn tell_words<O, E>(alloc: Global, error: &clap::Error, out: &mut O, err: &mut E) -> u8
-where
-    O: io::Write,
-    E: io::Write,
-{
-    match error.kind() {
-        ErrorKind::OutOfMemory => report(alloc, err, &Fault::OutOfMemory),
-        _ if error.use_stderr() => match show(alloc, err, error) {
-            Ok(()) => WRONG_WORDS,
-            Err(_) => FAILED,
-        },
-        _ => match show(alloc, out, error) {
-            Ok(()) => DONE,
-            Err(fault) => report(alloc, err, &fault),
-        },
-    }
+    exit_of(rt.alloc(), ended, err)
 }
 
 /// What `grid` does where the words of the command line could not be read, and gives the same exit
 /// statuses: a word that is not UTF-8 is a wrong word, and else memory was refused.
-pub fn refuse_words<E: io::Write>(alloc: Global, error: &io::Error, err: &mut E) -> u8 {
+pub fn refuse_words<E: io::Write>(alloc: Global, error: &io::Error, err: &mut E) -> u8
+    ensures { IsToldAs (unread_status (error_kind error.now)) result }
+{
     match error.kind() {
         io::ErrorKind::InvalidData => write(err, NOT_UTF8, WRONG_WORDS),
         _ => report(alloc, err, &Fault::OutOfMemory),
@@ -146,63 +132,57 @@ where
     R: Files + io::Input + Net + Clock + RandomSource + AllocGlobal + Clone + Drop,
     O: io::Write,
     E: io::Write + IsTerminal,
+    ensures { IsRunBy (GivesOpened R.File.stream_position R.File.stream_bytes R.File.remaining)
+        (IsCarriedOver (pair_calls R.Stream.contents R.Stream.remaining)) request.now result
+        (O.contents out.old) (O.contents out.new) }
 {
     match request {
-        Request::Init(words) => done(print(out, &init::init(rt, words, progress)?)),
-        Request::Put(words) => told(out, &put(rt, words, environment, progress)?),
+        Request::Init(words) => printed(out, init::init(rt, words, progress)),
+        Request::Put(words) => told(out, put(rt, words, environment, progress)),
         Request::Get(words) => {
             done(get(rt, words, words.known || environment.known, out, progress))
         }
-        Request::Check(words) => told(out, &check(rt, words, environment, progress)?),
-        Request::Repair(words) => told(out, &repair(rt, words, environment, progress)?),
+        Request::Check(words) => told(out, check(rt, words, environment, progress)),
+        Request::Repair(words) => told(out, repair(rt, words, environment, progress)),
         Request::Scrub(words) => scrub::scrub(rt, words, environment, out, progress),
         Request::World(path) => script::world(rt, path, out),
-        Request::Describe(text) => done(print(out, &describe(rt.alloc(), text)?)),
+        Request::Describe(text) => printed(out, describe(rt.alloc(), text)),
     }
 }
 
 // The exit status where the result is written.
-fn done(written: Result<(), Failure>) -> Result<u8, Failure> {
+fn done(written: Result<(), Failure>) -> Result<u8, Failure>
+    ensures { IfOk result (λ status. status ≡ 0) }
+{
     written.map(|()| DONE)
 }
 
 // Writes what a command came to, and gives the exit status.
-fn told<O: io::Write>(out: &mut O, outcome: &Outcome) -> Result<u8, Failure>
-    ensures status { IfOk result (λ status. status ≡ outcome.now.status) }
-    ensures text { OnOk result (Appends (O.contents out.old) (O.contents out.new)
-        outcome.now.text.items) }
+fn told<O: io::Write>(out: &mut O, outcome: Result<Outcome, Fault>) -> Result<u8, Failure>
+    ensures done { IfOk result (λ status. IsOkAnd outcome (λ told. (status ≡ told.status)
+        × Appends (O.contents out.old) (O.contents out.new) told.text.items)) }
+    ensures undone { IfErr result
+        (λ failure. IsUnwritten failure (O.contents out.old) (O.contents out.new)) }
 {
-    print(out, &outcome.text)?;
-    Ok(outcome.status)
+    let outcome = outcome?;
+    written(out, &outcome.text, outcome.status)
+}
+
+// Writes lines, and gives the exit status.
+fn printed<O: io::Write>(out: &mut O, lines: Result<Vec<u8>, Fault>) -> Result<u8, Failure>
+    ensures done { IfOk result (λ status. IsOkAnd lines (λ told. (status ≡ 0)
+        × Appends (O.contents out.old) (O.contents out.new) told.items)) }
+    ensures undone { IfErr result
+        (λ failure. IsUnwritten failure (O.contents out.old) (O.contents out.new)) }
+{
+    let lines = lines?;
+    written(out, &lines, DONE)
 }
 
 // The lines that tell what the cap says that this text spells.
-fn describe(alloc: Global, text: &str) -> Result<Vec<u8>, Fault> {
+fn describe(alloc: Global, text: &str) -> Result<Vec<u8>, Fault>
+    ensures { IfOk result (λ lines. AreCapLines text.now lines.items) }
+{
     let cap = read_cap(text)?;
     Ok(cap_lines(alloc, &cap)?.into_bytes())
-}
-
-// Writes a fault's line, with the line that tells why before it, and gives the exit status.
-fn report<E: io::Write>(alloc: Global, err: &mut E, fault: &Fault) -> u8 {
-    if let Ok(Some(line)) = reason_line(alloc, fault) {
-        let _ = err.write_all(line.as_bytes());
-    }
-    match format!(in alloc; "grid: {} {fault}\n", fault.number()) {
-        Ok(line) => write(err, line.as_bytes(), fault.status()),
-        Err(_) => write(err, b"grid: 1 OutOfMemory\n", FAILED),
-    }
-}
-
-// Writes `clap`'s text, which ends its own lines.
-fn show<W: io::Write>(alloc: Global, to: &mut W, error: &clap::Error) -> Result<(), Fault> {
-    let text = format!(in alloc; "{error}")?;
-    print(to, text.as_bytes()).map_err(|_| Fault::Output)
-}
-
-// Writes bytes, and gives this exit status, or that of a failed writer.
-fn write<W: io::Write>(to: &mut W, bytes: &[u8], status: u8) -> u8 {
-    match print(to, bytes) {
-        Ok(()) => status,
-        Err(_) => FAILED,
-    }
 }

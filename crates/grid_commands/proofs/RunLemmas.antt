@@ -1,0 +1,92 @@
+-- How each command ends.
+use Rattle.std.proofs.Common.{◌≡◌, ℕ, List, Option, Result, Ok, Err, IfOk, IfErr, Vec, Global, sym, subst, ◌∙◌}
+use Rattle.std.specs.Prelude.{IsOkAnd, ⊤}
+use Rattle.std.specs.Borrow.{Bor}
+use Rattle.std.specs.Io.KnownBytes.{Appends}
+use Rattle.std.specs.String.{string_bytes}
+use Rattle.local_grid.specs.Nodes.{Carries}
+use Rattle.sources.specs.Opened.{Opened}
+use Rattle.world_script.specs.Script.{lines_of}
+use Rattle.world_script.specs.declared.ending.Ending.{Ending}
+use Rattle.grid_faults.specs.declared.fault.Fault.{Fault}
+use Rattle.grid_rules.specs.Ending.{world_status}
+use Rattle.grid_shares.specs.Checks.{IsCheckBy}
+use Rattle.grid_shares.specs.Puts.{IsPutBy}
+use Rattle.grid_shares.specs.Repairs.{IsRepairBy}
+use Rattle.grid_shares.specs.declared.Outcome.{Outcome}
+use Rattle.grid_telling.specs.declared.outcome.Failure.{Failure}
+use Rattle.grid_words.specs.declared.words.CheckWords.{CheckWords}
+use Rattle.grid_words.specs.declared.words.InitWords.{InitWords}
+use Rattle.grid_words.specs.declared.words.PutWords.{PutWords}
+use Rattle.grid_words.specs.declared.words.RepairWords.{RepairWords}
+use Rattle.grid_words.specs.declared.words.ScrubWords.{ScrubWords}
+use Rattle.grid_words.specs.declared.words.Request.{Request}
+use Rattle.grid_words.specs.declared.words.Request.TheVariants.{Init, Put, Check, Repair, Scrub, World, Describe}
+use Rattle.grid_commands.specs.Commands.{AreCapLines, ArePrinted, IsDone, IsRunBy, IsUndone, IsUnwritten, IsWorld, IsWrittenOf}
+use Rattle.grid_commands.specs.Inits.{IsInitBy}
+use Rattle.grid_commands.specs.Scrubs.{IsScrub}
+use Rattle.grid_commands.specs.Texts.{IsEndOf}
+
+-- what was written of an outcome that is so
+pub outcome_written : (IsOf : Outcome → Type 0) (came : Result Outcome Fault) (r : Result ℕ Failure) (before after : Option (List ℕ)) → IfOk came IsOf
+    → IfOk r (λ status. IsOkAnd came (λ told. (status ≡ told.status) × Appends before after told.text.items)) → IfOk r (λ status. IsWrittenOf IsOf status before after)
+outcome_written IsOf came (Err failure) before after of told = tt
+outcome_written IsOf (Err fault) (Ok status) before after of told = absurd told
+outcome_written IsOf (Ok outcome) (Ok status) before after of told = record { outcome = outcome; of = of; written = told.1; status_is = told.0 }
+
+-- what was written of lines that are so
+pub lines_written : (IsOf : List ℕ → Type 0) (came : Result (Vec ℕ Global) Fault) (r : Result ℕ Failure) (before after : Option (List ℕ)) → IfOk came (λ lines. IsOf lines.items)
+    → IfOk r (λ status. IsOkAnd came (λ told. (status ≡ 0) × Appends before after told.items)) → IfOk r (λ status. ArePrinted IsOf status before after)
+lines_written IsOf came (Err failure) before after of told = tt
+lines_written IsOf (Err fault) (Ok status) before after of told = absurd told
+lines_written IsOf (Ok lines) (Ok status) before after of told = record { lines = lines.items; of = of; written = told.1; status_is = told.0 }
+
+-- of how a script ended
+pub world_written : (text : List ℕ) (ending : Ending) (r : Result ℕ Failure) (before after : Option (List ℕ)) (bytes : List ℕ) (status : ℕ) → IsEndOf (lines_of text) ending → bytes ≡ string_bytes ending.lines
+    → status ≡ world_status ending.agrees → IfOk r (λ exit. (exit ≡ status) × Appends before after bytes) → IfOk r (λ exit. IsWorld exit before after)
+world_written text ending (Ok exit) before after bytes status of told is written = record {
+  text = text;
+  ending = ending;
+  of = of;
+  written = subst (Appends before after) told written.1;
+  status_is = written.0 ∙ is;
+}
+world_written text ending (Err failure) before after bytes status of told is written = tt
+
+no_failure : (r : Result ℕ Failure) → IfErr r (λ _. ⊤)
+no_failure (Ok status) = tt
+no_failure (Err failure) = tt
+
+module _ {F L : Type 0} (gives : Opened F → ℕ → List ℕ → Opened F → Type 0) (carries : Carries L) (request : Request) (r : Result ℕ Failure) (before after : Option (List ℕ)) where
+  by_request : (other : Request) → request ≡ other → IfOk r (λ status. IsDone gives carries other status before after) → IfErr r (λ failure. IsUndone other failure before after)
+      → IsRunBy gives carries request r before after
+  by_request other is done undone = subst (λ (q : Request). IsRunBy gives carries q r before after) (sym is) (record { done = done; undone = undone })
+
+  pub init_run : (words : InitWords) (came : Result (Vec ℕ Global) Fault) → request ≡ Init words → IfOk came (λ lines. IsInitBy words lines.items)
+      → IfOk r (λ status. IsOkAnd came (λ told. (status ≡ 0) × Appends before after told.items)) → IfErr r (λ failure. IsUnwritten failure before after) → IsRunBy gives carries request r before after
+  init_run words came is of done undone = by_request (Init words) is (lines_written (IsInitBy words) came r before after of done) undone
+
+  pub put_run : (words : PutWords) (came : Result Outcome Fault) → request ≡ Put words → IfOk came (IsPutBy gives carries words)
+      → IfOk r (λ status. IsOkAnd came (λ told. (status ≡ told.status) × Appends before after told.text.items)) → IfErr r (λ failure. IsUnwritten failure before after)
+      → IsRunBy gives carries request r before after
+  put_run words came is of done undone = by_request (Put words) is (outcome_written (IsPutBy gives carries words) came r before after of done) undone
+
+  pub check_run : (words : CheckWords) (came : Result Outcome Fault) → request ≡ Check words → IfOk came (IsCheckBy carries words)
+      → IfOk r (λ status. IsOkAnd came (λ told. (status ≡ told.status) × Appends before after told.text.items)) → IfErr r (λ failure. IsUnwritten failure before after)
+      → IsRunBy gives carries request r before after
+  check_run words came is of done undone = by_request (Check words) is (outcome_written (IsCheckBy carries words) came r before after of done) undone
+
+  pub repair_run : (words : RepairWords) (came : Result Outcome Fault) → request ≡ Repair words → IfOk came (IsRepairBy carries words)
+      → IfOk r (λ status. IsOkAnd came (λ told. (status ≡ told.status) × Appends before after told.text.items)) → IfErr r (λ failure. IsUnwritten failure before after)
+      → IsRunBy gives carries request r before after
+  repair_run words came is of done undone = by_request (Repair words) is (outcome_written (IsRepairBy carries words) came r before after of done) undone
+
+  pub scrub_run : (words : ScrubWords) → request ≡ Scrub words → IfOk r (λ status. IsScrub words status before after) → IsRunBy gives carries request r before after
+  scrub_run words is done = by_request (Scrub words) is done (no_failure r)
+
+  pub world_run : (path : Bor (List ℕ)) → request ≡ World path → IfOk r (λ status. IsWorld status before after) → IfErr r (λ failure. IsUnwritten failure before after) → IsRunBy gives carries request r before after
+  world_run path is done undone = by_request (World path) is done undone
+
+  pub describe_run : (text : Bor (List ℕ)) (came : Result (Vec ℕ Global) Fault) → request ≡ Describe text → IfOk came (λ lines. AreCapLines text.now lines.items)
+      → IfOk r (λ status. IsOkAnd came (λ told. (status ≡ 0) × Appends before after told.items)) → IfErr r (λ failure. IsUnwritten failure before after) → IsRunBy gives carries request r before after
+  describe_run text came is of done undone = by_request (Describe text) is (lines_written (AreCapLines text.now) came r before after of done) undone

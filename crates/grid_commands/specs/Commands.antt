@@ -1,0 +1,101 @@
+-- What each command comes to: its exit status, and what it adds to the bytes of `out`.
+use Rattle.std.specs.Prelude.{◌≡◌, ℕ, List, Option, Result, IfErr, IfOk, ⊤}
+use Rattle.std.specs.Io.KnownBytes.{Appends}
+use Rattle.std.specs.String.{string_bytes}
+use Rattle.cap_text.specs.CapText.{Spells}
+use Rattle.cap_text.specs.declared.cap.Cap.{Cap}
+use Rattle.local_grid.specs.Nodes.{Carries}
+use Rattle.sources.specs.Opened.{Opened}
+use Rattle.world_script.specs.Script.{lines_of}
+use Rattle.world_script.specs.declared.ending.Ending.{Ending}
+use Rattle.grid_rules.specs.CapLines.{cap_lines}
+use Rattle.grid_rules.specs.Ending.{world_status}
+use Rattle.grid_shares.specs.Checks.{IsCheckBy}
+use Rattle.grid_shares.specs.Puts.{IsPutBy}
+use Rattle.grid_shares.specs.Repairs.{IsRepairBy}
+use Rattle.grid_shares.specs.declared.Outcome.{Outcome}
+use Rattle.grid_telling.specs.declared.outcome.Failure.{Failure}
+use Rattle.grid_telling.specs.declared.outcome.Failure.TheVariants as failures
+use Rattle.grid_words.specs.declared.words.GetWords.{GetWords}
+use Rattle.grid_words.specs.declared.words.Request.{Request}
+use Rattle.grid_words.specs.declared.words.Request.TheVariants.{Init, Put, Get, Check, Repair}
+use Rattle.grid_words.specs.declared.words.Request.TheVariants.{Scrub, World, Describe}
+use Rattle.grid_commands.specs.Exit.{IsExit}
+use Rattle.grid_commands.specs.Inits.{IsInitBy}
+use Rattle.grid_commands.specs.Scrubs.{IsScrub}
+use Rattle.grid_commands.specs.Texts.{IsEndOf}
+
+-- `before` and `after` are the bytes of `out`, where they are known.
+
+-- A command came to this, which was written; the status is its own.
+pub record IsWrittenOf (IsOf : Outcome → Type 0) (status : ℕ) (before after : Option (List ℕ))
+    : Type 0 where
+  pub outcome : Outcome
+  pub of : IsOf outcome
+  pub written : Appends before after outcome.text.items
+  pub status_is : status ≡ outcome.status
+
+-- Lines that say this were written.
+pub record ArePrinted (IsOf : List ℕ → Type 0) (status : ℕ) (before after : Option (List ℕ))
+    : Type 0 where
+  pub lines : List ℕ
+  pub of : IsOf lines
+  pub written : Appends before after lines
+  pub status_is : status ≡ 0
+
+-- a range was written, to `out` or to a file
+abbrev pub IsGet : GetWords → ℕ → Option (List ℕ) → Option (List ℕ) → Type 0
+IsGet words status before after = status ≡ 0
+
+-- A script that some text spells was run, that of the file that was read; and how it ended was
+-- written.
+pub record IsWorld (status : ℕ) (before after : Option (List ℕ)) : Type 0 where
+  pub text : List ℕ
+  pub ending : Ending
+  pub of : IsEndOf (lines_of text) ending
+  pub written : Appends before after (string_bytes ending.lines)
+  pub status_is : status ≡ world_status ending.agrees
+
+-- the lines of the cap that a text spells
+pub record AreCapLines (text lines : List ℕ) : Type 0 where
+  pub cap : Cap
+  pub spelled : Spells text cap
+  pub told : lines ≡ cap_lines cap
+
+-- A request was done, with this status.
+abbrev pub IsDone : {F L : Type 0} → (Opened F → ℕ → List ℕ → Opened F → Type 0) → Carries L
+    → Request → ℕ → Option (List ℕ) → Option (List ℕ) → Type 0
+IsDone gives carries (Init words) = ArePrinted (IsInitBy words)
+IsDone gives carries (Put words) = IsWrittenOf (IsPutBy gives carries words)
+IsDone gives carries (Get words) = IsGet words
+IsDone gives carries (Check words) = IsWrittenOf (IsCheckBy carries words)
+IsDone gives carries (Repair words) = IsWrittenOf (IsRepairBy carries words)
+IsDone gives carries (Scrub words) = IsScrub words
+IsDone gives carries (World path) = IsWorld
+IsDone gives carries (Describe text) = ArePrinted (AreCapLines text.now)
+
+-- By a fault nothing was written. Where `out` failed, it may have any beginning of the result.
+abbrev pub IsUnwritten : Failure → Option (List ℕ) → Option (List ℕ) → Type 0
+IsUnwritten failures.Writer before after = ⊤
+IsUnwritten (failures.Fault fault) before after = after ≡ before
+
+-- A request was left undone. A get writes as it reads, and a scrub tells of one file after another.
+abbrev pub IsUndone : Request → Failure → Option (List ℕ) → Option (List ℕ) → Type 0
+IsUndone (Get words) failure before after = ⊤
+IsUndone (Scrub words) failure before after = ⊤
+IsUndone request failure before after = IsUnwritten failure before after
+
+-- A request ended so.
+pub record IsRunBy {F L : Type 0} (gives : Opened F → ℕ → List ℕ → Opened F → Type 0)
+    (carries : Carries L) (request : Request) (ended : Result ℕ Failure)
+    (before after : Option (List ℕ)) : Type 0 where
+  pub done : IfOk ended (λ status. IsDone gives carries request status before after)
+  pub undone : IfErr ended (λ failure. IsUndone request failure before after)
+
+-- A request ended somehow, and this is the exit status.
+pub record IsServedBy {F L : Type 0} (gives : Opened F → ℕ → List ℕ → Opened F → Type 0)
+    (carries : Carries L) (request : Request) (status : ℕ) (before after : Option (List ℕ))
+    : Type 0 where
+  pub ended : Result ℕ Failure
+  pub run : IsRunBy gives carries request ended before after
+  pub exit : IsExit ended status

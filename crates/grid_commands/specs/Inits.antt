@@ -1,0 +1,39 @@
+-- What an `init` tells.
+use Rattle.std.specs.Prelude.{◌≡◌, ◌≤◌, ℕ, ◌-◌, List, [], ◌++◌, Option, Some, None, codes, decimal}
+use Rattle.std.specs.Prelude.{encode_utf8_all, map, unwrap_or, ⊤}
+use Rattle.std.specs.Borrow.{Bor}
+use Rattle.grid_faults.specs.ToldPath.{told_char}
+use Rattle.grid_words.specs.declared.words.InitWords.{InitWords}
+use Rattle.grid_words.specs.declared.words.Marking.{Marking}
+use Rattle.grid_words.specs.declared.words.Marking.TheVariants.{New, Replace, Add, Adopt}
+
+-- How many servers a grid has whose marks became this: as many as are asked for, or 10.
+abbrev pub IsCountBy : Marking → ℕ → Type 0
+IsCountBy (New servers) count = count ≡ unwrap_or servers 10
+IsCountBy (Replace server) count = server ≤ count - 1
+IsCountBy (Add more) count = more ≤ count
+IsCountBy (Adopt None) count = ⊤
+IsCountBy (Adopt (Some servers)) count = count ≡ servers
+
+-- the line with how many there are
+abbrev pub servers_line : ℕ → List ℕ
+servers_line count = codes "servers " ++ (decimal count ++ codes "\n")
+
+-- the line that tells a path of these characters
+abbrev pub secret_line : List ℕ → List ℕ
+secret_line chars = codes "secret " ++ (encode_utf8_all (map told_char chars) ++ codes "\n")
+
+-- where a grid's secret lies is told where one is asked for
+abbrev pub IsSecretText : List ℕ → Option (Bor (List ℕ)) → List ℕ → Type 0
+IsSecretText grid None text = text ≡ []
+IsSecretText grid (Some secret) text = (chars : List ℕ)
+    × (encode_utf8_all chars ≡ grid ++ codes "/grid-secret") × (text ≡ secret_line chars)
+
+-- What is told of the marks that these words ask for.
+pub record IsInitBy (words : InitWords) (lines : List ℕ) : Type 0 where
+  pub count : ℕ
+  pub few : count ≤ 256
+  pub marked : IsCountBy words.marking count
+  pub secret : List ℕ
+  pub kept : IsSecretText words.grid.now words.secret_file secret
+  pub told : lines ≡ servers_line count ++ secret
