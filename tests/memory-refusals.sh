@@ -22,7 +22,7 @@ grid_shares/src/checking.rt:check.report(rt.alloc())?.ok_or(Fault::OutOfMemory)
 grid_commands/src/lib.rt:_ => report(alloc, err, &Fault::OutOfMemory),
 grid_shares/src/repairing.rt:check.good_shares(rt.alloc())?.ok_or(Fault::OutOfMemory)
 grid_shares/src/repairing.rt:let report = check.report(rt.alloc())?.ok_or(Fault::OutOfMemory)?;
-grid_commands/src/scrub.rt:return Err(Failure::Fault(Fault::OutOfMemory));
+grid_commands/src/scrub_telling.rt:return Err(Failure::Fault(Fault::OutOfMemory));
 grid_main/src/main.rt:let error = io::Error::from(io::ErrorKind::OutOfMemory);
 upload_core/src/ending.rt:*status = UploadStatus::Failed(PieceFault::OutOfMemory);
 world_operations/src/status.rt:Life::Refused => Status::Failed(PieceFault::OutOfMemory),
