@@ -10,3 +10,5 @@ mod Replays
 mod Alone
 mod Named
 mod Polite
+mod Sparing
+mod Moved

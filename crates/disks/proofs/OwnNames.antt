@@ -1,12 +1,13 @@
 -- A name of this program's own through its calls.
-use Rattle.std.proofs.Common.{◌≡◌, ℕ, List, [], sym, ◌∙◌, ap, subst}
-use Rattle.std.specs.Prelude.{Option, Some, None, true, false, All}
+use Rattle.std.proofs.Common.{◌≡◌, ◌≢◌, inl, inr, ℕ, List, [], sym, ◌∙◌, ap, subst}
+use Rattle.std.specs.Prelude.{Option, Some, None, true, false, All, Result, Ok, Err}
 use Rattle.std.proofs.lemmas.List.Elements.{All-cons, All-nil}
 use Rattle.disks.specs.Names.{Name, lasts}
 use Rattle.disks.specs.Folder.{Folder, FileState, StandsFor, IsDurable, IsOwn}
-use Rattle.disks.specs.Steps.{Changes, Renames, SyncsFolder}
+use Rattle.disks.specs.Steps.{Changes, Links, Removes, Renames, SyncsFolder}
 use Rattle.disks.specs.Others.{Others, Steps}
-use Rattle.disks.specs.Calls.{Stays}
+use Rattle.disks.specs.Calls.{Does, Either, Stays}
+use Rattle.disks.specs.declared.error.DiskError.{DiskError}
 
 pub others_own : (s t : Folder) (name : Name) (i : ℕ) (f : FileState)
     → Others s t → IsOwn s name i f → IsOwn t name i f
@@ -76,3 +77,43 @@ pub stays_stand : (s t : Folder) (name : Name) (bytes : List ℕ) → lasts name
 stays_stand s t name bytes lasting steps stands =
     steps.then.settled name bytes lasting
     (subst (λ (u : Folder). StandsFor u bytes (u.found name)) (sym steps.step) (steps.first.settled name bytes lasting stands))
+
+-- the same by a further name
+pub links_stands : (from to : Name) (s t : Folder) (i : ℕ) (bytes : List ℕ) → lasts to ≡ true
+    → Steps (Links from to) s t
+    → IsOwn s from i (record { bytes = bytes; is_synced = true; is_finished = false })
+    → StandsFor t bytes (t.found to)
+links_stands from to s t i bytes lasting steps own =
+    let u = others_own s steps.before from i _ steps.first own in
+    let r = steps.step in
+    let same : Some r.inode ≡ Some i = sym r.was ∙ u.found in
+    let file : steps.after.file r.inode ≡ record { bytes = bytes; is_synced = true; is_finished = true } =
+    r.file ∙ ap (λ (f : FileState). record f { is_finished = true }) (file_at steps.before r.inode i _ same u.file_is) in
+    steps.then.settled to bytes lasting (subst (StandsFor steps.after bytes) (sym r.found) file)
+  where
+    file_at : (s : Folder) (i j : ℕ) (f : FileState) → Some i ≡ Some j → s.file j ≡ f → s.file i ≡ f
+    file_at s i j f same is = subst (λ (o : Option ℕ). FileOf s f o) (sym same) is
+      where
+        FileOf : Folder → FileState → Option ℕ → Type 0
+        FileOf s f None = ⊥
+        FileOf s f (Some k) = s.file k ≡ f
+
+-- what stands under another name is not removed
+removed_stand : (name other : Name) (bytes : List ℕ) (u v : Folder) → other ≢ name → Removes name u v → StandsFor u bytes (u.found other) → StandsFor v bytes (v.found other)
+removed_stand name other bytes u v apart step stands =
+    subst (StandsFor v bytes) (sym (step.names other apart).found) (same_files (u.found other) stands)
+  where
+    same_files : (o : Option ℕ) → StandsFor u bytes o → StandsFor v bytes o
+    same_files None stands = stands
+    same_files (Some i) stands = step.files i ∙ stands
+
+either_stand : (name other : Name) (bytes : List ℕ) (u v : Folder) → other ≢ name → Either Stays (Removes name) u v → StandsFor u bytes (u.found other) → StandsFor v bytes (v.found other)
+either_stand name other bytes u v apart (inl same) stands = subst (λ (w : Folder). StandsFor w bytes (w.found other)) (sym same) stands
+either_stand name other bytes u v apart (inr step) stands = removed_stand name other bytes u v apart step stands
+
+pub removes_stand : (name other : Name) (bytes : List ℕ) (r : Result Unit DiskError) (s t : Folder) → lasts other ≡ true → other ≢ name
+    → Does (Removes name) (Either Stays (Removes name)) r s t → StandsFor s bytes (s.found other) → StandsFor t bytes (t.found other)
+removes_stand name other bytes (Ok u) s t lasting apart does stands =
+    does.then.settled other bytes lasting (removed_stand name other bytes does.before does.after apart does.step (does.first.settled other bytes lasting stands))
+removes_stand name other bytes (Err e) s t lasting apart does stands =
+    does.then.settled other bytes lasting (either_stand name other bytes does.before does.after apart does.step (does.first.settled other bytes lasting stands))

@@ -1,12 +1,17 @@
 -- What holds of folders.
-use Rattle.std.specs.Prelude.{◌≡◌, ◌≢◌, ℕ, List, Some, true}
+use Rattle.std.specs.Prelude.{◌≡◌, ◌≢◌, ◌⊎◌, ℕ, List, Some, true}
 use Rattle.disks.specs.Names.{Name, lasts}
-use Rattle.disks.specs.Folder.{Folder, HasBytes, IsDurable, Crashes}
+use Rattle.disks.specs.Folder.{Folder, HasBytes, IsDurable, IsOneOf, Crashes}
 
 -- What is durable stays so through a crash.
 abbrev pub DurableOutlasts : Type 0
 DurableOutlasts = (s t : Folder) (name : Name) (bytes : List ℕ)
     → IsDurable s name bytes → Crashes s t → IsDurable t name bytes
+
+-- What is durable as one of two texts is durable as one of them after a crash.
+abbrev pub OneOutlasts : Type 0
+OneOutlasts = (s t : Folder) (name : Name) (one other : List ℕ)
+    → IsOneOf s name one other → Crashes s t → IsDurable t name one ⊎ IsDurable t name other
 
 -- What names that last stand for, what finished files have, and what is durable stays so.
 pub record StaysHeld (s t : Folder) : Type 0 where

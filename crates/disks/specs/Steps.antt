@@ -64,6 +64,19 @@ pub record Renames (from to : Name) (s t : Folder) : Type 0 where
   pub names : (other : Name) → other ≢ from → other ≢ to → SameName s t other
   pub files : OtherFilesStay inode s t
 
+-- What stood under one name stands under the other too, finished, where nothing stood. A crash may
+-- leave the other name as it was or as it is.
+pub record Links (from to : Name) (s t : Folder) : Type 0 where
+  pub inode : ℕ
+  pub was : s.found from ≡ Some inode
+  pub free : s.found to ≡ None
+  pub found : t.found to ≡ Some inode
+  pub left : t.left to ≡ s.left to ++ Some inode ∷ []
+  pub same_own : t.own to ≡ s.own to
+  pub file : t.file inode ≡ record (s.file inode) { is_finished = true }
+  pub names : (other : Name) → other ≢ to → SameName s t other
+  pub files : OtherFilesStay inode s t
+
 -- The names were put on the disk.
 pub record SyncsFolder (s t : Folder) : Type 0 where
   pub left : (name : Name) → t.left name ≡ s.found name ∷ []

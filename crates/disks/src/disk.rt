@@ -5,6 +5,7 @@ ghost use Rattle.std.specs.String.{string_bytes};
 ghost use Rattle.disks.specs.Folder.{Folder};
 ghost use Rattle.disks.specs.Steps.{Creates, Appends, SyncsFile, Spoils, Renames, SyncsFolder};
 ghost use Rattle.disks.specs.Steps.{Makes, MaySyncFolder, Opens, ReadsAt, Finds, Lists, Removes};
+ghost use Rattle.disks.specs.Steps.{Links};
 ghost use Rattle.disks.specs.Calls.{Gives, Does, Stays, Either, Passes};
 
 use crate::error::DiskError;
@@ -83,6 +84,18 @@ pub trait Disk {
             (folder self.new) }
         ensures passes { honest self.new
             → Passes (Either (Renames from.now to.now) (Either Stays (Renames from.now to.now)))
+            (folder self.old) (past self.old) (past self.new) };
+
+    /// Gives what stands under a name a further one, under which nothing stands: else the error is
+    /// `AlreadyExists`.
+    fn link(&mut self, from: &str, to: &str) -> Result<(), DiskError>
+        ensures place { place self.new ≡ place self.old }
+        ensures so_far { honest self.new → honest self.old }
+        ensures gives { honest self.new → Does (Links from.now to.now)
+            (Either Stays (Links from.now to.now)) result (folder self.old)
+            (folder self.new) }
+        ensures passes { honest self.new
+            → Passes (Either (Links from.now to.now) (Either Stays (Links from.now to.now)))
             (folder self.old) (past self.old) (past self.new) };
 
     /// Opens the folder itself.

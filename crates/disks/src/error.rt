@@ -1,10 +1,13 @@
 //! Why a call of a disk fails.
 
+ghost use Rattle.std.specs.Prelude.{◌≡◌, ◌↔◌, ◌⊎◌, IsTrue};
+ghost use Rattle.std.specs.declared.io.ErrorKind.TheVariants.{PermissionDenied, Unsupported};
+
 use std::alloc::{AllocError, AllocFailed};
 use std::io;
 
 /// Why a call of a disk fails.
-#[derive(Clone, Copy, Debug, PartialEq, Eq)]
+#[derive(Clone, Copy, Debug)]
 pub enum DiskError {
     /// There was not enough memory.
     OutOfMemory,
@@ -12,8 +15,46 @@ pub enum DiskError {
     AlreadyExists,
     /// Nothing stands there.
     NotFound,
+    /// The system failed so.
+    System(io::Error),
     /// The disk failed, or it was asked what it does not do.
     Failed,
+}
+
+// The numbers that the system has for these two.
+const NO_ENTRY: i32 = 2;
+
+const EXISTS: i32 = 17;
+
+impl DiskError {
+    /// Whether a link failed so because the disk has none.
+    pub fn is_without_links(&self) -> bool {
+        match self {
+            DiskError::System(error) => is_without_links(error.kind()),
+            _ => false,
+        }
+    }
+
+    /// What the system says of this.
+    pub fn reason(self) -> io::Error {
+        match self {
+            DiskError::OutOfMemory => io::Error::from(io::ErrorKind::OutOfMemory),
+            DiskError::AlreadyExists => io::Error::from_raw_os_error(EXISTS),
+            DiskError::NotFound => io::Error::from_raw_os_error(NO_ENTRY),
+            DiskError::System(error) => error,
+            DiskError::Failed => io::Error::other("another program changed it"),
+        }
+    }
+}
+
+// Whether a link fails so where the system has none.
+fn is_without_links(kind: io::ErrorKind) -> bool
+    ensures { IsTrue result ↔ (kind ≡ Unsupported) ⊎ (kind ≡ PermissionDenied) }
+{
+    matches!(
+        kind,
+        io::ErrorKind::Unsupported | io::ErrorKind::PermissionDenied
+    )
 }
 
 impl From<AllocError> for DiskError {
@@ -34,7 +75,7 @@ impl From<io::Error> for DiskError {
             io::ErrorKind::OutOfMemory => DiskError::OutOfMemory,
             io::ErrorKind::AlreadyExists => DiskError::AlreadyExists,
             io::ErrorKind::NotFound => DiskError::NotFound,
-            _ => DiskError::Failed,
+            _ => DiskError::System(error),
         }
     }
 }

@@ -22,6 +22,8 @@ pub enum Event {
     FileSynced(u64),
     /// What stood under the first name, the file of this number, stands under the second.
     Renamed(String, String, u64),
+    /// The file of this number stands under a further name.
+    Linked(String, u64),
     /// The names were put on the disk.
     FolderSynced,
     /// A name was removed.
@@ -81,6 +83,7 @@ fn found_after(event: &Event, name: &str, found: Option<u64>) -> Option<u64>
             }
             found
         }
+        Event::Linked(to, number) if name == to.as_str() => Some(*number),
         Event::Removed(other) if name == other.as_str() => None,
         _ => found,
     }
@@ -105,6 +108,7 @@ fn finished_after(event: &Event, number: u64, finished: bool) -> bool
     match event {
         Event::Created(_, other) if number == *other => false,
         Event::Renamed(_, _, other) if number == *other => true,
+        Event::Linked(_, other) if number == *other => true,
         _ => finished,
     }
 }
@@ -163,6 +167,7 @@ fn names_after(alloc: Global, event: &Event, names: &mut Vec<String>) -> Result<
     match event {
         Event::Created(name, _) => push_name(alloc, names, name.as_str()),
         Event::Renamed(_, name, _) => push_name(alloc, names, name.as_str()),
+        Event::Linked(name, _) => push_name(alloc, names, name.as_str()),
         _ => Ok(()),
     }
 }
@@ -243,6 +248,17 @@ impl Disk for MemoryDisk {
         let from = String::from_str(self.alloc, from)?;
         let to = String::from_str(self.alloc, to)?;
         note(&mut self.events, Event::Renamed(from, to, number))
+    }
+
+    fn link(&mut self, from: &str, to: &str) -> Result<(), DiskError> {
+        let Some(number) = found_in(self.events.as_slice(), from) else {
+            return Err(DiskError::NotFound);
+        };
+        if found_in(self.events.as_slice(), to).is_some() {
+            return Err(DiskError::AlreadyExists);
+        }
+        let to = String::from_str(self.alloc, to)?;
+        note(&mut self.events, Event::Linked(to, number))
     }
 
     fn open_folder(&mut self) -> Result<OpenFolder, DiskError> {

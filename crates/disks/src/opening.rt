@@ -5,6 +5,8 @@ ghost use Rattle.std.specs.String.{string_bytes};
 ghost use Rattle.disks.specs.Names.{Name, lasts};
 ghost use Rattle.disks.specs.Folder.{Folder, IsDurable, HasBytes, StandsFor, Crashes};
 ghost use Rattle.disks.specs.Laws.{StaysHeld};
+ghost use Rattle.disks.specs.Past.{Passed};
+ghost use Rattle.disks.specs.Whole.{Keeps, Any};
 
 use crate::disk::Disk;
 use crate::error::DiskError;
@@ -35,6 +37,12 @@ pub fn sync_names<D: Disk>(disk: &mut D) -> Result<(), DiskError>
         → StandsFor (D.folder disk.old) bytes ((D.folder disk.old).found name)
         → OnOk result (IsDurable (D.folder disk.new) name bytes) }
     ensures stays { D.honest disk.new → StaysHeld (D.folder disk.old) (D.folder disk.new) }
+    ensures owns { D.honest disk.new → (name : Name)
+        → (D.folder disk.new).own name ≡ (D.folder disk.old).own name }
+    ensures kept { D.honest disk.new → (own : Name)
+        → Keeps own Any (D.folder disk.old) (D.folder disk.new) }
+    ensures any_moment { D.honest disk.new → (own : Name)
+        → Passed (Keeps own Any (D.folder disk.old)) (D.past disk.old) (D.past disk.new) }
 {
     let folder = disk.open_folder()?;
     disk.sync_folder(&folder)

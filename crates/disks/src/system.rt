@@ -9,7 +9,7 @@ use crate::error::DiskError;
 use std::alloc::Global;
 use std::fs::{File, Metadata, OpenFile, OpenOptions};
 use std::io::{Read, Seek, SeekFrom, Write};
-use std::os::unix::fs::MetadataExt;
+use std::os::unix::fs::{MetadataExt, OpenOptionsExt};
 use std::rt::Files;
 use std::{fs, io};
 
@@ -20,7 +20,12 @@ pub struct SystemDisk<R: Files> {
     pub rt: R,
     /// The folder's path.
     pub folder: String,
+    /// Who may read the files that are made, as far as the system lets them.
+    pub mode: u32,
 }
+
+// All may read them.
+const SHARED: u32 = 0o666;
 
 /// An open file of such a folder.
 #[derive(Drop)]
@@ -35,7 +40,14 @@ impl<R: Files + AllocGlobal + Drop> SystemDisk<R> {
     pub fn new(rt: R, folder: String) -> SystemDisk<R>
         ensures { string_bytes result.folder ≡ string_bytes folder }
     {
-        SystemDisk { rt, folder }
+        SystemDisk::with_mode(rt, folder, SHARED)
+    }
+
+    /// The same, with files for those whom this mode tells.
+    pub fn with_mode(rt: R, folder: String, mode: u32) -> SystemDisk<R>
+        ensures { string_bytes result.folder ≡ string_bytes folder }
+    {
+        SystemDisk { rt, folder, mode }
     }
 
     fn path(&self, name: &str) -> Result<String, DiskError> {
@@ -58,7 +70,7 @@ impl<R: Files + AllocGlobal + Drop> SystemDisk<R> {
 fn as_failed(outcome: io::Result<()>) -> Result<(), DiskError> {
     match outcome {
         Ok(()) => Ok(()),
-        Err(_) => Err(DiskError::Failed),
+        Err(error) => Err(DiskError::System(error)),
     }
 }
 
@@ -91,6 +103,7 @@ impl<R: Files + AllocGlobal + Clone + Drop> Disk for SystemDisk<R> {
         let path = self.path(name)?;
         let mut options = OpenOptions::new();
         options.append(true).create_new(true);
+        options.mode(self.mode);
         Ok(SystemFile {
             file: options.open(&self.rt, path.as_str())?,
             position: 0,
@@ -120,6 +133,12 @@ impl<R: Files + AllocGlobal + Clone + Drop> Disk for SystemDisk<R> {
             return Err(DiskError::Failed);
         }
         Ok(fs::rename(&self.rt, from.as_str(), to.as_str())?)
+    }
+
+    fn link(&mut self, from: &str, to: &str) -> Result<(), DiskError> {
+        let from = self.path(from)?;
+        let to = self.path(to)?;
+        Ok(fs::hard_link(&self.rt, from.as_str(), to.as_str())?)
     }
 
     fn open_folder(&mut self) -> Result<R::File, DiskError> {

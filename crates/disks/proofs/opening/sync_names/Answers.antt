@@ -1,5 +1,5 @@
 use Rattle.std.specs.Prelude.{Result, Ok, Err, OnOk, ℕ, List, true}
-use Rattle.std.proofs.Common.{◌≡◌}
+use Rattle.std.proofs.Common.{◌≡◌, ◌∙◌}
 use Rattle.disks.specs.declared.error.DiskError.{DiskError}
 use Rattle.disks.specs.Names.{Name, lasts}
 use Rattle.disks.specs.Folder.{Folder, StandsFor, IsDurable}
@@ -7,6 +7,8 @@ use Rattle.disks.specs.Steps.{SyncsFolder, MaySyncFolder}
 use Rattle.disks.specs.Calls.{Does}
 use Rattle.disks.proofs.Held.{held_on, folder_held, sync_names_held}
 use Rattle.disks.proofs.OwnNames.{stays_stand, syncs_durable}
+use Rattle.disks.specs.Whole.{Any}
+use Rattle.disks.proofs.Sparing.{owns_same, owns_synced, keeps_on, opened_keep, opened_passes, passes_on, sync_keep, sync_passes}
 use Rattle.disks.proofs.opening.sync_names.Goals as goal
 
 synced : (r : Result Unit DiskError) (s t : Folder) (name : Name) (bytes : List ℕ) → lasts name ≡ true → Does SyncsFolder MaySyncFolder r s t
@@ -26,3 +28,28 @@ pub returns-clause-stays : goal.returns-clause-stays
 returns-clause-stays g c honest =
     held_on _ _ _ (folder_held c.open_folder.result _ _ (c.open_folder.ensures.gives (c.sync_folder.ensures.so_far honest)))
     (sync_names_held c.sync_folder.result _ _ (c.sync_folder.ensures.gives honest))
+
+pub returns-in_err-folder-clause-owns : goal.returns-in_err-folder-clause-owns
+returns-in_err-folder-clause-owns g c honest name = owns_same _ _ name (c.in_err-folder.ensures.gives honest)
+
+pub returns-in_err-folder-clause-kept : goal.returns-in_err-folder-clause-kept
+returns-in_err-folder-clause-kept g c honest own = opened_keep own Any _ _ (c.in_err-folder.ensures.gives honest)
+
+pub returns-in_err-folder-clause-any_moment : goal.returns-in_err-folder-clause-any_moment
+returns-in_err-folder-clause-any_moment g c honest own = opened_passes own Any _ _ _ (c.open_folder.ensures.passes honest)
+
+pub returns-clause-owns : goal.returns-clause-owns
+returns-clause-owns g c honest name =
+    owns_synced c.sync_folder.result _ _ name (c.sync_folder.ensures.gives honest) ∙ owns_same _ _ name (c.in_ok-folder.ensures.gives (c.sync_folder.ensures.so_far honest))
+
+pub returns-clause-kept : goal.returns-clause-kept
+returns-clause-kept g c honest own =
+    keeps_on own Any _ _ _ (opened_keep own Any _ _ (c.in_ok-folder.ensures.gives (c.sync_folder.ensures.so_far honest)))
+    (sync_keep own Any c.sync_folder.result _ _ (c.sync_folder.ensures.gives honest))
+
+pub returns-clause-any_moment : goal.returns-clause-any_moment
+returns-clause-any_moment g c honest own =
+    let before = c.sync_folder.ensures.so_far honest in
+    passes_on own Any _ _ _ _ _ (opened_keep own Any _ _ (c.in_ok-folder.ensures.gives before))
+    (opened_passes own Any _ _ _ (c.open_folder.ensures.passes before))
+    (sync_passes own Any _ _ _ (c.sync_folder.ensures.passes honest))
