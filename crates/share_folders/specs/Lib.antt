@@ -2,3 +2,5 @@
 pub mod Names
 pub mod Table
 pub mod Folder
+pub mod Stored
+pub mod Listed

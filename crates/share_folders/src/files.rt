@@ -1,41 +1,64 @@
 //! The files of a folder store. Only regular files are opened: what else has such a name, as a
 //! folder, a socket or a pipe that nobody writes to, is a fault and is not waited for.
 
-ghost use Rattle.std.specs.Prelude.{◌≡◌, ◌+◌, ◌≤◌, length, IfOk, IsOkUnless, OnOk};
+ghost use Rattle.std.specs.Prelude.{◌≡◌, ◌+◌, ◌++◌, ◌≤◌, ℕ, List, [], Some, true, false, length};
+ghost use Rattle.std.specs.Prelude.{take, drop, IfOk, IfSome, IsOkUnless, OnOk};
+ghost use Rattle.disks.specs.Names.{Name, lasts};
+ghost use Rattle.disks.specs.Folder.{FileState, HasBytes, IsOwn};
+ghost use Rattle.disks.specs.Laws.{StaysHeld};
 ghost use Rattle.share_store.specs.declared.error.StoreError.{StoreError};
+ghost use Rattle.share_folders.specs.declared.disk.Durability.{Durability};
+ghost use Rattle.share_folders.specs.Stored.{FileCloses, IsAs, WasWritten};
 ghost use Rattle.wire.specs.Limits.{most_data};
 
 use crate::disk::Durability;
+use disks::closing::{finish_synced, finish_unsynced};
+use disks::disk::Disk;
+use disks::error::DiskError;
+use disks::own::{begin, sync, write};
+use disks::reading::{find_finished, open_finished, read_finished};
 use share_store::error::StoreError;
 use share_store::shelf::ShareKey;
 use std::alloc::Global;
 use std::cell::Cell;
-use std::fs::{File, Metadata, OpenFile, OpenOptions};
-use std::io::{Read, Seek, SeekFrom, Write};
-use std::os::unix::fs::MetadataExt;
-use std::rt::Files;
-use std::{fs, io};
 use wire::message::ReadData;
 
-/// The length of the regular file at a path; `None` for what else stands there, for what cannot be
-/// asked, and where there is nothing.
-pub(crate) fn regular_length<R: Files>(rt: &R, path: &str) -> Result<Option<u64>, StoreError>
-    ensures { IsOkUnless result StoreError.OutOfMemory }
+/// What a store answers where its disk answers this.
+pub(crate) fn as_stored<T: Drop>(outcome: Result<T, DiskError>) -> Result<T, StoreError>
+    ensures { IsAs outcome result }
 {
-    length_of_regular(fs::symlink_metadata(rt, path))
+    match outcome {
+        Ok(value) => Ok(value),
+        Err(DiskError::OutOfMemory) => Err(StoreError::OutOfMemory),
+        Err(_) => Err(StoreError::StoreFault),
+    }
 }
 
-/// The same of what was found.
-pub(crate) fn length_of_regular(found: io::Result<Metadata>) -> Result<Option<u64>, StoreError>
-    ensures { IsOkUnless result StoreError.OutOfMemory }
+// The same where the disk's answer is a fault whatever its cause.
+fn as_fault(outcome: Result<(), DiskError>) -> Result<(), StoreError>
+    ensures { IsAs outcome result }
 {
-    match found {
-        Ok(file) if file.is_file() => Ok(Some(file.len())),
-        Ok(_) => Ok(None),
-        Err(error) => match StoreError::from(error) {
-            StoreError::OutOfMemory => Err(StoreError::OutOfMemory),
-            StoreError::StoreFault => Ok(None),
-        },
+    match outcome {
+        Ok(()) => Ok(()),
+        Err(_) => Err(StoreError::StoreFault),
+    }
+}
+
+/// The length of the regular file under a name; `None` for what else stands there, for what cannot
+/// be asked, and where there is nothing.
+pub(crate) fn regular_length<D: Disk>(disk: &mut D, name: &str) -> Result<Option<u64>, StoreError>
+    ensures memory { IsOkUnless result StoreError.OutOfMemory }
+    ensures place { D.place disk.new ≡ D.place disk.old }
+    ensures so_far { D.honest disk.new → D.honest disk.old }
+    ensures right { D.honest disk.new → (bytes : List ℕ) → lasts name.now ≡ true
+        → HasBytes (D.folder disk.old) bytes ((D.folder disk.old).found name.now)
+        → IfOk result (λ found. IfSome found (λ n. n ≡ length bytes)) }
+    ensures held { D.honest disk.new → StaysHeld (D.folder disk.old) (D.folder disk.new) }
+{
+    match find_finished(disk, name) {
+        Ok(found) => Ok(found),
+        Err(DiskError::OutOfMemory) => Err(StoreError::OutOfMemory),
+        Err(_) => Ok(None),
     }
 }
 
@@ -49,126 +72,155 @@ pub(crate) struct OpenShare<F> {
     pub(crate) length: u64,
     // Whether its bytes could not be put on the disk.
     is_lost: Cell<bool>,
+    // Whether a close of it was begun: then the file may have its closed name already.
+    is_closing: Cell<bool>,
 }
 
 /// Makes the file of an open share. What stands under its name is an earlier one of the same store,
 /// and is removed first.
-pub(crate) fn begin_share<R: Files>(rt: &R, path: &str) -> Result<OpenShare<R::File>, StoreError>
-    ensures { IfOk result (λ share. share.length ≡ 0) }
+pub(crate) fn begin_share<D: Disk>(
+    disk: &mut D,
+    name: &str,
+) -> Result<OpenShare<D::File>, StoreError>
+    requires passing { lasts name.now ≡ false }
+    ensures empty { IfOk result (λ share. share.length ≡ 0) }
+    ensures place { D.place disk.new ≡ D.place disk.old }
+    ensures so_far { D.honest disk.new → D.honest disk.old }
+    ensures begun { D.honest disk.new → IfOk result
+        (λ share. WasWritten D.inode (D.folder disk.new) name.now (Some share) []) }
+    ensures held { D.honest disk.new → StaysHeld (D.folder disk.old) (D.folder disk.new) }
 {
-    let file = match make_file(rt, path) {
-        Err(error) if error.kind() == io::ErrorKind::AlreadyExists => {
-            remove_regular(rt, path)?;
-            make_file(rt, path)?
-        }
-        outcome => outcome?,
-    };
+    let file = as_stored(begin(disk, name))?;
     Ok(OpenShare {
         file,
         length: 0,
         is_lost: Cell::new(false),
+        is_closing: Cell::new(false),
     })
 }
 
-// Makes a file where nothing stands. What is written to it comes at its end, also where another
-// program cuts it meanwhile, which no store does.
-fn make_file<R: Files>(rt: &R, path: &str) -> io::Result<R::File> {
-    let mut options = OpenOptions::new();
-    options.append(true).create_new(true);
-    options.open(rt, path)
-}
-
-// Removes the regular file at a path.
-fn remove_regular<R: Files>(rt: &R, path: &str) -> Result<(), StoreError> {
-    if regular_length(rt, path)?.is_none() {
+/// Adds bytes at the end of an open share's file. After an error a part of them may be there: then
+/// the file is of no use any more, whatever the cause. Nothing is added once a close was tried,
+/// which may have given the file its closed name.
+#[tactic(auto, using(crate::proofs::Closings::held_same))]
+pub(crate) fn append<D: Disk>(
+    disk: &mut D,
+    share: &mut OpenShare<D::File>,
+    bytes: &[u8],
+) -> Result<(), StoreError>
+    ensures long { OnOk result (share.new.length ≡ share.old.length + length bytes.now) }
+    ensures place { D.place disk.new ≡ D.place disk.old }
+    ensures so_far { D.honest disk.new → D.honest disk.old }
+    ensures written { D.honest disk.new → (name : Name) (before : List ℕ)
+        → WasWritten D.inode (D.folder disk.old) name (Some share.old) before
+        → OnOk result (WasWritten D.inode (D.folder disk.new) name (Some share.new)
+        (before ++ bytes.now)) }
+    ensures held { D.honest disk.new → (name : Name) (before : List ℕ)
+        → WasWritten D.inode (D.folder disk.old) name (Some share.old) before
+        → StaysHeld (D.folder disk.old) (D.folder disk.new) }
+{
+    if share.is_closing.get() {
         return Err(StoreError::StoreFault);
     }
-    fs::remove_file(rt, path)?;
+    let Some(length) = share.length.checked_add(bytes.len() as u64) else {
+        return Err(StoreError::StoreFault);
+    };
+    as_fault(write(disk, &mut share.file, bytes))?;
+    share.length = length;
     Ok(())
 }
 
-impl<F: Write> OpenShare<F> {
-    /// Adds bytes at the end. After an error a part of them may be there: then the file is of no
-    /// use any more, whatever the cause.
-    pub(crate) fn append(&mut self, bytes: &[u8]) -> Result<(), StoreError>
-        ensures { OnOk result (self.new.length ≡ self.old.length + length bytes.now) }
-    {
-        let Some(length) = self.length.checked_add(bytes.len() as u64) else {
-            return Err(StoreError::StoreFault);
-        };
-        if self.file.write_all(bytes).is_err() {
-            return Err(StoreError::StoreFault);
-        }
-        self.length = length;
-        Ok(())
-    }
-}
-
 /// What the file of an open share is closed with.
-#[derive(Drop)]
-pub(crate) struct Closing<'a, R> {
-    pub(crate) rt: &'a R,
+#[derive(Clone, Copy)]
+pub(crate) struct Closing<'a> {
     pub(crate) durability: Durability,
-    /// The folder's path.
-    pub(crate) folder: &'a str,
-    /// The file's path while it is open.
+    /// The file's name while it is open.
     pub(crate) open: &'a str,
-    /// The file's path once it is closed.
+    /// The file's name once it is closed.
     pub(crate) closed: &'a str,
 }
 
-impl<F: OpenFile> OpenShare<F> {
-    /// Gives the file its closed name. It is a fault if another file has the open name, which no
-    /// store makes, or if the file has more or fewer bytes than were written. Synced, its bytes are
-    /// on the disk before that, and its name after it.
-    pub(crate) fn close<R: Files>(&self, closing: &Closing<'_, R>) -> Result<(), StoreError> {
-        match closing.durability {
-            Durability::Synced => self.rename_synced(closing),
-            Durability::Unsynced => self.rename(closing),
-        }
-    }
-
-    // Nothing asks for memory once the file is renamed, and the folder is opened before.
-    fn rename_synced<R: Files>(&self, closing: &Closing<'_, R>) -> Result<(), StoreError> {
-        self.sync()?;
-        let folder = File::open(closing.rt, closing.folder)?;
-        self.rename(closing)?;
-        as_fault(folder.sync_all())
-    }
-
-    // Puts the bytes on the disk. Where that fails once the file is of no use any more: the system
-    // may forget which bytes are not there, and then a later call goes well without them.
-    fn sync(&self) -> Result<(), StoreError> {
-        if self.is_lost.get() {
-            return Err(StoreError::StoreFault);
-        }
-        let outcome = as_fault(self.file.sync_all());
-        self.is_lost.set(outcome.is_err());
-        outcome
-    }
-
-    fn rename<R: Files>(&self, closing: &Closing<'_, R>) -> Result<(), StoreError> {
-        let there = fs::symlink_metadata(closing.rt, closing.open)?;
-        let own = self.file.metadata()?;
-        if !is_same_file(&there, &own) || own.len() != self.length {
-            return Err(StoreError::StoreFault);
-        }
-        fs::rename(closing.rt, closing.open, closing.closed)?;
-        Ok(())
+/// Gives the file of an open share its closed name. It is a fault if another file has the open
+/// name, which no store makes, or if the file has more or fewer bytes than were written. Synced, its
+/// bytes are on the disk before that, and its name after it.
+pub(crate) fn close_share<D: Disk>(
+    disk: &mut D,
+    share: &OpenShare<D::File>,
+    closing: &Closing<'_>,
+) -> Result<(), StoreError>
+    requires passing { lasts closing.now.open.now ≡ false }
+    requires lasting { lasts closing.now.closed.now ≡ true }
+    ensures place { D.place disk.new ≡ D.place disk.old }
+    ensures so_far { D.honest disk.new → D.honest disk.old }
+    ensures closes { D.honest disk.new → (bytes : List ℕ)
+        → WasWritten D.inode (D.folder disk.old) closing.now.open.now (Some share.now) bytes
+        → FileCloses closing.now.durability closing.now.closed.now bytes result
+        (D.folder disk.old) (D.folder disk.new) }
+{
+    share.is_closing.set(true);
+    match closing.durability {
+        Durability::Synced => close_synced(disk, share, closing),
+        Durability::Unsynced => close_unsynced(disk, share, closing),
     }
 }
 
-// A fault, whatever the cause.
-fn as_fault(outcome: io::Result<()>) -> Result<(), StoreError> {
-    match outcome {
-        Ok(()) => Ok(()),
-        Err(_) => Err(StoreError::StoreFault),
-    }
+fn close_synced<D: Disk>(
+    disk: &mut D,
+    share: &OpenShare<D::File>,
+    closing: &Closing<'_>,
+) -> Result<(), StoreError>
+    requires passing { lasts closing.now.open.now ≡ false }
+    requires lasting { lasts closing.now.closed.now ≡ true }
+    ensures place { D.place disk.new ≡ D.place disk.old }
+    ensures so_far { D.honest disk.new → D.honest disk.old }
+    ensures closes { D.honest disk.new → (bytes : List ℕ)
+        → WasWritten D.inode (D.folder disk.old) closing.now.open.now (Some share.now) bytes
+        → FileCloses Durability.Synced closing.now.closed.now bytes result
+        (D.folder disk.old) (D.folder disk.new) }
+{
+    sync_share(disk, share)?;
+    let (open, closed) = (closing.open, closing.closed);
+    as_stored(finish_synced(disk, &share.file, share.length, open, closed))
 }
 
-// Whether both are of one file.
-fn is_same_file(one: &Metadata, other: &Metadata) -> bool {
-    one.dev() == other.dev() && one.ino() == other.ino()
+fn close_unsynced<D: Disk>(
+    disk: &mut D,
+    share: &OpenShare<D::File>,
+    closing: &Closing<'_>,
+) -> Result<(), StoreError>
+    requires passing { lasts closing.now.open.now ≡ false }
+    requires lasting { lasts closing.now.closed.now ≡ true }
+    ensures place { D.place disk.new ≡ D.place disk.old }
+    ensures so_far { D.honest disk.new → D.honest disk.old }
+    ensures closes { D.honest disk.new → (bytes : List ℕ)
+        → WasWritten D.inode (D.folder disk.old) closing.now.open.now (Some share.now) bytes
+        → FileCloses Durability.Unsynced closing.now.closed.now bytes result
+        (D.folder disk.old) (D.folder disk.new) }
+{
+    let (open, closed) = (closing.open, closing.closed);
+    as_stored(finish_unsynced(disk, &share.file, share.length, open, closed))
+}
+
+// Puts the bytes on the disk. Where that fails once the file is of no use any more: the system may
+// forget which bytes are not there, and then a later call goes well without them.
+fn sync_share<D: Disk>(disk: &mut D, share: &OpenShare<D::File>) -> Result<(), StoreError>
+    ensures place { D.place disk.new ≡ D.place disk.old }
+    ensures so_far { D.honest disk.new → D.honest disk.old }
+    ensures synced { D.honest disk.new → (name : Name) (before : FileState)
+        → IsOwn (D.folder disk.old) name (D.inode share.now.file) before
+        → OnOk result (IsOwn (D.folder disk.new) name (D.inode share.now.file)
+        (record before { is_synced = true })) }
+    ensures held { D.honest disk.new → (name : Name) (before : FileState)
+        → IsOwn (D.folder disk.old) name (D.inode share.now.file) before
+        → before.is_finished ≡ false
+        → StaysHeld (D.folder disk.old) (D.folder disk.new) }
+{
+    if share.is_lost.get() {
+        return Err(StoreError::StoreFault);
+    }
+    let outcome = sync(disk, &share.file);
+    share.is_lost.set(outcome.is_err());
+    as_stored(outcome)
 }
 
 /// The file of a closed share that is read. It stays open while no other share is read.
@@ -176,44 +228,47 @@ fn is_same_file(one: &Metadata, other: &Metadata) -> bool {
 pub(crate) struct RecentFile<F> {
     pub(crate) key: ShareKey,
     file: F,
-    // where the next byte is read
-    position: u64,
 }
 
 /// Opens the file of a closed share.
-pub(crate) fn open_closed<R: Files>(
-    rt: &R,
+pub(crate) fn open_closed<D: Disk>(
+    disk: &mut D,
     key: &ShareKey,
-    path: &str,
-) -> Result<RecentFile<R::File>, StoreError> {
-    if regular_length(rt, path)?.is_none() {
-        return Err(StoreError::StoreFault);
-    }
-    Ok(RecentFile {
-        key: *key,
-        file: File::open(rt, path)?,
-        position: 0,
-    })
+    name: &str,
+) -> Result<RecentFile<D::File>, StoreError>
+    ensures key { IfOk result (λ recent. recent.key ≡ key.now) }
+    ensures place { D.place disk.new ≡ D.place disk.old }
+    ensures so_far { D.honest disk.new → D.honest disk.old }
+    ensures bytes { D.honest disk.new → (bytes : List ℕ) → lasts name.now ≡ true
+        → HasBytes (D.folder disk.old) bytes ((D.folder disk.old).found name.now)
+        → IfOk result (λ recent. HasBytes (D.folder disk.new) bytes (Some (D.inode recent.file))) }
+    ensures held { D.honest disk.new → StaysHeld (D.folder disk.old) (D.folder disk.new) }
+{
+    let file = as_stored(open_finished(disk, name))?;
+    Ok(RecentFile { key: *key, file })
 }
 
-impl<F: Read + Seek> RecentFile<F> {
-    /// As many bytes as asked for, from a position on. It is a fault if there are fewer. After an
-    /// error the file is of no use any more.
-    pub(crate) fn read_at(
-        &mut self,
-        alloc: Global,
-        position: u64,
-        count: u32,
-    ) -> Result<ReadData, StoreError>
-        requires { count ≤ most_data }
-        ensures { IfOk result (λ bytes. length bytes ≡ count) }
-    {
-        let mut bytes = vec![in alloc; 0u8; count as usize]?;
-        if self.position != position {
-            self.file.seek(SeekFrom::Start(position))?;
-        }
-        self.file.read_exact(bytes.as_mut_slice())?;
-        self.position = position.saturating_add(u64::from(count));
-        Ok(ReadData::from_vec(bytes).unwrap())
-    }
+/// As many bytes of a closed share's file as asked for, from a position on. It is a fault if there
+/// are fewer. After an error the file is of no use any more.
+pub(crate) fn read_at<D: Disk>(
+    alloc: Global,
+    disk: &mut D,
+    recent: &mut RecentFile<D::File>,
+    position: u64,
+    count: u32,
+) -> Result<ReadData, StoreError>
+    requires { count ≤ most_data }
+    ensures long { IfOk result (λ got. length got ≡ count) }
+    ensures key { recent.new.key ≡ recent.old.key }
+    ensures same { D.inode recent.new.file ≡ D.inode recent.old.file }
+    ensures place { D.place disk.new ≡ D.place disk.old }
+    ensures so_far { D.honest disk.new → D.honest disk.old }
+    ensures given { D.honest disk.new → (bytes : List ℕ)
+        → HasBytes (D.folder disk.old) bytes (Some (D.inode recent.old.file))
+        → IfOk result (λ got. got ≡ take count (drop position bytes)) }
+    ensures held { D.honest disk.new → StaysHeld (D.folder disk.old) (D.folder disk.new) }
+{
+    let mut bytes = vec![in alloc; 0u8; count as usize]?;
+    as_stored(read_finished(disk, &mut recent.file, position, bytes.as_mut_slice()))?;
+    Ok(ReadData::from_vec(bytes).unwrap())
 }

@@ -1,25 +1,30 @@
 //! The lengths of closed shares, which are asked when a share is asked for.
 
-ghost use Rattle.std.specs.Prelude.{◌≡◌, None, Some, false, true, is_some, IfNone, IfSome};
-ghost use Rattle.std.specs.Prelude.{IsOkUnless, OnErr, OnOk};
+ghost use Rattle.std.specs.Prelude.{◌≡◌, ℕ, List, None, Some, false, true, is_some, IfNone, IfSome};
+ghost use Rattle.std.specs.Prelude.{IsOkUnless, OnErr, OnOk, length};
+ghost use Rattle.disks.specs.Folder.{HasBytes};
+ghost use Rattle.disks.specs.Laws.{StaysHeld};
 ghost use Rattle.share_store.specs.declared.error.StoreError.{StoreError};
 ghost use Rattle.share_store.specs.Shelf.{ShareKey, at, same_key};
+ghost use Rattle.share_folders.specs.Names.{closed_name};
+ghost use Rattle.share_folders.specs.Stored.{IsNoted};
 ghost use Rattle.share_folders.specs.Table.{AreSeen, StayBeside, has_index};
 
 use crate::files::regular_length;
-use crate::names::closed_path;
+use crate::names::ClosedName;
 use crate::table::KeptShare;
+use disks::disk::Disk;
 use share_store::error::StoreError;
 use share_store::shelf::ShareKey;
+use std::alloc::Global;
 use std::collections::BTreeMap;
-use std::rt::Files;
 use wire::message::{Digest, HeldShare, StorageIndex};
 
 /// Asks the length of a closed share, where it is not known. A share whose file is no regular one
 /// is closed no longer.
-pub(crate) fn look_at<R: Files + AllocGlobal>(
-    rt: &R,
-    folder: &str,
+pub(crate) fn look_at<D: Disk>(
+    alloc: Global,
+    disk: &mut D,
     closed: &mut BTreeMap<ShareKey, KeptShare>,
     key: &ShareKey,
 ) -> Result<(), StoreError>
@@ -28,12 +33,20 @@ pub(crate) fn look_at<R: Files + AllocGlobal>(
     ensures known { OnOk result (IfSome (at key.now closed.new.entries)
         (λ k. is_some k.length ≡ true)) }
     ensures memory { IsOkUnless result StoreError.OutOfMemory }
+    ensures place { D.place disk.new ≡ D.place disk.old }
+    ensures so_far { D.honest disk.new → D.honest disk.old }
+    ensures right { D.honest disk.new → (digest bytes : List ℕ) → IsNoted closed.old.entries
+        key.now digest bytes → HasBytes (D.folder disk.old) bytes
+        ((D.folder disk.old).found (closed_name key.now digest))
+        → OnOk result (IfSome (at key.now closed.new.entries)
+        (λ k. (k.length ≡ Some (length bytes)) × (k.digest ≡ digest))) }
+    ensures held { D.honest disk.new → StaysHeld (D.folder disk.old) (D.folder disk.new) }
 {
     let Some(digest) = digest_to_look_at(closed, key) else {
         return Ok(());
     };
-    let path = closed_path(rt.alloc(), folder, key, &digest)?;
-    match regular_length(rt, path.as_str())? {
+    let name = ClosedName { key: *key, digest }.text(alloc)?;
+    match regular_length(disk, name.as_str())? {
         Some(length) => note_length(closed, key, length, &digest),
         None => {
             forget_closed(closed, key);
@@ -43,9 +56,10 @@ pub(crate) fn look_at<R: Files + AllocGlobal>(
 }
 
 /// The same of these shares of one storage index.
-pub(crate) fn look_at_all<R: Files + AllocGlobal>(
-    rt: &R,
-    folder: &str,
+#[tactic(auto, using(crate::proofs::Closings::held_on, crate::proofs::Closings::held_same))]
+pub(crate) fn look_at_all<D: Disk>(
+    alloc: Global,
+    disk: &mut D,
     closed: &mut BTreeMap<ShareKey, KeptShare>,
     index: &StorageIndex,
     shares: &[HeldShare],
@@ -53,9 +67,12 @@ pub(crate) fn look_at_all<R: Files + AllocGlobal>(
     ensures seen { AreSeen closed.old.entries closed.new.entries }
     ensures others { StayBeside (has_index index.now) closed.old.entries closed.new.entries }
     ensures memory { IsOkUnless result StoreError.OutOfMemory }
+    ensures place { D.place disk.new ≡ D.place disk.old }
+    ensures so_far { D.honest disk.new → D.honest disk.old }
+    ensures held { D.honest disk.new → StaysHeld (D.folder disk.old) (D.folder disk.new) }
 {
     for held in shares {
-        look_at(rt, folder, closed, &(*index, held.share))?;
+        look_at(alloc, disk, closed, &(*index, held.share))?;
     }
     Ok(())
 }

@@ -4,7 +4,10 @@
 pub mod disk;
 mod files;
 pub mod folder;
+mod kept;
 mod lengths;
 mod listing;
 pub mod names;
+mod opened;
+pub mod outlasting;
 pub mod table;

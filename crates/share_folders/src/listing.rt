@@ -1,18 +1,28 @@
 //! What a server's folder holds when its store is opened.
 
-ghost use Rattle.std.specs.Prelude.{◌≡◌, is_some, IfOk};
+ghost use Rattle.std.specs.Prelude.{◌≡◌, ◌∷◌, ◌++◌, [], List, Some, None, false, is_some, map};
+ghost use Rattle.std.specs.Prelude.{IfOk, OnOk};
+ghost use Rattle.std.specs.String.{string_bytes};
+ghost use Rattle.disks.specs.Names.{Name};
+ghost use Rattle.disks.specs.Laws.{StaysHeld};
+ghost use Rattle.share_store.specs.Shelf.{ShareKey, at, same_key};
 ghost use Rattle.share_folders.specs.Folder.{takes_shares};
+ghost use Rattle.share_folders.specs.Listed.{AreTaken, IsEither};
 
-use crate::disk::{Durability, make_folder, sync_folder, sync_name};
-use crate::files::length_of_regular;
+use crate::disk::{Durability, make_folder, sync_name};
+use crate::files::{as_stored, regular_length};
 use crate::lengths::look_at;
 use crate::names::{ClosedName, OwnToken, draw_token};
 use crate::table::{KeptShare, keep_lower};
+use disks::disk::Disk;
+use disks::error::DiskError;
+use disks::opening::sync_names;
+use disks::system::SystemDisk;
 use share_store::error::StoreError;
 use share_store::shelf::ShareKey;
 use std::alloc::Global;
 use std::collections::BTreeMap;
-use std::fs::{DirEntry, Metadata, ReadDir};
+use std::fs::Metadata;
 use std::random::RandomSource;
 use std::rt::Files;
 use std::{fs, io};
@@ -50,100 +60,223 @@ pub(crate) struct Listing {
 /// What a folder holds, which is made where it is not there. For synced writing the folder's name
 /// is on the disk then, and so are the names of the closed shares.
 pub(crate) fn list_folder<R: Files + AllocGlobal + Clone + Drop>(
-    rt: &R,
-    folder: &str,
-    purpose: Purpose,
-) -> Result<Listing, StoreError> {
-    let entries = read_or_make(rt, folder, purpose.durability())?;
-    list_entries(rt, folder, purpose.durability(), entries)
+    disk: &mut SystemDisk<R>,
+    durability: Durability,
+) -> Result<Listing, StoreError>
+    ensures { string_bytes disk.new.folder ≡ string_bytes disk.old.folder }
+{
+    let names = list_or_make(disk, durability)?;
+    list_names(disk, durability, names.as_slice())
 }
 
 /// What a folder holds that is there. For synced writing the names of the closed shares are on the
 /// disk then, and the folder's own is as it was.
 pub(crate) fn list_standing<R: Files + AllocGlobal + Clone + Drop>(
-    rt: &R,
-    folder: &str,
-    purpose: Purpose,
-) -> Result<Listing, StoreError> {
-    let entries = fs::read_dir(rt, folder)?;
-    list_entries(rt, folder, purpose.durability(), entries)
-}
-
-// What a folder with these entries holds. Synced, the names of the closed shares are put on the
-// disk: they were left by a program that may have ended before it had put them there.
-fn list_entries<R: Files + AllocGlobal + Clone + Drop>(
-    rt: &R,
-    folder: &str,
+    disk: &mut SystemDisk<R>,
     durability: Durability,
-    entries: ReadDir<R>,
-) -> Result<Listing, StoreError> {
-    let mut listing = Listing {
-        closed: BTreeMap::new(rt.alloc()),
-        readonly: false,
-    };
-    for entry in entries {
-        match entry {
-            Ok(entry) => take_entry(rt, folder, &mut listing, &entry)?,
-            Err(error) if error.kind() == io::ErrorKind::InvalidFilename => {}
-            Err(error) => return Err(StoreError::from(error)),
-        }
-    }
-    if durability == Durability::Synced && !listing.closed.is_empty() {
-        sync_folder(rt, folder)?;
-    }
-    Ok(listing)
+) -> Result<Listing, StoreError>
+    ensures { string_bytes disk.new.folder ≡ string_bytes disk.old.folder }
+{
+    let alloc = disk.rt.alloc();
+    let names = as_stored(disk.list(alloc))?;
+    list_names(disk, durability, names.as_slice())
 }
 
-// The entries of a folder, which is made where it is not there. Synced, its name is on the disk.
-fn read_or_make<R: Files + AllocGlobal + Clone + Drop>(
-    rt: &R,
-    folder: &str,
+// The names in a folder, which is made where it is not there. Synced, its name is on the disk.
+fn list_or_make<R: Files + AllocGlobal + Clone + Drop>(
+    disk: &mut SystemDisk<R>,
     durability: Durability,
-) -> io::Result<ReadDir<R>> {
-    match fs::read_dir(rt, folder) {
-        Err(error) if error.kind() == io::ErrorKind::NotFound => {
-            make_folder(rt, folder, durability)?;
-            fs::read_dir(rt, folder)
+) -> Result<Vec<String>, StoreError>
+    ensures { string_bytes disk.new.folder ≡ string_bytes disk.old.folder }
+{
+    let alloc = disk.rt.alloc();
+    match disk.list(alloc) {
+        Err(DiskError::NotFound) => {
+            make_folder(&disk.rt, disk.folder.as_str(), durability)?;
+            as_stored(disk.list(alloc))
         }
-        Err(error) => Err(error),
-        Ok(entries) => {
-            sync_name(rt, folder, durability)?;
-            Ok(entries)
+        outcome => {
+            let names = as_stored(outcome)?;
+            sync_name(&disk.rt, disk.folder.as_str(), durability)?;
+            Ok(names)
         }
     }
 }
 
-// Takes note of a file, if it is a closed share's or is named `readonly`.
-fn take_entry<R: Files + AllocGlobal>(
-    rt: &R,
-    folder: &str,
-    listing: &mut Listing,
-    entry: &DirEntry<R>,
-) -> Result<(), StoreError> {
-    let name = entry.file_name();
-    if name == READONLY {
-        listing.readonly = is_file(fs::metadata(rt, entry.path()))?;
+// What a folder with these names holds.
+fn list_names<R: Files + AllocGlobal + Clone + Drop>(
+    disk: &mut SystemDisk<R>,
+    durability: Durability,
+    names: &[String],
+) -> Result<Listing, StoreError>
+    ensures { string_bytes disk.new.folder ≡ string_bytes disk.old.folder }
+{
+    let alloc = disk.rt.alloc();
+    let readonly = has_readonly(names) && is_readonly(disk)?;
+    let closed = take_names(alloc, disk, durability, names)?;
+    Ok(Listing { closed, readonly })
+}
+
+// Whether the name of that file is among these.
+fn has_readonly(names: &[String]) -> bool {
+    for name in names {
+        if name.as_str() == READONLY {
+            return true;
+        }
+    }
+    false
+}
+
+// Whether a file stands under it.
+fn is_readonly<R: Files + AllocGlobal + Clone + Drop>(
+    disk: &SystemDisk<R>,
+) -> Result<bool, StoreError> {
+    let folder = disk.folder.as_str();
+    let path = format!(in disk.rt.alloc(); "{folder}/{READONLY}")?;
+    is_file(fs::metadata(&disk.rt, path.as_str()))
+}
+
+// The closed shares of a folder with these names. Synced, their names are put on the disk: they
+// were left by a program that may have ended before it had put them there.
+#[tactic(auto, using(crate::proofs::Closings::held_on))]
+pub(crate) fn take_names<D: Disk>(
+    alloc: Global,
+    disk: &mut D,
+    durability: Durability,
+    names: &[String],
+) -> Result<BTreeMap<ShareKey, KeptShare>, StoreError>
+    ensures taken { IfOk result (λ closed. AreTaken (map string_bytes names.now) closed.entries) }
+    ensures place { D.place disk.new ≡ D.place disk.old }
+    ensures so_far { D.honest disk.new → D.honest disk.old }
+    ensures held { D.honest disk.new → StaysHeld (D.folder disk.old) (D.folder disk.new) }
+{
+    let closed = note_names(alloc, disk, names)?;
+    settle_names(disk, durability, &closed)?;
+    Ok(closed)
+}
+
+// Synced, puts the names in a folder on the disk, if there are closed shares.
+#[tactic(auto, using(crate::proofs::Closings::held_same))]
+fn settle_names<D: Disk>(
+    disk: &mut D,
+    durability: Durability,
+    closed: &BTreeMap<ShareKey, KeptShare>,
+) -> Result<(), StoreError>
+    ensures place { D.place disk.new ≡ D.place disk.old }
+    ensures so_far { D.honest disk.new → D.honest disk.old }
+    ensures held { D.honest disk.new → StaysHeld (D.folder disk.old) (D.folder disk.new) }
+{
+    if durability == Durability::Unsynced || closed.is_empty() {
         return Ok(());
     }
-    let Some(name) = ClosedName::read(name.as_bytes()) else {
-        return Ok(());
-    };
-    let mut length = None;
-    if listing.closed.contains_key(&name.key) {
-        // what is no regular file does not stand before one that is
-        look_at(rt, folder, &mut listing.closed, &name.key)?;
-        length = length_of_regular(entry.metadata())?;
-        if length.is_none() {
-            return Ok(());
-        }
+    as_stored(sync_names(disk))
+}
+
+// The closed shares of a folder with these names.
+#[tactic(auto, using(crate::proofs::Closings::held_same, crate::proofs::Taking::none_taken))]
+fn note_names<D: Disk>(
+    alloc: Global,
+    disk: &mut D,
+    names: &[String],
+) -> Result<BTreeMap<ShareKey, KeptShare>, StoreError>
+    ensures taken { IfOk result (λ closed. AreTaken (map string_bytes names.now) closed.entries) }
+    ensures place { D.place disk.new ≡ D.place disk.old }
+    ensures so_far { D.honest disk.new → D.honest disk.old }
+    ensures held { D.honest disk.new → StaysHeld (D.folder disk.old) (D.folder disk.new) }
+{
+    let mut closed = BTreeMap::new(alloc);
+    for name in names {
+        take_name(alloc, disk, &mut closed, name.as_str())?;
     }
-    let digest = name.digest;
-    keep_lower(
-        rt.alloc(),
-        &mut listing.closed,
-        &name.key,
-        &KeptShare { length, digest },
-    )
+    Ok(closed)
+}
+
+// Takes note of a file, if it is a closed share's.
+#[tactic(auto, using(crate::proofs::Closings::held_same))]
+fn take_name<D: Disk>(
+    alloc: Global,
+    disk: &mut D,
+    closed: &mut BTreeMap<ShareKey, KeptShare>,
+    name: &str,
+) -> Result<(), StoreError>
+    ensures taken { OnOk result ((names : List Name) → AreTaken names closed.old.entries
+        → AreTaken (names ++ name.now ∷ []) closed.new.entries) }
+    ensures place { D.place disk.new ≡ D.place disk.old }
+    ensures so_far { D.honest disk.new → D.honest disk.old }
+    ensures held { D.honest disk.new → StaysHeld (D.folder disk.old) (D.folder disk.new) }
+{
+    match ClosedName::read(name.as_bytes()) {
+        Some(named) => take_named(alloc, disk, closed, &named, name),
+        None => Ok(()),
+    }
+}
+
+// Takes note of a closed share's file. What it was noted under already stays.
+#[tactic(auto, using(crate::proofs::Closings::held_same))]
+fn take_named<D: Disk>(
+    alloc: Global,
+    disk: &mut D,
+    closed: &mut BTreeMap<ShareKey, KeptShare>,
+    named: &ClosedName,
+    name: &str,
+) -> Result<(), StoreError>
+    ensures first { OnOk result (at named.now.key closed.old.entries ≡ None
+        → at named.now.key closed.new.entries
+        ≡ Some (record { length = None; digest = named.now.digest })) }
+    ensures again { OnOk result ((k : KeptShare) → at named.now.key closed.old.entries ≡ Some k
+        → k.digest ≡ named.now.digest → at named.now.key closed.new.entries ≡ Some k) }
+    ensures either { OnOk result (IsEither named.now.digest
+        (at named.now.key closed.old.entries) (at named.now.key closed.new.entries)) }
+    ensures others { OnOk result ((other : ShareKey) → same_key named.now.key other ≡ false
+        → at other closed.new.entries ≡ at other closed.old.entries) }
+    ensures place { D.place disk.new ≡ D.place disk.old }
+    ensures so_far { D.honest disk.new → D.honest disk.old }
+    ensures held { D.honest disk.new → StaysHeld (D.folder disk.old) (D.folder disk.new) }
+{
+    match closed.get(&named.key) {
+        None => {
+            let digest = named.digest;
+            keep_lower(
+                alloc,
+                closed,
+                &named.key,
+                &KeptShare {
+                    length: None,
+                    digest,
+                },
+            )
+        }
+        Some(share) if share.digest == named.digest => Ok(()),
+        Some(_) => take_second(alloc, disk, closed, named, name),
+    }
+}
+
+// Takes note of a further file of a closed share. What is no regular file does not stand before one
+// that is.
+#[tactic(auto, using(crate::proofs::Closings::held_on))]
+fn take_second<D: Disk>(
+    alloc: Global,
+    disk: &mut D,
+    closed: &mut BTreeMap<ShareKey, KeptShare>,
+    named: &ClosedName,
+    name: &str,
+) -> Result<(), StoreError>
+    ensures either { OnOk result (IsEither named.now.digest
+        (at named.now.key closed.old.entries) (at named.now.key closed.new.entries)) }
+    ensures others { OnOk result ((other : ShareKey) → same_key named.now.key other ≡ false
+        → at other closed.new.entries ≡ at other closed.old.entries) }
+    ensures place { D.place disk.new ≡ D.place disk.old }
+    ensures so_far { D.honest disk.new → D.honest disk.old }
+    ensures held { D.honest disk.new → StaysHeld (D.folder disk.old) (D.folder disk.new) }
+{
+    look_at(alloc, disk, closed, &named.key)?;
+    match regular_length(disk, name)? {
+        Some(length) => {
+            let (length, digest) = (Some(length), named.digest);
+            keep_lower(alloc, closed, &named.key, &KeptShare { length, digest })
+        }
+        None => Ok(()),
+    }
 }
 
 /// What open shares' files are named by, in a store that takes shares: it is drawn from the system.

@@ -6,9 +6,10 @@
 
 ghost use Rattle.std.specs.Prelude.{◌≡◌, ◌++◌, ◌<◌, ◌≤◌, ℕ, List, None, Some, Option, codes};
 ghost use Rattle.std.specs.Prelude.{decimal, length, option_map, IfOk, IfSome, IsSome, IsSomeAnd};
-ghost use Rattle.std.specs.Prelude.{IsOkUnless};
+ghost use Rattle.std.specs.Prelude.{IsOkUnless, false, true};
 ghost use Rattle.std.specs.String.{string_bytes};
 ghost use Rattle.cap_text.specs.Base32.{base32, IsBytes};
+ghost use Rattle.disks.specs.Names.{lasts};
 ghost use Rattle.share_folders.specs.Names.{IsNamed, IsOpenNamed, IsShareKey, closed_name};
 ghost use Rattle.share_folders.specs.Names.{open_name, named_by, in_folder};
 ghost use Rattle.share_store.specs.Shelf.{ShareKey};
@@ -55,6 +56,7 @@ impl ClosedName {
     /// The share and the digest of a closed share's file, by its name; `None` for every other name.
     pub fn read(name: &[u8]) -> Option<ClosedName>
         ensures value { IfSome result (λ named. name.now ≡ closed_name named.key named.digest) }
+        ensures named { IfSome result (λ named. IsNamed named.key named.digest) }
         ensures only { (key : ShareKey) (digest : List ℕ) → IsNamed key digest
             → name.now ≡ closed_name key digest → IsSome result }
     {
@@ -70,12 +72,21 @@ impl ClosedName {
     pub fn text(&self, alloc: Global) -> Result<String, StoreError>
         ensures text { IfOk result
             (λ text. string_bytes text ≡ closed_name self.now.key self.now.digest) }
+        ensures lasting { IfOk result (λ text. lasts (string_bytes text) ≡ true) }
         ensures memory { IsOkUnless result StoreError.OutOfMemory }
     {
-        let index = base32_of(alloc, &self.key.0)?;
-        let digest = base32_of(alloc, &self.digest)?;
-        Ok(format!(in alloc; "{index}.{}.{digest}", self.key.1)?)
+        closed_text(alloc, &self.key, &self.digest)
     }
+}
+
+// The name of a closed share's file.
+fn closed_text(alloc: Global, key: &ShareKey, digest: &Digest) -> Result<String, StoreError>
+    ensures text { IfOk result (λ text. string_bytes text ≡ closed_name key.now digest.now) }
+    ensures memory { IsOkUnless result StoreError.OutOfMemory }
+{
+    let index = base32_of(alloc, &key.0)?;
+    let digest = base32_of(alloc, digest)?;
+    Ok(format!(in alloc; "{index}.{}.{digest}", key.1)?)
 }
 
 /// The path of a closed share's file.
@@ -127,6 +138,7 @@ impl OpenName {
     pub fn text(&self, alloc: Global) -> Result<String, StoreError>
         ensures text { IfOk result
             (λ text. string_bytes text ≡ open_name self.now.key self.now.own) }
+        ensures passing { IfOk result (λ text. lasts (string_bytes text) ≡ false) }
         ensures memory { IsOkUnless result StoreError.OutOfMemory }
     {
         match &self.own {
@@ -204,6 +216,7 @@ pub fn base32_of(alloc: Global, bytes: &[u8]) -> Result<String, StoreError>
 fn split_name(name: &[u8], end_letters: usize) -> Option<(ShareKey, &[u8])>
     requires { end_letters ≤ 52 }
     ensures value { IfSome result (λ found. name.now ≡ named_by found.0 found.1.now) }
+    ensures share { IfSome result (λ found. IsShareKey found.0) }
     ensures only { (key : ShareKey) (end : List ℕ) → IsShareKey key → length end ≡ end_letters
         → name.now ≡ named_by key end → IsSomeAnd result (λ found. found.1.now ≡ end) }
 {

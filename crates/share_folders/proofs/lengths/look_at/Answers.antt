@@ -1,4 +1,9 @@
-use Rattle.share_folders.proofs.FolderLaws.{beside_noted, gone_all, known_gone, known_noted, noted_all}
+use Rattle.std.proofs.Common.{◌≡◌, sym, ◌∙◌, ap, subst, true}
+use Rattle.disks.specs.Names.{Name, lasts}
+use Rattle.disks.specs.Folder.{HasBytes}
+use Rattle.share_folders.specs.Names.{closed_name}
+use Rattle.share_folders.proofs.Holding.{one_digest, right_noted, some_right}
+use Rattle.share_folders.proofs.FolderLaws.{gone_all, noted_all}
 use Rattle.share_folders.proofs.lengths.look_at.Goals as goal
 
 pub returns-in-Some-2-clause-seen : goal.returns-in-Some-2-clause-seen
@@ -9,3 +14,14 @@ returns-in-Some-2-clause-seen g c =
 pub returns-clause-seen : goal.returns-clause-seen
 returns-clause-seen g c =
     gone_all c.args.key.now c.in-Some.digest c.args.closed.now.entries c.forget_closed.new.closed.entries c.in-Some.ensures.unknown c.forget_closed.ensures.gone c.forget_closed.ensures.others
+
+pub returns-in-Some-2-clause-right : goal.returns-in-Some-2-clause-right
+returns-in-Some-2-clause-right g c honest digest bytes noted has =
+    let s = g.D.Disk.folder c.args.disk.now in
+    let same : c.in-Some.digest ≡ digest = one_digest c.args.closed.now.entries c.args.key.now c.in-Some.digest digest bytes _ c.in-Some.ensures.unknown noted in
+    let name : c.as_str.result.now ≡ closed_name c.args.key.now digest = c.as_str.ensures.value ∙ c.in_ok-name.ensures.text ∙ ap (closed_name c.args.key.now) same in
+    let lasting : lasts c.as_str.result.now ≡ true = ap lasts c.as_str.ensures.value ∙ c.in_ok-name.ensures.lasting in
+    let there = subst (λ (n : Name). HasBytes s bytes (s.found n)) (sym name) has in
+    right_noted c.note_length.result c.in-Some-2.length c.in-Some.digest digest bytes _ same
+    (some_right c.in-Some-2.length c.in_ok-length.field-0 bytes c.in-Some-2.is (c.in_ok-length.ensures.right honest bytes lasting there))
+    c.note_length.ensures.noted

@@ -1,0 +1,31 @@
+-- What an opened store finds by the names in its folder.
+use Rattle.std.specs.Prelude.{◌≡◌, ◌⊎◌, List, ℕ, Option, Some, None, Contains, ⊤}
+use Rattle.disks.specs.Names.{Name}
+use Rattle.share_store.specs.Shelf.{ShareKey, at}
+use Rattle.share_folders.specs.declared.table.KeptShare.{KeptShare}
+use Rattle.share_folders.specs.Names.{IsNamed, closed_name}
+
+-- No other closed name of a share is among these.
+abbrev pub IsAlone : List Name → ShareKey → List ℕ → Type 0
+IsAlone names key digest =
+    (other : List ℕ) → IsNamed key other → Contains names (closed_name key other) → other ≡ digest
+
+-- A closed name of a share is among these names, and no other one of the same share.
+pub record IsSole (names : List Name) (key : ShareKey) (digest : List ℕ) : Type 0 where
+  pub valid : IsNamed key digest
+  pub there : Contains names (closed_name key digest)
+  pub alone : IsAlone names key digest
+
+-- Each closed share in the table has its name among these. One that has just one closed name there
+-- is in the table with its digest, and its length was not asked.
+pub record AreTaken (names : List Name) (closed : List (ShareKey × KeptShare)) : Type 0 where
+  pub only : (key : ShareKey) (k : KeptShare) → at key closed ≡ Some k
+      → IsNamed key k.digest × Contains names (closed_name key k.digest)
+  pub sole : (key : ShareKey) (digest : List ℕ) → IsSole names key digest
+      → at key closed ≡ Some (record { length = None; digest = digest })
+
+-- A share in the table has this digest, or the one that it had.
+abbrev pub IsEither : List ℕ → Option KeptShare → Option KeptShare → Type 0
+IsEither digest old None = ⊤
+IsEither digest old (Some k) =
+    (k.digest ≡ digest) ⊎ ((j : KeptShare) × (old ≡ Some j) × (k.digest ≡ j.digest))

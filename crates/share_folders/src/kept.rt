@@ -1,0 +1,370 @@
+//! What a store keeps in a folder: its closed shares and its open ones, over any disk.
+
+ghost use Rattle.std.specs.Prelude.{◌≡◌, ◌+◌, ◌++◌, ◌-◌, ◌==◌, ◌≤◌, ℕ, List, [], None, Some, true};
+ghost use Rattle.std.specs.Prelude.{length, min, take, drop, if◌then◌else◌, IfOk, IsOkUnless};
+ghost use Rattle.std.specs.Prelude.{IsSome, OnErr, OnOk};
+ghost use Rattle.std.specs.BTreeMap.{insert_entry};
+ghost use Rattle.disks.specs.Folder.{HasBytes};
+ghost use Rattle.disks.specs.Laws.{StaysHeld};
+ghost use Rattle.share_store.specs.declared.error.StoreError.{StoreError};
+ghost use Rattle.share_store.specs.Shelf.{ShareKey, at, key_of, order, same_key};
+ghost use Rattle.share_folders.specs.Folder.{IsOpenedAt, OthersStay, length_at, length_of};
+ghost use Rattle.share_folders.specs.Folder.{lengths_of};
+ghost use Rattle.share_folders.specs.Names.{closed_name, open_name};
+ghost use Rattle.share_folders.specs.Stored.{FileCloses, HasShare, RecentHas, WasWritten};
+ghost use Rattle.share_folders.specs.Table.{AreSeen, StayBeside, is_known};
+ghost use Rattle.wire.specs.Limits.{most_data};
+
+use crate::disk::Durability;
+use crate::files::{Closing, OpenShare, RecentFile, begin_share, open_closed, read_at};
+use crate::lengths::look_at;
+use crate::names::{ClosedName, OpenName, OwnToken};
+use crate::opened::{append_to, forget_open, put_begun, put_closed, written_length};
+use crate::table::KeptShare;
+use disks::disk::Disk;
+use disks::own::discard;
+use share_store::error::StoreError;
+use share_store::shelf::{ShareKey, key_of};
+use std::alloc::Global;
+use std::collections::BTreeMap;
+use wire::message::{Digest, ReadData, ReadLength, ShareId};
+
+/// What a store keeps in a folder.
+#[derive(Drop)]
+pub(crate) struct DiskStore<D: Disk + Drop> {
+    pub(crate) alloc: Global,
+    pub(crate) disk: D,
+    /// What open shares' files are named by: none where no shares are taken.
+    pub(crate) own: Option<OwnToken>,
+    pub(crate) closed: BTreeMap<ShareKey, KeptShare>,
+    pub(crate) opened: BTreeMap<ShareKey, OpenShare<D::File>>,
+    pub(crate) durability: Durability,
+    /// The file that was read last: a share is read part by part.
+    pub(crate) recent: Option<RecentFile<D::File>>,
+}
+
+impl<D: Disk + Drop> DiskStore<D> {
+    /// A store over a disk, with these closed shares.
+    pub(crate) fn new(
+        alloc: Global,
+        disk: D,
+        own: Option<OwnToken>,
+        closed: BTreeMap<ShareKey, KeptShare>,
+        durability: Durability,
+    ) -> DiskStore<D>
+        ensures disk { result.disk ≡ disk }
+        ensures own { result.own ≡ own }
+        ensures closed { result.closed.entries ≡ closed.entries }
+        ensures opened { result.opened.entries ≡ [] }
+        ensures durability { result.durability ≡ durability }
+        ensures recent { result.recent ≡ None }
+    {
+        DiskStore {
+            alloc,
+            disk,
+            own,
+            closed,
+            opened: BTreeMap::new(alloc),
+            durability,
+            recent: None,
+        }
+    }
+
+    // What an open share's file is named by. A store that takes no shares has none.
+    fn open_name(&self, id: &ShareId) -> Result<OpenName, StoreError>
+        ensures key { IfOk result (λ name. name.key ≡ (id.now.index, id.now.share)) }
+        ensures own { IfOk result (λ name. name.own ≡ self.now.own) }
+        ensures takes { OnOk result (IsSome self.now.own) }
+    {
+        if self.own.is_none() {
+            return Err(StoreError::StoreFault);
+        }
+        Ok(OpenName {
+            key: key_of(id),
+            own: self.own,
+        })
+    }
+
+    // Begins an open share anew.
+    fn begin(&mut self, name: &OpenName) -> Result<(), StoreError>
+        ensures own { self.new.own ≡ self.old.own }
+        ensures durability { self.new.durability ≡ self.old.durability }
+        ensures closed { self.new.closed.entries ≡ self.old.closed.entries }
+        ensures others { IsOpenedAt name.now.key (lengths_of self.old.opened.entries)
+            (lengths_of self.new.opened.entries) }
+        ensures empty { OnOk result
+            (length_at name.now.key (lengths_of self.new.opened.entries) ≡ 0) }
+        ensures place { D.place self.new.disk ≡ D.place self.old.disk }
+        ensures so_far { D.honest self.new.disk → D.honest self.old.disk }
+        ensures begun { D.honest self.new.disk → OnOk result (WasWritten D.inode
+            (D.folder self.new.disk) (open_name name.now.key name.now.own)
+            (at name.now.key self.new.opened.entries) []) }
+        ensures held { D.honest self.new.disk
+            → StaysHeld (D.folder self.old.disk) (D.folder self.new.disk) }
+    {
+        let text = name.text(self.alloc)?;
+        let share = begin_share(&mut self.disk, text.as_str())?;
+        put_begun(&mut self.opened, &name.key, share)
+    }
+
+    // Begins an open share anew, where a write at this offset does, or nothing was written to it.
+    fn begin_at(&mut self, name: &OpenName, offset: u64) -> Result<(), StoreError>
+        ensures own { self.new.own ≡ self.old.own }
+        ensures durability { self.new.durability ≡ self.old.durability }
+        ensures closed { self.new.closed.entries ≡ self.old.closed.entries }
+        ensures others { IsOpenedAt name.now.key (lengths_of self.old.opened.entries)
+            (lengths_of self.new.opened.entries) }
+        ensures long { OnOk result (length_at name.now.key (lengths_of self.new.opened.entries)
+            ≡ (if offset == 0 then 0
+            else length_at name.now.key (lengths_of self.old.opened.entries))) }
+        ensures place { D.place self.new.disk ≡ D.place self.old.disk }
+        ensures so_far { D.honest self.new.disk → D.honest self.old.disk }
+        ensures begun { D.honest self.new.disk → (before : List ℕ) → WasWritten D.inode
+            (D.folder self.old.disk) (open_name name.now.key name.now.own)
+            (at name.now.key self.old.opened.entries) before
+            → OnOk result (WasWritten D.inode
+            (D.folder self.new.disk) (open_name name.now.key name.now.own)
+            (at name.now.key self.new.opened.entries) (if offset == 0 then [] else before)) }
+        ensures held { D.honest self.new.disk
+            → StaysHeld (D.folder self.old.disk) (D.folder self.new.disk) }
+    {
+        if offset == 0 || written_length(&self.opened, &name.key) == 0 {
+            return self.begin(name);
+        }
+        Ok(())
+    }
+
+    /// Adds bytes at the end of an open share.
+    pub(crate) fn write_open(
+        &mut self,
+        id: &ShareId,
+        offset: u64,
+        bytes: &[u8],
+    ) -> Result<(), StoreError>
+        ensures own { self.new.own ≡ self.old.own }
+        ensures durability { self.new.durability ≡ self.old.durability }
+        ensures closed { self.new.closed.entries ≡ self.old.closed.entries }
+        ensures others { OthersStay id.now (lengths_of self.old.opened.entries)
+            (lengths_of self.new.opened.entries) }
+        ensures takes { OnOk result (IsSome self.old.own) }
+        ensures long { OnOk result
+            (length_at (id.now.index, id.now.share) (lengths_of self.new.opened.entries)
+            ≡ (if offset == 0 then 0
+            else length_at (id.now.index, id.now.share) (lengths_of self.old.opened.entries))
+            + length bytes.now) }
+        ensures place { D.place self.new.disk ≡ D.place self.old.disk }
+        ensures so_far { D.honest self.new.disk → D.honest self.old.disk }
+        ensures written { D.honest self.new.disk → (before : List ℕ) → WasWritten D.inode
+            (D.folder self.old.disk) (open_name (key_of id.now) self.old.own)
+            (at (key_of id.now) self.old.opened.entries) before
+            → OnOk result (WasWritten D.inode
+            (D.folder self.new.disk) (open_name (key_of id.now) self.old.own)
+            (at (key_of id.now) self.new.opened.entries)
+            ((if offset == 0 then [] else before) ++ bytes.now)) }
+        ensures held { D.honest self.new.disk → (before : List ℕ) → WasWritten D.inode
+            (D.folder self.old.disk) (open_name (key_of id.now) self.old.own)
+            (at (key_of id.now) self.old.opened.entries) before
+            → StaysHeld (D.folder self.old.disk) (D.folder self.new.disk) }
+    {
+        let name = self.open_name(id)?;
+        self.begin_at(&name, offset)?;
+        let outcome = append_to(&mut self.disk, &mut self.opened, &name.key, bytes);
+        if outcome.is_err() {
+            self.remove_open(&name);
+        }
+        outcome
+    }
+
+    // Removes the file of a share that is open no longer, where that goes.
+    fn remove_open(&mut self, name: &OpenName)
+        ensures own { self.new.own ≡ self.old.own }
+        ensures durability { self.new.durability ≡ self.old.durability }
+        ensures closed { self.new.closed.entries ≡ self.old.closed.entries }
+        ensures opened { self.new.opened.entries ≡ self.old.opened.entries }
+        ensures place { D.place self.new.disk ≡ D.place self.old.disk }
+        ensures so_far { D.honest self.new.disk → D.honest self.old.disk }
+        ensures held { D.honest self.new.disk
+            → StaysHeld (D.folder self.old.disk) (D.folder self.new.disk) }
+    {
+        if let Ok(text) = name.text(self.alloc) {
+            let _ = discard(&mut self.disk, text.as_str());
+        }
+    }
+
+    /// Closes an open share under a digest.
+    pub(crate) fn close_open(&mut self, id: &ShareId, digest: &Digest) -> Result<(), StoreError>
+        requires { at (key_of id.now) self.old.closed.entries ≡ None }
+        ensures own { self.new.own ≡ self.old.own }
+        ensures durability { self.new.durability ≡ self.old.durability }
+        ensures closed { OnOk result (self.new.closed.entries
+            ≡ insert_entry order self.old.closed.entries (id.now.index, id.now.share) (record {
+              length = Some (length_at (id.now.index, id.now.share)
+                  (lengths_of self.old.opened.entries));
+              digest = digest.now;
+            })) }
+        ensures takes { OnOk result (IsSome self.old.own) }
+        ensures others { OthersStay id.now (lengths_of self.old.opened.entries)
+            (lengths_of self.new.opened.entries) }
+        ensures err_closed { OnErr result (self.new.closed.entries ≡ self.old.closed.entries) }
+        ensures err_opened { OnErr result (self.new.opened.entries ≡ self.old.opened.entries) }
+        ensures place { D.place self.new.disk ≡ D.place self.old.disk }
+        ensures so_far { D.honest self.new.disk → D.honest self.old.disk }
+        ensures closes { D.honest self.new.disk → (bytes : List ℕ) → WasWritten D.inode
+            (D.folder self.old.disk) (open_name (key_of id.now) self.old.own)
+            (at (key_of id.now) self.old.opened.entries) bytes
+            → FileCloses self.old.durability (closed_name (key_of id.now) digest.now) bytes result
+            (D.folder self.old.disk) (D.folder self.new.disk) }
+    {
+        let name = self.open_name(id)?;
+        let (key, digest) = (name.key, *digest);
+        let open = name.text(self.alloc)?;
+        let closed = ClosedName { key, digest }.text(self.alloc)?;
+        let length = Some(written_length(&self.opened, &key));
+        put_closed(
+            &mut self.disk,
+            &self.opened,
+            &mut self.closed,
+            &key,
+            &KeptShare { length, digest },
+            &Closing {
+                durability: self.durability,
+                open: open.as_str(),
+                closed: closed.as_str(),
+            },
+        )?;
+        forget_open(&mut self.opened, &key);
+        Ok(())
+    }
+
+    /// Bytes of a closed share from an offset on.
+    pub(crate) fn read_kept(
+        &mut self,
+        alloc: Global,
+        id: &ShareId,
+        offset: u64,
+        count: ReadLength,
+    ) -> Result<ReadData, StoreError>
+        ensures own { self.new.own ≡ self.old.own }
+        ensures durability { self.new.durability ≡ self.old.durability }
+        ensures opened { self.new.opened.entries ≡ self.old.opened.entries }
+        ensures seen { AreSeen self.old.closed.entries self.new.closed.entries }
+        ensures others { StayBeside (same_key (id.now.index, id.now.share))
+            self.old.closed.entries self.new.closed.entries }
+        ensures known { OnOk result
+            (is_known (at (id.now.index, id.now.share) self.new.closed.entries) ≡ true) }
+        ensures long { IfOk result (λ got. length got ≡ min count
+            (length_of (at (id.now.index, id.now.share) self.new.closed.entries) - offset)) }
+        ensures place { D.place self.new.disk ≡ D.place self.old.disk }
+        ensures so_far { D.honest self.new.disk → D.honest self.old.disk }
+        ensures given { D.honest self.new.disk → (digest bytes : List ℕ) → HasShare D.inode
+            (D.folder self.old.disk) self.old.closed.entries self.old.recent (key_of id.now) digest
+            bytes → IfOk result (λ got. got ≡ take count (drop offset bytes)) }
+        ensures still { D.honest self.new.disk → (digest bytes : List ℕ) → HasShare D.inode
+            (D.folder self.old.disk) self.old.closed.entries self.old.recent (key_of id.now) digest
+            bytes → OnOk result (HasShare D.inode (D.folder self.new.disk)
+            self.new.closed.entries self.new.recent (key_of id.now) digest bytes) }
+        ensures held { D.honest self.new.disk
+            → StaysHeld (D.folder self.old.disk) (D.folder self.new.disk) }
+    {
+        let key = key_of(id);
+        look_at(self.alloc, &mut self.disk, &mut self.closed, &key)?;
+        let Some(share) = self.closed.get(&key) else {
+            return Err(StoreError::StoreFault);
+        };
+        let left = bytes_left(share.length.unwrap_or(0), offset, count);
+        let named = ClosedName {
+            key,
+            digest: share.digest,
+        };
+        read_named(
+            alloc,
+            &mut self.disk,
+            &mut self.recent,
+            &named,
+            offset,
+            left,
+        )
+    }
+}
+
+// So many bytes of a closed share's file.
+#[tactic(auto, using(crate::proofs::Closings::held_on, crate::proofs::Closings::held_same))]
+fn read_named<D: Disk>(
+    alloc: Global,
+    disk: &mut D,
+    recent: &mut Option<RecentFile<D::File>>,
+    named: &ClosedName,
+    offset: u64,
+    count: u32,
+) -> Result<ReadData, StoreError>
+    requires { count ≤ most_data }
+    ensures long { IfOk result (λ got. length got ≡ count) }
+    ensures place { D.place disk.new ≡ D.place disk.old }
+    ensures so_far { D.honest disk.new → D.honest disk.old }
+    ensures given { D.honest disk.new → (bytes : List ℕ) → HasBytes (D.folder disk.old) bytes
+        ((D.folder disk.old).found (closed_name named.now.key named.now.digest))
+        → RecentHas D.inode (D.folder disk.old) named.now.key recent.old bytes
+        → IfOk result (λ got. got ≡ take count (drop offset bytes)) }
+    ensures recent { D.honest disk.new → (bytes : List ℕ) → HasBytes (D.folder disk.old) bytes
+        ((D.folder disk.old).found (closed_name named.now.key named.now.digest))
+        → RecentHas D.inode (D.folder disk.old) named.now.key recent.old bytes
+        → RecentHas D.inode (D.folder disk.new) named.now.key recent.new bytes }
+    ensures held { D.honest disk.new → StaysHeld (D.folder disk.old) (D.folder disk.new) }
+{
+    if count == 0 {
+        return Ok(ReadData::from_vec(Vec::new(alloc)).unwrap());
+    }
+    let mut file = take_file(alloc, disk, recent, named)?;
+    let bytes = read_at(alloc, disk, &mut file, offset, count)?;
+    *recent = Some(file);
+    Ok(bytes)
+}
+
+// A closed share's file: the one that was read last, or another one.
+fn take_file<D: Disk>(
+    alloc: Global,
+    disk: &mut D,
+    recent: &mut Option<RecentFile<D::File>>,
+    named: &ClosedName,
+) -> Result<RecentFile<D::File>, StoreError>
+    ensures key { IfOk result (λ file. file.key ≡ named.now.key) }
+    ensures none { recent.new ≡ None }
+    ensures place { D.place disk.new ≡ D.place disk.old }
+    ensures so_far { D.honest disk.new → D.honest disk.old }
+    ensures bytes { D.honest disk.new → (bytes : List ℕ) → HasBytes (D.folder disk.old) bytes
+        ((D.folder disk.old).found (closed_name named.now.key named.now.digest))
+        → RecentHas D.inode (D.folder disk.old) named.now.key recent.old bytes
+        → IfOk result (λ file. HasBytes (D.folder disk.new) bytes (Some (D.inode file.file))) }
+    ensures held { D.honest disk.new → StaysHeld (D.folder disk.old) (D.folder disk.new) }
+{
+    match recent.take() {
+        Some(file) if file.key == named.key => Ok(file),
+        _ => open_named(alloc, disk, named),
+    }
+}
+
+// A closed share's file.
+fn open_named<D: Disk>(
+    alloc: Global,
+    disk: &mut D,
+    named: &ClosedName,
+) -> Result<RecentFile<D::File>, StoreError>
+    ensures key { IfOk result (λ recent. recent.key ≡ named.now.key) }
+    ensures place { D.place disk.new ≡ D.place disk.old }
+    ensures so_far { D.honest disk.new → D.honest disk.old }
+    ensures bytes { D.honest disk.new → (bytes : List ℕ) → HasBytes (D.folder disk.old) bytes
+        ((D.folder disk.old).found (closed_name named.now.key named.now.digest))
+        → IfOk result (λ recent. HasBytes (D.folder disk.new) bytes (Some (D.inode recent.file))) }
+    ensures held { D.honest disk.new → StaysHeld (D.folder disk.old) (D.folder disk.new) }
+{
+    let text = named.text(alloc)?;
+    open_closed(disk, &named.key, text.as_str())
+}
+
+// How many bytes of so many there are from an offset on, up to as many as asked for.
+fn bytes_left(whole: u64, offset: u64, count: ReadLength) -> u32
+    ensures value { result ≡ min count (whole - offset) }
+    ensures bound { result ≤ most_data }
+{
+    whole.saturating_sub(offset).min(u64::from(count.get())) as u32
+}
