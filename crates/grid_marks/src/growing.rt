@@ -1,13 +1,17 @@
 //! How a grid that knows its servers gets a new disk for one, or servers more.
 
-ghost use Rattle.std.specs.Prelude.{◌≡◌, ◌↔◌, ◌≤◌, ◌<◌, ◌+◌, IfOk, IfSome, IfNone, IsOk, IsTrue};
+ghost use Rattle.std.specs.Prelude.{◌≡◌, ◌↔◌, ◌≤◌, ◌<◌, ◌+◌, IfOk, IfSome, IfNone, IsErr, IsOk};
+ghost use Rattle.std.specs.Prelude.{IsTrue};
 ghost use Rattle.grid_marks.specs.Servers.{IsAlike, IsPassedOver};
 
 use crate::folders::server_folder;
-use crate::init::{claim, part_path, replace_part};
+use crate::init::{PART, claim, replace_part};
 use crate::mark::{Kind, MAX_SERVERS, Mark};
 use crate::marking::{has_own_mark, mark_server, note_folder, note_seen, standing_folder};
-use crate::marks::{known_mark, mark_path};
+use crate::marks::{MARK, known_mark, mark_path};
+use disks::error::DiskError;
+use disks::moving::{Unmoved, move_finished};
+use disks::system::SystemDisk;
 use grid_faults::{Fault, first_servers, told_path};
 use std::alloc::Global;
 use std::fs::Metadata;
@@ -15,7 +19,7 @@ use std::io::ErrorKind;
 use std::random::RandomSource;
 use std::rt::Files;
 use std::{fs, io};
-use user_files::{at_path, sync_folder};
+use user_files::at_path;
 use wire::message::NodeId;
 
 // What the name of a mark begins with that is not whole yet.
@@ -211,12 +215,28 @@ where
     if !is_alike(&known_mark(rt, grid)?, old) || !is_alike(&claim(rt, grid, new)?, new) {
         return Err(Fault::AlreadyGrid);
     }
-    let alloc = rt.alloc();
-    let (part, path) = (part_path(alloc, grid)?, mark_path(alloc, grid)?);
-    match fs::rename(rt, part.as_str(), path.as_str()) {
-        Ok(()) => at_path(alloc, sync_folder(rt, grid), grid),
-        Err(error) if error.kind() == ErrorKind::NotFound => Err(Fault::AlreadyGrid),
-        Err(error) => at_path(alloc, Err(error), path.as_str()),
+    let folder = String::from_str(rt.alloc(), grid)?;
+    let mut disk = SystemDisk::new(rt, folder);
+    match move_finished(&mut disk, PART, MARK) {
+        Ok(()) => Ok(()),
+        Err(unmoved) => growth_fault(rt.alloc(), grid, unmoved),
+    }
+}
+
+// Why the new mark of a grid is not in its place, or not on the disk. `AlreadyGrid` where another
+// call took it away.
+fn growth_fault(alloc: Global, grid: &str, unmoved: Unmoved) -> Result<(), Fault>
+    ensures { IsErr result }
+{
+    if unmoved.is_moved {
+        return at_path(alloc, Err(unmoved.error.reason()), grid);
+    }
+    match unmoved.error {
+        DiskError::NotFound | DiskError::Failed => Err(Fault::AlreadyGrid),
+        error => {
+            let path = mark_path(alloc, grid)?;
+            at_path(alloc, Err(error.reason()), path.as_str())
+        }
     }
 }
 

@@ -116,10 +116,12 @@ where
     Ok(())
 }
 
-/// The path of the mark of a grid whose servers have not all their marks.
-pub(crate) fn part_path(alloc: Global, grid: &str) -> Result<String, AllocError> {
-    let path = mark_path(alloc, grid)?;
-    format!(in alloc; "{path}.part")
+/// The name of the mark of a grid whose servers have not all their marks.
+pub(crate) const PART: &str = "grid-mark.part";
+
+// The path of that mark.
+fn part_path(alloc: Global, grid: &str) -> Result<String, AllocError> {
+    format!(in alloc; "{grid}/{PART}")
 }
 
 // What stands at the path of a grid's mark.

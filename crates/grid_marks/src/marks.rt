@@ -50,9 +50,12 @@ pub(crate) enum Likeness {
     NoMark,
 }
 
-/// The path of the mark in a grid's folder or in a server's. No share has such a name.
+/// The name of the mark in a grid's folder or in a server's. No share has such a name.
+pub(crate) const MARK: &str = "grid-mark";
+
+/// The path of the mark in a grid's folder or in a server's.
 pub(crate) fn mark_path(alloc: Global, folder: &str) -> Result<String, AllocError> {
-    format!(in alloc; "{folder}/grid-mark")
+    format!(in alloc; "{folder}/{MARK}")
 }
 
 /// Looks for a mark of this kind at a path.

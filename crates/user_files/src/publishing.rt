@@ -1,18 +1,17 @@
 //! Files that appear whole, with their bytes on the disk, and never in place of another that was
 //! not meant.
 
-ghost use Rattle.std.specs.Prelude.{◌≡◌, ◌≢◌, ◌↔◌, ◌⊎◌, Ok, IfErr, IfOk, IsTrue, false, true};
-ghost use Rattle.std.specs.IoError.{error_kind};
-ghost use Rattle.std.specs.declared.io.ErrorKind.TheVariants.{AlreadyExists, PermissionDenied};
-ghost use Rattle.std.specs.declared.io.ErrorKind.TheVariants.{Unsupported};
+ghost use Rattle.std.specs.Prelude.{◌≢◌, IfOk};
+ghost use Rattle.std.specs.String.{string_bytes};
 
 use crate::names::random_name;
-use std::fs::{File, OpenFile, OpenOptions};
-use std::io::{ErrorKind, Write};
-use std::os::unix::fs::OpenOptionsExt;
+use disks::system::SystemDisk;
+use disks::whole;
+use disks::whole::Published;
+use std::fs::{File, OpenFile};
+use std::io;
 use std::random::RandomSource;
 use std::rt::Files;
-use std::{fs, io};
 
 /// Files that all may read whom the system lets, and files of their owner alone.
 pub const SHARED: u32 = 0o666;
@@ -40,14 +39,13 @@ pub fn publish<R>(rt: &R, file: &NewFile<'_>) -> io::Result<bool>
 where
     R: Files + RandomSource + AllocGlobal,
 {
-    let own = own_path(rt, file.path)?;
-    write_new(rt, own.as_str(), file)?;
-    let linked = link_or_write(rt, own.as_str(), file);
-    let removed = fs::remove_file(rt, own.as_str());
-    let is_new = is_published(linked)?;
-    removed?;
-    sync_folder(rt, file.folder)?;
-    Ok(is_new)
+    let name = last_name(file.path);
+    let own = own_name(rt, name)?;
+    let mut disk = disk_of(rt, file)?;
+    match whole::publish(&mut disk, own.as_str(), name, file.text) {
+        Ok(published) => Ok(published != Published::Taken),
+        Err(unmade) => Err(unmade.error.reason()),
+    }
 }
 
 /// Makes a file, or one in place of another. The name and the bytes are on the disk then.
@@ -55,73 +53,40 @@ pub fn replace<R>(rt: &R, file: &NewFile<'_>) -> io::Result<()>
 where
     R: Files + RandomSource + AllocGlobal,
 {
-    let own = own_path(rt, file.path)?;
-    write_new(rt, own.as_str(), file)?;
-    match fs::rename(rt, own.as_str(), file.path) {
-        Ok(()) => sync_folder(rt, file.folder),
-        Err(error) => {
-            let _ = fs::remove_file(rt, own.as_str());
-            Err(error)
-        }
+    let name = last_name(file.path);
+    let own = own_name(rt, name)?;
+    let mut disk = disk_of(rt, file)?;
+    match whole::replace(&mut disk, own.as_str(), name, file.text) {
+        Ok(()) => Ok(()),
+        Err(unmade) => Err(unmade.error.reason()),
+    }
+}
+
+// The name behind the last slash of a path.
+fn last_name(path: &str) -> &str {
+    match path.rsplit_once('/') {
+        Some((_, name)) => name,
+        None => path,
     }
 }
 
 // A name of its own, beside the file's.
-fn own_path<R>(rt: &R, path: &str) -> io::Result<String>
+fn own_name<R>(rt: &R, name: &str) -> io::Result<String>
 where
     R: RandomSource + AllocGlobal,
+    ensures { IfOk result (λ own. string_bytes own ≢ name.now) }
 {
-    let name = random_name(rt)?;
-    Ok(format!(in rt.alloc(); "{path}.{name}")?)
+    let random = random_name(rt)?;
+    Ok(format!(in rt.alloc(); "{name}.{random}")?)
 }
 
-// Gives a file that was written its name, or writes it again where there are no links.
-fn link_or_write<R: Files>(rt: &R, own: &str, file: &NewFile<'_>) -> io::Result<()> {
-    match fs::hard_link(rt, own, file.path) {
-        Err(error) if is_without_links(error.kind()) => write_new(rt, file.path, file),
-        outcome => outcome,
-    }
-}
-
-// Whether a link failed so because the file system has none.
-fn is_without_links(kind: ErrorKind) -> bool
-    ensures { IsTrue result ↔ (kind ≡ Unsupported) ⊎ (kind ≡ PermissionDenied) }
+// The folder in which a file is made.
+fn disk_of<'a, R>(rt: &'a R, file: &NewFile<'_>) -> io::Result<SystemDisk<&'a R>>
+where
+    R: Files + AllocGlobal,
 {
-    matches!(kind, ErrorKind::Unsupported | ErrorKind::PermissionDenied)
-}
-
-// Whether a file got its name, which another may have.
-fn is_published(outcome: io::Result<()>) -> io::Result<bool>
-    ensures new { IfOk outcome (λ _. result ≡ Ok true) }
-    ensures there { IfErr outcome (λ error. error_kind error ≡ AlreadyExists → result ≡ Ok false) }
-    ensures taken { IfErr outcome (λ error. error_kind error ≢ AlreadyExists
-        → IfErr result (λ given. given ≡ error)) }
-{
-    match outcome {
-        Ok(()) => Ok(true),
-        Err(error) if error.kind() == ErrorKind::AlreadyExists => Ok(false),
-        Err(error) => Err(error),
-    }
-}
-
-// Makes a file at a path at which nothing stands, and puts its bytes on the disk. It is removed
-// where that fails.
-fn write_new<R: Files>(rt: &R, path: &str, file: &NewFile<'_>) -> io::Result<()> {
-    let mut options = OpenOptions::new();
-    options.write(true).create_new(true);
-    options.mode(file.mode);
-    let mut opened = options.open(rt, path)?;
-    let written = write_synced(&mut opened, file.text);
-    if written.is_err() {
-        let _ = fs::remove_file(rt, path);
-    }
-    written
-}
-
-// Writes bytes to a file, and puts them on the disk.
-fn write_synced<F: Write + OpenFile>(file: &mut F, text: &[u8]) -> io::Result<()> {
-    file.write_all(text)?;
-    file.sync_all()
+    let folder = String::from_str(rt.alloc(), file.folder)?;
+    Ok(SystemDisk::with_mode(rt, folder, file.mode))
 }
 
 /// Puts the names that stand in a folder on the disk.
