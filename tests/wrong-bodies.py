@@ -22,10 +22,11 @@ import sys
 
 RT = os.environ.get("RT", "rt")
 HEAD = re.compile(r"( *)(?:pub(?:\([^)]*\))? )?(?:(?:const|final|unsafe) )*fn (\w+)")
-BLOCK = re.compile(r"(?:pub )?(impl|trait)\b(.*)\{$")
+BLOCK = re.compile(r"(?:pub )?(impl|trait)\b(.*?)\{?$")
 ANSWER = re.compile(r"(?:\./)?proofs/(\S+)/(?:Answers|Invariants|Proof)\.antt:\d+:\d+: error: (.*)")
 OPEN = re.compile(r"note: \S+: it is not proved that .* \(`(\S+)`\)")
 VERDICT = re.compile(r"fn (\S+): ")
+UNPROVED = re.compile(r"fn (\S+): no proof: .* did not prove `(\S+)`")
 # What antt says where a proof names what is gone.
 NAMES = re.compile(r"has no field|is not in scope|has no `|was not admitted")
 MOST = 160
@@ -36,16 +37,19 @@ class Function:
     with the name of the trait behind it where it is a trait's method."""
 
     def __init__(self, file, module, owner, name, first, last):
-        self.module, self.name = [*module, *([owner] if owner else [])], name
+        self.module, self.owner, self.name = module, owner, name
         self.file, self.first, self.last = file, first, last
 
     def path(self):
-        return "::".join([*self.module, self.name])
+        """The end of its name in a check, where a method is of its type's module."""
+        return "::".join([self.owner, self.name] if self.owner else [*self.module, self.name])
 
     def has(self, symbol):
         """Whether a check's name is that of this function, or of a closure in it."""
         words = [it for it in symbol.split("::")[1:] if it != "fn"]
-        return words[: len(self.module) + 1] == [*self.module, self.name]
+        if not self.owner:
+            return words[: len(self.module) + 1] == [*self.module, self.name]
+        return (self.owner, self.name) in zip(words, words[1:])
 
 
 def body_of(lines, at, indent):
@@ -165,6 +169,8 @@ def goals_in(crate, said):
             found.append((symbol, answer[2], bool(NAMES.search(answer[2]))))
         elif is_open:
             left.append(is_open[1])
+        elif unproved := UNPROVED.match(line):
+            found.append((unproved[1], unproved[2], False))
         elif verdict:
             found += [(verdict[1], goal, False) for goal in left]
             left = []

@@ -1,5 +1,7 @@
--- What each command comes to: its exit status, and what it adds to the bytes of `out`.
-use Rattle.std.specs.Prelude.{◌≡◌, ℕ, List, Option, Result, IfErr, IfOk, ⊤}
+-- What each command comes to: its exit status, what it adds to the bytes of `out`, and what it does
+-- with files of a name.
+use Rattle.std.specs.Prelude.{◌≡◌, ℕ, List, Option, None, Some, Result, Ok, Err, IfErr, IfOk, ⊤}
+use Rattle.std.specs.Borrow.{Bor}
 use Rattle.std.specs.Io.KnownBytes.{Appends}
 use Rattle.std.specs.String.{string_bytes}
 use Rattle.cap_text.specs.CapText.{Spells}
@@ -8,6 +10,8 @@ use Rattle.local_grid.specs.Nodes.{Carries}
 use Rattle.sources.specs.Opened.{Opened}
 use Rattle.world_script.specs.Script.{lines_of}
 use Rattle.world_script.specs.declared.ending.Ending.{Ending}
+use Rattle.grid_gets.specs.Files.{FileAct, IsFileBy, MayBeFileBy}
+use Rattle.grid_gets.specs.Gets.{IsBegunBy, IsGotBy, UnlessWriter}
 use Rattle.grid_rules.specs.CapLines.{cap_lines}
 use Rattle.grid_rules.specs.Ending.{world_status}
 use Rattle.grid_shares.specs.Checks.{IsCheckBy}
@@ -25,7 +29,8 @@ use Rattle.grid_commands.specs.Inits.{IsInitBy}
 use Rattle.grid_commands.specs.Scrubs.{IsScrub}
 use Rattle.grid_commands.specs.Texts.{IsEndOf}
 
--- `before` and `after` are the bytes of `out`, where they are known.
+-- `before` and `after` are the bytes of `out`, and `old` and `new` what was done with files of a
+-- name, where these are known.
 
 -- A command came to this, which was written; the status is its own.
 pub record IsWrittenOf (IsOf : Outcome → Type 0) (status : ℕ) (before after : Option (List ℕ))
@@ -43,9 +48,33 @@ pub record ArePrinted (IsOf : List ℕ → Type 0) (status : ℕ) (before after 
   pub written : Appends before after lines
   pub status_is : status ≡ 0
 
--- a range was written, to `out` or to a file
-abbrev pub IsGet : GetWords → ℕ → Option (List ℕ) → Option (List ℕ) → Type 0
-IsGet words status before after = status ≡ 0
+-- The bytes of a range were written to `out`; or nothing was, where a file is named.
+abbrev pub IsGotTo : {L : Type 0} → Carries L → GetWords → Option (Bor (List ℕ))
+    → Option (List ℕ) → Option (List ℕ) → Type 0
+IsGotTo carries words None before after = IsGotBy carries words before after
+IsGotTo carries words (Some path) before after = after ≡ before
+
+pub record IsGet {L : Type 0} (carries : Carries L) (words : GetWords) (status : ℕ)
+    (before after : Option (List ℕ)) : Type 0 where
+  pub got : IsGotTo carries words words.output before after
+  pub status_is : status ≡ 0
+
+-- or a beginning of them, unless it was `out` that failed
+abbrev pub IsGetBegun : {L : Type 0} → Carries L → GetWords → Option (Bor (List ℕ)) → Failure
+    → Option (List ℕ) → Option (List ℕ) → Type 0
+IsGetBegun carries words None failure before after =
+    UnlessWriter failure (IsBegunBy carries words before after)
+IsGetBegun carries words (Some path) failure before after = after ≡ before
+
+-- The bytes of a range were handed to the file that is named, which was ended as whole; else it was
+-- not, or only with all of them.
+abbrev pub IsGetFiled : {L : Type 0} → Carries L → GetWords → Option (Bor (List ℕ))
+    → Result ℕ Failure → Option (List FileAct) → Option (List FileAct) → Type 0
+IsGetFiled carries words None ended old new = new ≡ old
+IsGetFiled carries words (Some path) (Ok status) old new =
+    IsFileBy carries words path.now (Ok tt) old new
+IsGetFiled carries words (Some path) (Err failure) old new =
+    MayBeFileBy carries words path.now old new
 
 -- A script that some text spells was run, that of the file that was read; and how it ended was
 -- written.
@@ -67,7 +96,7 @@ abbrev pub IsDone : {F L : Type 0} → (Opened F → ℕ → List ℕ → Opened
     → Request → ℕ → Option (List ℕ) → Option (List ℕ) → Type 0
 IsDone gives carries (Init words) = ArePrinted (IsInitBy words)
 IsDone gives carries (Put words) = IsWrittenOf (IsPutBy gives carries words)
-IsDone gives carries (Get words) = IsGet words
+IsDone gives carries (Get words) = IsGet carries words
 IsDone gives carries (Check words) = IsWrittenOf (IsCheckBy carries words)
 IsDone gives carries (Repair words) = IsWrittenOf (IsRepairBy carries words)
 IsDone gives carries (Scrub words) = IsScrub words
@@ -80,22 +109,31 @@ IsUnwritten failures.Writer before after = ⊤
 IsUnwritten (failures.Fault fault) before after = after ≡ before
 
 -- A request was left undone. A get writes as it reads, and a scrub tells of one file after another.
-abbrev pub IsUndone : Request → Failure → Option (List ℕ) → Option (List ℕ) → Type 0
-IsUndone (Get words) failure before after = ⊤
-IsUndone (Scrub words) failure before after = ⊤
-IsUndone request failure before after = IsUnwritten failure before after
+abbrev pub IsUndone : {L : Type 0} → Carries L → Request → Failure → Option (List ℕ)
+    → Option (List ℕ) → Type 0
+IsUndone carries (Get words) failure before after =
+    IsGetBegun carries words words.output failure before after
+IsUndone carries (Scrub words) failure before after = ⊤
+IsUndone carries request failure before after = IsUnwritten failure before after
+
+-- Files of a name are what a get is asked for alone.
+abbrev pub AreFiled : {L : Type 0} → Carries L → Request → Result ℕ Failure
+    → Option (List FileAct) → Option (List FileAct) → Type 0
+AreFiled carries (Get words) ended old new = IsGetFiled carries words words.output ended old new
+AreFiled carries request ended old new = new ≡ old
 
 -- A request ended so.
 pub record IsRunBy {F L : Type 0} (gives : Opened F → ℕ → List ℕ → Opened F → Type 0)
     (carries : Carries L) (request : Request) (ended : Result ℕ Failure)
-    (before after : Option (List ℕ)) : Type 0 where
+    (before after : Option (List ℕ)) (old new : Option (List FileAct)) : Type 0 where
   pub done : IfOk ended (λ status. IsDone gives carries request status before after)
-  pub undone : IfErr ended (λ failure. IsUndone request failure before after)
+  pub undone : IfErr ended (λ failure. IsUndone carries request failure before after)
+  pub filed : AreFiled carries request ended old new
 
 -- A request ended somehow, and this is the exit status.
 pub record IsServedBy {F L : Type 0} (gives : Opened F → ℕ → List ℕ → Opened F → Type 0)
     (carries : Carries L) (request : Request) (status : ℕ) (before after : Option (List ℕ))
-    : Type 0 where
+    (old new : Option (List FileAct)) : Type 0 where
   pub ended : Result ℕ Failure
-  pub run : IsRunBy gives carries request ended before after
+  pub run : IsRunBy gives carries request ended before after old new
   pub exit : IsExit ended status

@@ -1,5 +1,5 @@
 -- How far a scrub has come, for private clauses.
-use Rattle.std.specs.Prelude.{◌≡◌, ℕ, List, Bool, Option, fold, is_some, map}
+use Rattle.std.specs.Prelude.{◌≡◌, ℕ, List, Bool, Option, fold, map}
 use Rattle.std.specs.Io.KnownBytes.{Appends}
 use Rattle.std.specs.List.{All, flat_map, list_all}
 use Rattle.share_scrub.specs.declared.folder.Finding.{Finding}

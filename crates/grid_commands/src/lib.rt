@@ -19,7 +19,8 @@ mod scrub_telling;
 ghost use Rattle.std.specs.Prelude.{◌≡◌, IfErr, IfOk, IsOkAnd, map};
 ghost use Rattle.std.specs.Io.KnownBytes.{Appends};
 ghost use Rattle.std.specs.IoError.{error_kind};
-ghost use Rattle.grid_commands.specs.Commands.{AreCapLines, IsRunBy, IsServedBy, IsUnwritten};
+ghost use Rattle.grid_commands.specs.Commands.{AreCapLines, IsGet, IsGetBegun, IsGetFiled};
+ghost use Rattle.grid_commands.specs.Commands.{IsRunBy, IsServedBy, IsUnwritten};
 ghost use Rattle.grid_commands.specs.Exit.{IsToldAs, unread_status};
 ghost use Rattle.grid_commands.specs.Grid.{IsGridBy};
 ghost use Rattle.socket_links.specs.Ends.{pair_calls};
@@ -29,11 +30,12 @@ ghost use Rattle.sources.specs.Opened.{GivesOpened};
 use crate::exit::{DONE, WRONG_WORDS, exit_of, report, tell_words, write, written};
 use grid_faults::Fault;
 use grid_gets::get;
+pub use grid_gets::{DiskFiles, NamedFiles};
 use grid_rules::{cap_lines, read_cap};
 pub use grid_shares::Environment;
 use grid_shares::{Outcome, check, put, repair};
 use grid_telling::{Failure, Progress};
-use grid_words::{Request, read_words};
+use grid_words::{GetWords, Request, read_words};
 use std::alloc::Global;
 use std::convert::AsStr;
 use std::io::{self, IsTerminal};
@@ -43,7 +45,8 @@ use std::rt::{Clock, Files};
 
 /// Runs the command that `words` asks for, of which the first is the program's name. Its result
 /// goes to `out`, and a fault, as one line with its number and name, to `err`. A `get` writes as it
-/// reads, so that a beginning of its range may stand on `out` where it ends with a fault.
+/// reads, so that a beginning of its range may stand on `out` where it ends with a fault; with `-o`
+/// it goes to one of `files`, and nothing to `out`.
 ///
 /// Where `err` is a terminal, a command that takes more than a second tells there how far it is,
 /// and clears that line before it ends. With `-v` it tells a line of each server that serves badly.
@@ -61,47 +64,51 @@ use std::rt::{Clock, Files};
 /// | 7 | a file, a folder, a socket or memory failed, or `out` or `err` |
 ///
 /// Where `out` fails, its result ends there.
-pub fn grid<R, S, O, E>(
+pub fn grid<R, S, F, O, E>(
     rt: &R,
     words: &[S],
     environment: &Environment<'_>,
+    files: &mut F,
     out: &mut O,
     err: &mut E,
 ) -> u8
 where
     R: Files + io::Input + Net + Clock + RandomSource + AllocGlobal + Clone + Drop,
     S: AsStr,
+    F: NamedFiles,
     O: io::Write,
     E: io::Write + IsTerminal,
     ensures { IsGridBy (GivesOpened R.File.stream_position R.File.stream_bytes R.File.remaining)
         (IsCarriedOver (pair_calls R.Stream.contents R.Stream.remaining)) (map S.text words.now)
-        result (O.contents out.old) (O.contents out.new) }
+        result (O.contents out.old) (O.contents out.new) (F.acts files.old) (F.acts files.new) }
 {
     match read_words(rt.alloc(), words) {
-        Ok(request) => serve(rt, &request, environment, out, err),
+        Ok(request) => serve(rt, &request, environment, files, out, err),
         Err(error) => tell_words(rt.alloc(), &error, out, err),
     }
 }
 
 // Runs a command that was read, and gives the exit status.
-fn serve<R, O, E>(
+fn serve<R, F, O, E>(
     rt: &R,
     request: &Request<'_>,
     environment: &Environment<'_>,
+    files: &mut F,
     out: &mut O,
     err: &mut E,
 ) -> u8
 where
     R: Files + io::Input + Net + Clock + RandomSource + AllocGlobal + Clone + Drop,
+    F: NamedFiles,
     O: io::Write,
     E: io::Write + IsTerminal,
     ensures { IsServedBy (GivesOpened R.File.stream_position R.File.stream_bytes R.File.remaining)
         (IsCarriedOver (pair_calls R.Stream.contents R.Stream.remaining)) request.now result
-        (O.contents out.old) (O.contents out.new) }
+        (O.contents out.old) (O.contents out.new) (F.acts files.old) (F.acts files.new) }
 {
     let mut progress = Progress::new(rt, &mut *err);
     progress.set_verbose(request.is_verbose());
-    let ended = run(rt, request, environment, out, &mut progress);
+    let ended = run(rt, request, environment, files, out, &mut progress);
     progress.clear();
     exit_of(rt.alloc(), ended, err)
 }
@@ -121,27 +128,27 @@ const NOT_UTF8: &[u8] = b"error: invalid UTF-8 was detected in one or more argum
 For more information, try '--help'.\n";
 
 // Runs a command, writes its result, and gives the exit status.
-fn run<R, O, E>(
+fn run<R, F, O, E>(
     rt: &R,
     request: &Request<'_>,
     environment: &Environment<'_>,
+    files: &mut F,
     out: &mut O,
     progress: &mut Progress<'_, R, E>,
 ) -> Result<u8, Failure>
 where
     R: Files + io::Input + Net + Clock + RandomSource + AllocGlobal + Clone + Drop,
+    F: NamedFiles,
     O: io::Write,
     E: io::Write + IsTerminal,
     ensures { IsRunBy (GivesOpened R.File.stream_position R.File.stream_bytes R.File.remaining)
         (IsCarriedOver (pair_calls R.Stream.contents R.Stream.remaining)) request.now result
-        (O.contents out.old) (O.contents out.new) }
+        (O.contents out.old) (O.contents out.new) (F.acts files.old) (F.acts files.new) }
 {
     match request {
         Request::Init(words) => printed(out, init::init(rt, words, progress)),
         Request::Put(words) => told(out, put(rt, words, environment, progress)),
-        Request::Get(words) => {
-            done(get(rt, words, words.known || environment.known, out, progress))
-        }
+        Request::Get(words) => got(rt, words, environment, files, out, progress),
         Request::Check(words) => told(out, check(rt, words, environment, progress)),
         Request::Repair(words) => told(out, repair(rt, words, environment, progress)),
         Request::Scrub(words) => scrub::scrub(rt, words, environment, out, progress),
@@ -150,11 +157,33 @@ where
     }
 }
 
-// The exit status where the result is written.
-fn done(written: Result<(), Failure>) -> Result<u8, Failure>
-    ensures { IfOk result (λ status. status ≡ 0) }
+// Gets a range, and gives the exit status.
+fn got<R, F, O, E>(
+    rt: &R,
+    words: &GetWords<'_>,
+    environment: &Environment<'_>,
+    files: &mut F,
+    out: &mut O,
+    progress: &mut Progress<'_, R, E>,
+) -> Result<u8, Failure>
+where
+    R: Files + Net + Clock + RandomSource + AllocGlobal + Clone + Drop,
+    F: NamedFiles,
+    O: io::Write,
+    E: io::Write + IsTerminal,
+    ensures done { IfOk result (λ status. IsGet (IsCarriedOver (pair_calls R.Stream.contents
+        R.Stream.remaining)) words.now status (O.contents out.old) (O.contents out.new)) }
+    ensures undone { IfErr result (λ failure. IsGetBegun (IsCarriedOver (pair_calls
+        R.Stream.contents R.Stream.remaining)) words.now words.now.output failure
+        (O.contents out.old) (O.contents out.new)) }
+    ensures filed { IsGetFiled (IsCarriedOver (pair_calls R.Stream.contents R.Stream.remaining))
+        words.now words.now.output result (F.acts files.old) (F.acts files.new) }
 {
-    written.map(|()| DONE)
+    let is_known = words.known || environment.known;
+    match get(rt, words, is_known, files, out, progress) {
+        Ok(()) => Ok(DONE),
+        Err(failure) => Err(failure),
+    }
 }
 
 // Writes what a command came to, and gives the exit status.

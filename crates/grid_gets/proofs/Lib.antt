@@ -3,3 +3,4 @@ pub mod SpanLemmas
 pub mod TriedLemmas
 pub mod WordLemmas
 pub mod GotLemmas
+pub mod FileLemmas

@@ -1,8 +1,9 @@
 -- Downloads of a get, one after another, and the bytes of their pieces.
-use Rattle.std.proofs.Common.{◌≡◌, ℕ, ◌+◌, ◌≤◌, List, [], ◌∷◌, ◌++◌, length, Option, refl, sym, ap, subst, ◌∙◌}
+use Rattle.std.proofs.Common.{◌≡◌, ℕ, List, [], ◌∷◌, ◌++◌, All, Contains, Option, refl, sym, ap, subst, ◌∙◌}
 use Rattle.std.proofs.KnownBytes.{Appends-nil, Appends-trans}
 use Rattle.std.proofs.lemmas.Grind.{flat_map-append}
 use Rattle.std.proofs.lemmas.List.{append-nil}
+use Rattle.std.proofs.lemmas.List.Elements.{All-contains, All-weaker}
 use Rattle.std.specs.Io.KnownBytes.{Appends}
 use Rattle.cap_text.specs.Cap.{ReadCapValue}
 use Rattle.download_segments.specs.Pieces.{AreConsecutive}
@@ -13,17 +14,17 @@ use Rattle.local_grid.specs.Nodes.{Carries}
 use Rattle.carried_operations.proofs.DownloadRuns.{consecutive_more, joined_more}
 use Rattle.grid_gets.specs.Gets.{AreRuns, AreWritten, IsRun, Point, Run, pieces_of}
 
-runs_trans : {L : Type 0} (carries : Carries L) (cap : ReadCapValue) (a b c : Point L) (rs ss : List (Run L)) → AreRuns carries cap a rs b → AreRuns carries cap b ss c → AreRuns carries cap a (rs ++ ss) c
-runs_trans {L = L} carries cap a b c [] ss first second = subst (λ (p : Point L). AreRuns carries cap p ss c) first second
-runs_trans carries cap a b c (r ∷ rs) ss first second = (first.0, runs_trans carries cap r.after b c rs ss first.1 second)
+runs_trans : {L : Type 0} (carries : Carries L) (cap : ReadCapValue) (servers : List ℕ) (a b c : Point L) (rs ss : List (Run L)) → AreRuns carries cap servers a rs b → AreRuns carries cap servers b ss c → AreRuns carries cap servers a (rs ++ ss) c
+runs_trans {L = L} carries cap servers a b c [] ss first second = subst (λ (p : Point L). AreRuns carries cap servers p ss c) first second
+runs_trans carries cap servers a b c (r ∷ rs) ss first second = (first.0, runs_trans carries cap servers r.after b c rs ss first.1 second)
 
 -- some, and then others
-pub written_trans : {L : Type 0} (carries : Carries L) (cap : ReadCapValue) (a b c : Point L) (rs ss : List (Run L)) (held middle holds : Option (List ℕ))
-    → AreWritten carries cap a held rs b middle → AreWritten carries cap b middle ss c holds → AreWritten carries cap a held (rs ++ ss) c holds
-written_trans {L = L} carries cap a b c rs ss held middle holds w v =
+pub written_trans : {L : Type 0} (carries : Carries L) (cap : ReadCapValue) (servers : List ℕ) (a b c : Point L) (rs ss : List (Run L)) (held middle holds : Option (List ℕ))
+    → AreWritten carries cap servers a held rs b middle → AreWritten carries cap servers b middle ss c holds → AreWritten carries cap servers a held (rs ++ ss) c holds
+written_trans {L = L} carries cap servers a b c rs ss held middle holds w v =
     let both : pieces_of (rs ++ ss) ≡ pieces_of rs ++ pieces_of ss = flat_map-append (λ (r : Run L). r.pieces) rs ss in
     record {
-      runs_are = runs_trans carries cap a b c rs ss w.runs_are v.runs_are;
+      runs_are = runs_trans carries cap servers a b c rs ss w.runs_are v.runs_are;
       consecutive = subst (λ (ps : List Piece). AreConsecutive a.offset ps c.offset) (sym both)
           (consecutive_more a.offset b.offset c.offset (pieces_of rs) (pieces_of ss) w.consecutive v.consecutive);
       written = subst (λ (l : List ℕ). Appends held holds l) (sym (ap joined both ∙ joined_more (pieces_of rs) (pieces_of ss)))
@@ -31,13 +32,13 @@ written_trans {L = L} carries cap a b c rs ss held middle holds w v =
     }
 
 -- none
-pub written_nil : {L : Type 0} (carries : Carries L) (cap : ReadCapValue) (a : Point L) (held : Option (List ℕ)) → AreWritten carries cap a held [] a held
-written_nil carries cap a held = record { runs_are = refl; consecutive = refl; written = Appends-nil held }
+pub written_nil : {L : Type 0} (carries : Carries L) (cap : ReadCapValue) (servers : List ℕ) (a : Point L) (held : Option (List ℕ)) → AreWritten carries cap servers a held [] a held
+written_nil carries cap servers a held = record { runs_are = refl; consecutive = refl; written = Appends-nil held }
 
 -- one
-pub written_one : {L : Type 0} (carries : Carries L) (cap : ReadCapValue) (a : Point L) (r : Run L) (held holds : Option (List ℕ)) → IsRun carries cap a r → Appends held holds (joined r.pieces)
-    → AreWritten carries cap a held (r ∷ []) r.after holds
-written_one carries cap a r held holds i added =
+pub written_one : {L : Type 0} (carries : Carries L) (cap : ReadCapValue) (servers : List ℕ) (a : Point L) (r : Run L) (held holds : Option (List ℕ)) → IsRun carries cap servers a r → Appends held holds (joined r.pieces)
+    → AreWritten carries cap servers a held (r ∷ []) r.after holds
+written_one carries cap servers a r held holds i added =
     let alone : r.pieces ++ [] ≡ r.pieces = append-nil r.pieces in
     let from : AreConsecutive a.offset r.pieces (handed r.ended) = subst (λ (n : ℕ). AreConsecutive n r.pieces (handed r.ended)) i.begins.range.0 i.carried.consecutive in
     record {
@@ -46,3 +47,22 @@ written_one carries cap a r held holds i added =
           (subst (λ (n : ℕ). AreConsecutive a.offset r.pieces n) (sym i.offset) from);
       written = subst (λ (l : List ℕ). Appends held holds l) (ap joined (sym alone)) added;
     }
+
+-- of some servers, and so of all
+module _ {L : Type 0} (carries : Carries L) (cap : ReadCapValue) (some all : List ℕ) (among : All (Contains all) some) where
+  runs_among : (a b : Point L) (rs : List (Run L)) → AreRuns carries cap some a rs b → AreRuns carries cap all a rs b
+  runs_among a b [] are = are
+  runs_among a b (r ∷ rs) are = (
+    record {
+      asked = All-weaker (Contains some) (Contains all) (λ (x : ℕ). All-contains (Contains all) some x among) r.servers are.0.asked;
+      distinct = are.0.distinct;
+      begins = are.0.begins;
+      carried = are.0.carried;
+      offset = are.0.offset;
+      session = are.0.session;
+    },
+    runs_among r.after b rs are.1,
+  )
+
+  pub written_among : (a b : Point L) (rs : List (Run L)) (held holds : Option (List ℕ)) → AreWritten carries cap some a held rs b holds → AreWritten carries cap all a held rs b holds
+  written_among a b rs held holds w = record { runs_are = runs_among a b rs w.runs_are; consecutive = w.consecutive; written = w.written }

@@ -1,8 +1,10 @@
 -- Spans that were got, one after another.
-use Rattle.std.proofs.Common.{◌≡◌, ℕ, ◌≤◌, List, [], ◌∷◌, ◌++◌, All, length, Option, Some, None, Result, Ok, Err, OnOk, IfOk, IfErr, refl, sym, ap, subst, inl, inr, ◌∙◌, arith}
+use Rattle.std.proofs.Common.{◌≡◌, ℕ, ◌≤◌, List, [], ◌++◌, All, Contains, Option, Some, None, Result, Ok, Err, OnOk, IfOk, IfErr, refl, sym, subst, inl, arith, nat_eq, Vec, Global}
 use Rattle.std.proofs.KnownBytes.{Appends-trans}
 use Rattle.std.proofs.lemmas.List.{append-nil}
-use Rattle.std.proofs.lemmas.List.Elements.{All-append, All-nil, All-weaker}
+use Rattle.std.proofs.lemmas.List.Elements.{All-append, All-contains_itself, All-filter, All-nil, All-weaker}
+use Rattle.std.specs.List.{IsDistinct}
+use Rattle.grid_servers.specs.Servers.{is_left, servers_without}
 use Rattle.std.specs.Io.KnownBytes.{Appends}
 use Rattle.cap_text.specs.Cap.{ReadCapValue}
 use Rattle.share_folders.specs.Folder.{FolderState}
@@ -16,8 +18,8 @@ use Rattle.grid_telling.specs.declared.outcome.Failure.TheVariants.{Fault, Write
 use Rattle.grid_gets.specs.Gets.{AcceptsOnly, AllAccept, IsBegun, IsGot, Run, UnlessWriter, pieces_of}
 use Rattle.grid_gets.specs.Spans.{Leads, Spanning, StaysBlock, Stops, point_at, reached_by}
 use Rattle.grid_gets.specs.declared.tried.Tried.{Tried}
-use Rattle.grid_gets.specs.declared.tried.Tried.TheVariants.{TooFew}
-use Rattle.grid_gets.proofs.RunLemmas.{written_nil, written_trans}
+use Rattle.grid_gets.specs.declared.tried.Tried.TheVariants.{Done, TooFew}
+use Rattle.grid_gets.proofs.RunLemmas.{written_among, written_nil, written_trans}
 
 -- ---- results
 
@@ -47,6 +49,19 @@ if_err_weaker (Err f) P Q weaker p = unless_weaker f P Q weaker p
 pub err_on : {A : Type 0} (r : Result A Failure) (f : Failure) (P Q : Type 0) → r ≡ Err f → (P → Q) → UnlessWriter f P → IfErr r (λ f. UnlessWriter f Q)
 err_on r f P Q is weaker known = subst (λ (x : Result _ Failure). IfErr x (λ f. UnlessWriter f Q)) (sym is) (unless_weaker f P Q weaker known)
 
+-- ---- servers
+
+-- those that are left are of those that there were
+pub left_among : {E : Type 0} (servers without : List ℕ) (r : Result (Vec ℕ Global) E) → IfOk r (λ left. left.items ≡ servers_without servers without) → IfOk r (λ left. All (Contains servers) left.items)
+left_among servers without (Ok left) is = subst (λ (xs : List ℕ). All (Contains servers) xs) (sym is) (All-filter (is_left without) (Contains servers) servers (All-contains_itself servers))
+left_among servers without (Err e) is = tt
+
+pub same_among : (servers xs ys : List ℕ) → ys ≡ xs → All (Contains servers) xs → All (Contains servers) ys
+same_among servers xs ys is among = subst (λ (zs : List ℕ). All (Contains servers) zs) (sym is) among
+
+pub same_distinct : (xs ys : List ℕ) → ys ≡ xs → IsDistinct nat_eq xs → IsDistinct nat_eq ys
+same_distinct xs ys is distinct = subst (λ (zs : List ℕ). IsDistinct nat_eq zs) (sym is) distinct
+
 -- ---- extension blocks
 
 stays_refl : (b : Option (List ℕ)) → StaysBlock b b
@@ -71,25 +86,25 @@ all_still {L = L} a b runs stays all = All-weaker (λ (r : Run L). AcceptsOnly a
 abbrev pub first_of : {L : Type 0} → GridState FolderState L → Spanning L
 first_of grid = record { session = 1; grid = grid; block = None }
 
-module _ {L : Type 0} (carries : Carries L) (cap : ReadCapValue) where
-  pub leads_none : (s : Spanning L) (from : ℕ) (held : Option (List ℕ)) → Leads carries cap s from held s from held
+module _ {L : Type 0} (carries : Carries L) (cap : ReadCapValue) (servers : List ℕ) where
+  pub leads_none : (s : Spanning L) (from : ℕ) (held : Option (List ℕ)) → Leads carries cap servers s from held s from held
   leads_none s from held = record {
     runs = [];
-    written = written_nil carries cap (point_at s from) held;
+    written = written_nil carries cap servers (point_at s from) held;
     one = All-nil (λ (r : Run L). AcceptsOnly s.block r.ended);
     stays = stays_refl s.block;
   }
 
-  pub leads_trans : (a b c : Spanning L) (from mid to : ℕ) (held middle holds : Option (List ℕ)) → Leads carries cap a from held b mid middle → Leads carries cap b mid middle c to holds → Leads carries cap a from held c to holds
+  pub leads_trans : (a b c : Spanning L) (from mid to : ℕ) (held middle holds : Option (List ℕ)) → Leads carries cap servers a from held b mid middle → Leads carries cap servers b mid middle c to holds → Leads carries cap servers a from held c to holds
   leads_trans a b c from mid to held middle holds first second = record {
     runs = first.runs ++ second.runs;
-    written = written_trans carries cap (point_at a from) (point_at b mid) (point_at c to) first.runs second.runs held middle holds first.written second.written;
+    written = written_trans carries cap servers (point_at a from) (point_at b mid) (point_at c to) first.runs second.runs held middle holds first.written second.written;
     one = All-append (λ (r : Run L). AcceptsOnly c.block r.ended) first.runs second.runs (all_still b.block c.block first.runs second.stays first.one) second.one;
     stays = stays_trans a.block b.block c.block first.stays second.stays;
   }
 
   -- after some that led on, it stops
-  pub stops_after : (a b : Spanning L) (from mid to : ℕ) (held middle holds : Option (List ℕ)) → Leads carries cap a from held b mid middle → Stops carries cap b mid to middle holds → Stops carries cap a from to held holds
+  pub stops_after : (a b : Spanning L) (from mid to : ℕ) (held middle holds : Option (List ℕ)) → Leads carries cap servers a from held b mid middle → Stops carries cap servers b mid to middle holds → Stops carries cap servers a from to held holds
   stops_after a b from mid to held middle holds first s = record {
     mid = s.mid;
     at = s.at;
@@ -103,7 +118,7 @@ module _ {L : Type 0} (carries : Carries L) (cap : ReadCapValue) where
   }
 
   -- what was written was sent on
-  pub leads_flushed : (a b : Spanning L) (from to : ℕ) (held holds last : Option (List ℕ)) → Leads carries cap a from held b to holds → Appends holds last [] → Leads carries cap a from held b to last
+  pub leads_flushed : (a b : Spanning L) (from to : ℕ) (held holds last : Option (List ℕ)) → Leads carries cap servers a from held b to holds → Appends holds last [] → Leads carries cap servers a from held b to last
   leads_flushed a b from to held holds last l more = record {
     runs = l.runs;
     written = record {
@@ -116,7 +131,7 @@ module _ {L : Type 0} (carries : Carries L) (cap : ReadCapValue) where
   }
 
   -- it stops where it was led to
-  pub stops_there : (a b : Spanning L) (from at to : ℕ) (held holds : Option (List ℕ)) → Leads carries cap a from held b at holds → at ≤ to → Stops carries cap a from to held holds
+  pub stops_there : (a b : Spanning L) (from at to : ℕ) (held holds : Option (List ℕ)) → Leads carries cap servers a from held b at holds → at ≤ to → Stops carries cap servers a from to held holds
   stops_there a b from at to held holds first within = record {
     mid = b;
     at = at;
@@ -125,16 +140,16 @@ module _ {L : Type 0} (carries : Carries L) (cap : ReadCapValue) where
     last = [];
     few = omega arith;
     after = point_at b at;
-    written = written_nil carries cap (point_at b at) holds;
+    written = written_nil carries cap servers (point_at b at) holds;
     within = within;
   }
 
   -- where it begins
-  pub stops_first : (a : Spanning L) (from to : ℕ) (held : Option (List ℕ)) → from ≤ to → Stops carries cap a from to held held
+  pub stops_first : (a : Spanning L) (from to : ℕ) (held : Option (List ℕ)) → from ≤ to → Stops carries cap servers a from to held held
   stops_first a from to held within = stops_there a a from from to held held (leads_none a from held) within
 
   -- not behind a greater offset either
-  pub stops_wider : (a : Spanning L) (from to end : ℕ) (held holds : Option (List ℕ)) → to ≤ end → Stops carries cap a from to held holds → Stops carries cap a from end held holds
+  pub stops_wider : (a : Spanning L) (from to end : ℕ) (held holds : Option (List ℕ)) → to ≤ end → Stops carries cap servers a from to held holds → Stops carries cap servers a from end held holds
   stops_wider a from to end held holds wider s = record {
     mid = s.mid;
     at = s.at;
@@ -149,30 +164,56 @@ module _ {L : Type 0} (carries : Carries L) (cap : ReadCapValue) where
 
   -- ---- a second try
 
-  module _ (a b c : Spanning L) (from to at : ℕ) (held middle holds : Option (List ℕ)) (t : Tried) (is : t ≡ TooFew at) (first : Leads carries cap a from held b (reached_by t to) middle) where
-    first_to : Leads carries cap a from held b at middle
-    first_to = subst (λ (x : Tried). Leads carries cap a from held b (reached_by x to) middle) is first
+  pub done_to : (a b : Spanning L) (from to : ℕ) (held holds : Option (List ℕ)) (t : Tried) → t ≡ Done → Leads carries cap servers a from held b (reached_by t to) holds → Leads carries cap servers a from held b to holds
+  done_to a b from to held holds t is first = subst (λ (x : Tried). Leads carries cap servers a from held b (reached_by x to) holds) is first
 
-    pub then_ok : (r : Result (Unit {0}) Failure) → OnOk r (Leads carries cap b at middle c to holds) → OnOk r (Leads carries cap a from held c to holds)
+  module _ (a b c : Spanning L) (from to at : ℕ) (held middle holds : Option (List ℕ)) (t : Tried) (is : t ≡ TooFew at) (first : Leads carries cap servers a from held b (reached_by t to) middle) where
+    first_to : Leads carries cap servers a from held b at middle
+    first_to = subst (λ (x : Tried). Leads carries cap servers a from held b (reached_by x to) middle) is first
+
+    pub then_ok : (r : Result (Unit {0}) Failure) → OnOk r (Leads carries cap servers b at middle c to holds) → OnOk r (Leads carries cap servers a from held c to holds)
     then_ok (Ok tt) second = leads_trans a b c from at to held middle holds first_to second
     then_ok (Err f) second = tt
 
-    pub then_err : (r : Result (Unit {0}) Failure) → IfErr r (λ f. UnlessWriter f (Stops carries cap b at to middle holds)) → IfErr r (λ f. UnlessWriter f (Stops carries cap a from to held holds))
-    then_err r known = if_err_weaker r (Stops carries cap b at to middle holds) (Stops carries cap a from to held holds) (λ s. stops_after a b from at to held middle holds first_to s) known
+    pub then_err : (r : Result (Unit {0}) Failure) → IfErr r (λ f. UnlessWriter f (Stops carries cap servers b at to middle holds)) → IfErr r (λ f. UnlessWriter f (Stops carries cap servers a from to held holds))
+    then_err r known = if_err_weaker r (Stops carries cap servers b at to middle holds) (Stops carries cap servers a from to held holds) (λ s. stops_after a b from at to held middle holds first_to s) known
 
   -- ---- of a range
 
-  pub got_of : (range : ByteRange) (grid : GridState FolderState L) (new : Spanning L) (held holds : Option (List ℕ)) → Leads carries cap (first_of grid) range.from held new range.to holds → IsGot carries cap range grid held holds
+  pub got_of : (range : ByteRange) (grid : GridState FolderState L) (new : Spanning L) (held holds : Option (List ℕ)) → Leads carries cap servers (first_of grid) range.from held new range.to holds → IsGot carries cap servers range grid held holds
   got_of range grid new held holds l = record { runs = l.runs; after = point_at new range.to; written = l.written; whole = refl; block = new.block; one = l.one }
 
-  pub begun_of : (range : ByteRange) (grid : GridState FolderState L) (held holds : Option (List ℕ)) → Stops carries cap (first_of grid) range.from range.to held holds → IsBegun carries cap range grid held holds
+  pub begun_of : (range : ByteRange) (grid : GridState FolderState L) (held holds : Option (List ℕ)) → Stops carries cap servers (first_of grid) range.from range.to held holds → IsBegun carries cap servers range grid held holds
   begun_of range grid held holds s = record {
     runs = s.leads.runs;
     last = s.last;
     few = s.few;
     after = s.after;
-    written = written_trans carries cap (point_at (first_of grid) range.from) (point_at s.mid s.at) s.after s.leads.runs s.last held s.middle holds s.leads.written s.written;
+    written = written_trans carries cap servers (point_at (first_of grid) range.from) (point_at s.mid s.at) s.after s.leads.runs s.last held s.middle holds s.leads.written s.written;
     within = s.within;
     block = s.mid.block;
     one = s.leads.one;
+  }
+
+-- from some servers, and so from all
+module _ {L : Type 0} (carries : Carries L) (cap : ReadCapValue) (some all : List ℕ) (among : All (Contains all) some) (old : Spanning L) (from : ℕ) (held : Option (List ℕ)) where
+  pub leads_among : (new : Spanning L) (at : ℕ) (holds : Option (List ℕ)) → Leads carries cap some old from held new at holds → Leads carries cap all old from held new at holds
+  leads_among new at holds l = record {
+    runs = l.runs;
+    written = written_among carries cap some all among (point_at old from) (point_at new at) l.runs held holds l.written;
+    one = l.one;
+    stays = l.stays;
+  }
+
+  pub stops_among : (to : ℕ) (holds : Option (List ℕ)) → Stops carries cap some old from to held holds → Stops carries cap all old from to held holds
+  stops_among to holds s = record {
+    mid = s.mid;
+    at = s.at;
+    middle = s.middle;
+    leads = leads_among s.mid s.at s.middle s.leads;
+    last = s.last;
+    few = s.few;
+    after = s.after;
+    written = written_among carries cap some all among (point_at s.mid s.at) s.after s.last s.middle holds s.written;
+    within = s.within;
   }

@@ -1,9 +1,9 @@
 -- One download of a span.
-use Rattle.std.proofs.Common.{◌≡◌, ℕ, ◌+◌, ◌-◌, ◌^◌, ◌<◌, ◌≤◌, min, List, [], ◌∷◌, length, Option, Some, None, Result, Ok, Err, IfOk, IfErr, refl, sym, ap, subst, ◌∙◌, arith}
+use Rattle.std.proofs.Common.{◌≡◌, ℕ, ◌+◌, ◌-◌, ◌^◌, ◌<◌, ◌≤◌, min, List, [], ◌∷◌, length, Option, Result, Ok, Err, IfOk, IfErr, refl, sym, ap, subst, ◌∙◌, arith}
 use Rattle.std.proofs.Common.{nat_eq}
 use Rattle.std.specs.Io.KnownBytes.{Appends}
 use Rattle.std.specs.List.{IsDistinct}
-use Rattle.std.proofs.lemmas.List.Elements.{All-nil, All-push}
+use Rattle.std.proofs.lemmas.List.Elements.{All-contains_itself, All-nil, All-push}
 use Rattle.cap_text.specs.Cap.{ReadCapValue}
 use Rattle.share_folders.specs.Folder.{FolderState, folder_calls}
 use Rattle.download_segments.specs.Pieces.{AreConsecutive}
@@ -55,8 +55,9 @@ module _ {L : Type 0} (carries : Carries L) (cap : ReadCapValue) (old : Spanning
   abbrev pub run_to : Point L → Run L
   run_to after = record { servers = servers; to = to; begun = begun; ended = w.reached; pieces = w.pieces; after = after }
 
-  is_run : (after : Point L) → after.grid ≡ w.grid → after.offset ≡ handed w.reached → after.session ≡ capped (old.session + 1) → IsRun carries cap (point_at old from) (run_to after)
+  is_run : (after : Point L) → after.grid ≡ w.grid → after.offset ≡ handed w.reached → after.session ≡ capped (old.session + 1) → IsRun carries cap servers (point_at old from) (run_to after)
   is_run after same offset session = record {
+    asked = All-contains_itself servers;
     distinct = distinct;
     begins = begins;
     carried = subst (λ (g : GridState FolderState L). IsCarried folder_calls carries begun old.grid w.pieces w.reached g) (sym same) w.carried;
@@ -83,32 +84,32 @@ module _ {L : Type 0} (carries : Carries L) (cap : ReadCapValue) (old : Spanning
 
   -- one that was carried as far as it goes
   pub tried_leads : (tried : Tried) (new : Spanning L) → c.ended ≡ Ok tt → EndsWith c tried → new.session ≡ capped (old.session + 1) → new.grid ≡ grid → StaysBlock old.block new.block → AcceptsOnly new.block c.download
-      → Leads carries cap old from held new (reached_by tried to) holds
+      → Leads carries cap servers old from held new (reached_by tried to) holds
   tried_leads tried new ok e session same stays accepts =
       let done = w.done ok in
       let after : Point L = point_at new (reached_by tried to) in
       let added : Appends held holds (joined w.pieces) = subst (λ (r : Result (Unit {0}) CutShort). UnlessWriterFailed r (Appends held holds (joined w.pieces))) ok w.written in
       record {
         runs = run_to after ∷ [];
-        written = written_one carries cap (point_at old from) (run_to after) held holds (is_run after (same ∙ sym done.grid_is) (came_to tried ok e) session) added;
+        written = written_one carries cap servers (point_at old from) (run_to after) held holds (is_run after (same ∙ sym done.grid_is) (came_to tried ok e) session) added;
         one = All-push (λ (r : Run L). AcceptsOnly new.block r.ended) [] (run_to after) (All-nil (λ (r : Run L). AcceptsOnly new.block r.ended))
             (subst (λ (d : DownloadState). AcceptsOnly new.block d) (sym done.download_is) accepts);
         stays = stays;
       }
 
   -- one that may have been cut short, but not by its writer
-  stops_by : UnlessWriterFailed c.ended (Appends held holds (joined w.pieces)) → (c.ended ≡ Err cuts.Writer → ⊥) → Stops carries cap old from to held holds
+  stops_by : UnlessWriterFailed c.ended (Appends held holds (joined w.pieces)) → (c.ended ≡ Err cuts.Writer → ⊥) → Stops carries cap servers old from to held holds
   stops_by known not_writer =
       let after : Point L = record { offset = handed w.reached; session = capped (old.session + 1); grid = w.grid } in
       record {
         mid = old;
         at = from;
         middle = held;
-        leads = leads_none carries cap old from held;
+        leads = leads_none carries cap servers old from held;
         last = run_to after ∷ [];
         few = omega arith;
         after = after;
-        written = written_one carries cap (point_at old from) (run_to after) held holds (is_run after refl refl refl) (added c.ended refl known);
+        written = written_one carries cap servers (point_at old from) (run_to after) held holds (is_run after refl refl refl) (added c.ended refl known);
         within = within;
       }
     where
@@ -118,14 +119,14 @@ module _ {L : Type 0} (carries : Carries L) (cap : ReadCapValue) (old : Spanning
       added (Err cuts.Writer) is known = absurd (not_writer is)
 
   -- how it ended
-  pub tried_err : (r : Result Tried Failure) → (c.ended ≡ Err cuts.Writer → r ≡ Err failures.Writer) → IfErr r (λ f. UnlessWriter f (Stops carries cap old from to held holds))
+  pub tried_err : (r : Result Tried Failure) → (c.ended ≡ Err cuts.Writer → r ≡ Err failures.Writer) → IfErr r (λ f. UnlessWriter f (Stops carries cap servers old from to held holds))
   tried_err (Ok tried) writer = tt
   tried_err (Err failures.Writer) writer = tt
   tried_err (Err (failures.Fault fault)) writer = stops_by w.written (λ is. let no : Err (failures.Fault fault) ≡ Err failures.Writer = writer is in cc)
 
   pub tried_ok : (r : Result Tried Failure) (mid new : Spanning L) → mid.session ≡ capped (old.session + 1) → mid.grid ≡ grid → mid.block ≡ old.block
       → IfOk r (λ tried. (c.ended ≡ Ok tt) × EndsWith c tried) → IfOk r (λ _. new ≡ record mid { block = new.block }) → IfOk r (λ _. StaysBlock mid.block new.block)
-      → IfOk r (λ _. AcceptsOnly new.block c.download) → IfOk r (λ tried. Leads carries cap old from held new (reached_by tried to) holds)
+      → IfOk r (λ _. AcceptsOnly new.block c.download) → IfOk r (λ tried. Leads carries cap servers old from held new (reached_by tried to) holds)
   tried_ok (Ok tried) mid new session same block ended others stays accepts =
       tried_leads tried new ended.0 ended.1 (ap (λ (s : Spanning L). s.session) others ∙ session) (ap (λ (s : Spanning L). s.grid) others ∙ same) (subst (λ (b : Option (List ℕ)). StaysBlock b new.block) block stays) accepts
   tried_ok (Err f) mid new session same block ended others stays accepts = tt

@@ -1,6 +1,5 @@
 -- What a get writes by its words.
-use Rattle.std.proofs.Common.{◌≡◌, ◌↔◌, ℕ, List, Option, Some, None, Result, Ok, Err, OnOk, IfOk, IfErr, IfSome, sym, ap, subst, ◌∙◌}
-use Rattle.std.specs.Io.KnownBytes.{Keeps}
+use Rattle.std.proofs.Common.{◌≡◌, ◌↔◌, ℕ, List, Option, Result, Ok, Err, OnOk, OnErr, IfErr, sym, subst, inl, inr, ◌∙◌}
 use Rattle.cap_text.specs.Cap.{VerifyCapValue}
 use Rattle.cap_text.specs.CapText.{Spells}
 use Rattle.cap_text.specs.declared.cap.Cap.{Cap}
@@ -11,6 +10,7 @@ use Rattle.grid_rules.specs.Range.{IsWithin}
 use Rattle.grid_rules.specs.declared.range.ByteRange.{ByteRange}
 use Rattle.grid_telling.specs.declared.outcome.Failure.{Failure}
 use Rattle.grid_words.specs.declared.words.GetWords.{GetWords}
+use Rattle.grid_gets.specs.Files.{FileAct, IsFileBy, IsFileOf, MayBeFileBy, MayBeFileOf}
 use Rattle.grid_gets.specs.Gets.{IsBegunBy, IsBegunOf, IsGotBy, IsGotOf, UnlessWriter, file_size, range_by, read}
 use Rattle.grid_gets.proofs.SpanLemmas.{if_err_weaker}
 
@@ -32,10 +32,6 @@ module _ (text : List ℕ) (r : Result Cap Fault) (said : (cap : Cap) → (r ≡
   pub is_read : (fault : Fault) → r ≡ Err fault → ⊥
   is_read fault is = ok_is_no_err (Verify v) fault (sym ((said (Verify v)).1 spelled) ∙ is)
 
-pub some_then : {A : Type 0} (o : Option A) (P : Type 0) → P → IfSome o (λ _. P)
-some_then None P p = tt
-some_then (Some a) P p = p
-
 -- ---- what is written
 
 module _ {L : Type 0} (carries : Carries L) (words : GetWords) (cap : Cap) (range : ByteRange) (spelled : Spells words.cap.now cap) (is : range ≡ range_by words cap) (within : IsWithin (file_size cap) range) where
@@ -50,12 +46,33 @@ module _ {L : Type 0} (carries : Carries L) (words : GetWords) (cap : Cap) (rang
   got_by (Ok tt) held holds g = by_words held holds g
   got_by (Err f) held holds g = tt
 
-  -- to a file
-  pub file_by : (r : Result (Unit {0}) Failure) → OnOk r ((held holds : Option (List ℕ)) × IsGotOf carries words cap range held holds) → OnOk r ((held holds : Option (List ℕ)) × IsGotBy carries words held holds)
-  file_by (Ok tt) g = (g.0, g.1, by_words g.0 g.1 g.2)
-  file_by (Err f) g = tt
+  begun_words : (held holds : Option (List ℕ)) → IsBegunOf carries words range held holds cap → IsBegunBy carries words held holds
+  begun_words held holds written = read cap spelled fits (subst (λ (x : ByteRange). IsBegunOf carries words x held holds cap) is written)
 
   pub begun_by : (r : Result (Unit {0}) Failure) (held holds : Option (List ℕ)) → IfErr r (λ f. UnlessWriter f (IsBegunOf carries words range held holds cap))
       → IfErr r (λ f. UnlessWriter f (IsBegunBy carries words held holds))
-  begun_by r held holds b = if_err_weaker r (IsBegunOf carries words range held holds cap) (IsBegunBy carries words held holds)
-      (λ begun. read cap spelled fits (subst (λ (x : ByteRange). IsBegunOf carries words x held holds cap) is begun)) b
+  begun_by r held holds b = if_err_weaker r (IsBegunOf carries words range held holds cap) (IsBegunBy carries words held holds) (begun_words held holds) b
+
+  -- ---- to a file
+
+  module _ (path : List ℕ) (old new : Option (List FileAct)) where
+    file_words : (outcome : Result (Unit {0}) Failure) → IsFileOf carries words cap range path outcome old new → IsFileBy carries words path outcome old new
+    file_words outcome h = record {
+      held = h.held;
+      holds = h.holds;
+      acts = h.acts;
+      whole = got_by outcome h.held h.holds h.whole;
+      begun = if_err_weaker outcome (IsBegunOf carries words range h.held h.holds cap) (IsBegunBy carries words h.held h.holds) (begun_words h.held h.holds) h.begun;
+    }
+
+    pub file_by : (r : Result (Unit {0}) Failure) → OnOk r (IsFileOf carries words cap range path (Ok tt) old new) → OnOk r (IsFileBy carries words path (Ok tt) old new)
+    file_by (Ok tt) h = file_words (Ok tt) h
+    file_by (Err f) h = tt
+
+    may_be : MayBeFileOf carries words cap range path old new → MayBeFileBy carries words path old new
+    may_be (inl same) = inl same
+    may_be (inr handed) = inr (handed.0, file_words handed.0 handed.1)
+
+    pub part_by : (r : Result (Unit {0}) Failure) → OnErr r (MayBeFileOf carries words cap range path old new) → OnErr r (MayBeFileBy carries words path old new)
+    part_by (Ok tt) h = tt
+    part_by (Err f) h = may_be h

@@ -1,7 +1,7 @@
 -- What a get writes: the bytes of a range of a file, in order, each from a segment that the cap
 -- proves.
-use Rattle.std.specs.Prelude.{◌≡◌, ℕ, ◌+◌, ◌-◌, ◌≤◌, All, List, [], ◌∷◌, ◌++◌, length, take, drop}
-use Rattle.std.specs.Prelude.{◌⊎◌, Option, Some, None, nat_eq, ⊤}
+use Rattle.std.specs.Prelude.{◌≡◌, ℕ, ◌+◌, ◌-◌, ◌≤◌, All, Contains, List, [], ◌∷◌, ◌++◌, length}
+use Rattle.std.specs.Prelude.{◌⊎◌, Option, Some, None, drop, nat_eq, take, ⊤}
 use Rattle.std.specs.Io.KnownBytes.{Appends, Keeps}
 use Rattle.std.specs.List.{IsDistinct, flat_map}
 use Rattle.cap_text.specs.Cap.{ReadCapValue}
@@ -42,10 +42,11 @@ pub record Run (L : Type 0) : Type 0 where
   pub pieces : List Piece
   pub after : Point L
 
--- It was begun where the get stood, at servers none of which it asks twice, and carried turn after
--- turn. It gave pieces up to where the get stands then.
-pub record IsRun {L : Type 0} (carries : Carries L) (cap : ReadCapValue) (before : Point L)
-    (r : Run L) : Type 0 where
+-- It was begun where the get stood, at some of these servers, none of which it asks twice, and
+-- carried turn after turn. It gave pieces up to where the get stands then.
+pub record IsRun {L : Type 0} (carries : Carries L) (cap : ReadCapValue) (servers : List ℕ)
+    (before : Point L) (r : Run L) : Type 0 where
+  pub asked : All (Contains servers) r.servers
   pub distinct : IsDistinct nat_eq r.servers
   pub begins : Begins cap before.offset r.to r.servers before.session before.grid.clock r.begun
   pub carried : IsCarried folder_calls carries r.begun before.grid r.pieces r.ended r.after.grid
@@ -54,11 +55,11 @@ pub record IsRun {L : Type 0} (carries : Carries L) (cap : ReadCapValue) (before
 
 -- These were one after another: each began where the one before it had come to, over the grid that
 -- it left, in the next session.
-abbrev pub AreRuns : {L : Type 0} → Carries L → ReadCapValue → Point L → List (Run L) → Point L
-    → Type 0
-AreRuns carries cap before [] after = after ≡ before
-AreRuns carries cap before (r ∷ rs) after =
-    IsRun carries cap before r × AreRuns carries cap r.after rs after
+abbrev pub AreRuns : {L : Type 0} → Carries L → ReadCapValue → List ℕ → Point L → List (Run L)
+    → Point L → Type 0
+AreRuns carries cap servers before [] after = after ≡ before
+AreRuns carries cap servers before (r ∷ rs) after =
+    IsRun carries cap servers before r × AreRuns carries cap servers r.after rs after
 
 -- the pieces that they gave, in order
 abbrev pub pieces_of : {L : Type 0} → List (Run L) → List Piece
@@ -66,10 +67,10 @@ pieces_of {L = L} runs = flat_map (λ (r : Run L). r.pieces) runs
 
 -- The bytes of their pieces were written, one behind another: the writer holds what it held and
 -- these.
-pub record AreWritten {L : Type 0} (carries : Carries L) (cap : ReadCapValue) (before : Point L)
-    (held : Option (List ℕ)) (runs : List (Run L)) (after : Point L) (holds : Option (List ℕ))
-    : Type 0 where
-  pub runs_are : AreRuns carries cap before runs after
+pub record AreWritten {L : Type 0} (carries : Carries L) (cap : ReadCapValue) (servers : List ℕ)
+    (before : Point L) (held : Option (List ℕ)) (runs : List (Run L)) (after : Point L)
+    (holds : Option (List ℕ)) : Type 0 where
+  pub runs_are : AreRuns carries cap servers before runs after
   pub consecutive : AreConsecutive before.offset (pieces_of runs) after.offset
   pub written : Appends held holds (joined (pieces_of runs))
 
@@ -86,25 +87,28 @@ AllAccept {L = L} block runs = All (λ (r : Run L). AcceptsOnly block r.ended) r
 abbrev pub beginning : {L : Type 0} → ByteRange → GridState FolderState L → Point L
 beginning range grid = record { offset = range.from; session = 1; grid = grid }
 
--- A range of a cap's file was got and written, to its end. All downloads accepted one extension
--- block.
-pub record IsGot {L : Type 0} (carries : Carries L) (cap : ReadCapValue) (range : ByteRange)
-    (grid : GridState FolderState L) (held holds : Option (List ℕ)) : Type 0 where
+-- A range of a cap's file was got of servers of a grid and written, to its end. All downloads
+-- accepted one extension block.
+pub record IsGot {L : Type 0} (carries : Carries L) (cap : ReadCapValue) (servers : List ℕ)
+    (range : ByteRange) (grid : GridState FolderState L) (held holds : Option (List ℕ))
+    : Type 0 where
   pub runs : List (Run L)
   pub after : Point L
-  pub written : AreWritten carries cap (beginning range grid) held runs after holds
+  pub written : AreWritten carries cap servers (beginning range grid) held runs after holds
   pub whole : after.offset ≡ range.to
   pub block : Option (List ℕ)
   pub one : AllAccept block runs
 
 -- A beginning of it was. The last download may have been cut short, or have accepted another block.
-pub record IsBegun {L : Type 0} (carries : Carries L) (cap : ReadCapValue) (range : ByteRange)
-    (grid : GridState FolderState L) (held holds : Option (List ℕ)) : Type 0 where
+pub record IsBegun {L : Type 0} (carries : Carries L) (cap : ReadCapValue) (servers : List ℕ)
+    (range : ByteRange) (grid : GridState FolderState L) (held holds : Option (List ℕ))
+    : Type 0 where
   pub runs : List (Run L)
   pub last : List (Run L)
   pub few : length last ≤ 1
   pub after : Point L
-  pub written : AreWritten carries cap (beginning range grid) held (runs ++ last) after holds
+  pub written : AreWritten carries cap servers (beginning range grid) held (runs ++ last) after
+      holds
   pub within : after.offset ≤ range.to
   pub block : Option (List ℕ)
   pub one : AllAccept block runs
@@ -126,11 +130,13 @@ abbrev pub bytes_in : List ℕ → ByteRange → List ℕ
 bytes_in file range = take (range.to - range.from) (drop range.from file)
 
 -- What is written of a cap's file: of one that the cap holds its bytes; of another what was got of
--- the servers of the grid. A verify cap gives none.
+-- servers of the grid, which are distinct, and each of which was opened over its own folder. A
+-- verify cap gives none.
 abbrev pub IsGotOf : {L : Type 0} → Carries L → GetWords → Cap → ByteRange → Option (List ℕ)
     → Option (List ℕ) → Type 0
-IsGotOf {L = L} carries words (Chk cap) range held holds = (grid : GridState FolderState L)
-    × AreOpened words.grid.now grid × IsGot carries cap range grid held holds
+IsGotOf {L = L} carries words (Chk cap) range held holds = (servers : List ℕ)
+    × IsDistinct nat_eq servers × (grid : GridState FolderState L)
+    × AreOpened words.grid.now grid × IsGot carries cap servers range grid held holds
 IsGotOf carries words (Verify cap) range held holds = ⊥
 IsGotOf carries words (Lit file) range held holds = Appends held holds (bytes_in file range)
 
@@ -147,8 +153,9 @@ pub record IsGotBy {L : Type 0} (carries : Carries L) (words : GetWords)
 pub data IsBegunOf {L : Type 0} (carries : Carries L) (words : GetWords) (range : ByteRange)
     (held holds : Option (List ℕ)) : Cap → Type 0 where
   nothing : (cap : Cap) → Keeps held holds → IsBegunOf carries words range held holds cap
-  begun : (cap : ReadCapValue) → (grid : GridState FolderState L)
-      → AreOpened words.grid.now grid → IsBegun carries cap range grid held holds
+  begun : (cap : ReadCapValue) → (servers : List ℕ) → IsDistinct nat_eq servers
+      → (grid : GridState FolderState L) → AreOpened words.grid.now grid
+      → IsBegun carries cap servers range grid held holds
       → IsBegunOf carries words range held holds (Chk cap)
 
 -- The same by its words, which may be refused.

@@ -25,26 +25,28 @@ abbrev pub StaysBlock : Option (List ℕ) → Option (List ℕ) → Type 0
 StaysBlock None new = Unit {0}
 StaysBlock (Some block) new = new ≡ Some block
 
--- Downloads led from one offset to another, and their bytes were written. All accepted one block.
-pub record Leads {L : Type 0} (carries : Carries L) (cap : ReadCapValue) (old : Spanning L)
-    (from : ℕ) (held : Option (List ℕ)) (new : Spanning L) (at : ℕ) (holds : Option (List ℕ))
-    : Type 0 where
+-- Downloads from these servers led from one offset to another, and their bytes were written. All
+-- accepted one block.
+pub record Leads {L : Type 0} (carries : Carries L) (cap : ReadCapValue) (servers : List ℕ)
+    (old : Spanning L) (from : ℕ) (held : Option (List ℕ)) (new : Spanning L) (at : ℕ)
+    (holds : Option (List ℕ)) : Type 0 where
   pub runs : List (Run L)
-  pub written : AreWritten carries cap (point_at old from) held runs (point_at new at) holds
+  pub written : AreWritten carries cap servers (point_at old from) held runs (point_at new at)
+      holds
   pub one : AllAccept new.block runs
   pub stays : StaysBlock old.block new.block
 
 -- Downloads led from an offset on, and perhaps one more went on from there, not behind another.
-pub record Stops {L : Type 0} (carries : Carries L) (cap : ReadCapValue) (old : Spanning L)
-    (from to : ℕ) (held holds : Option (List ℕ)) : Type 0 where
+pub record Stops {L : Type 0} (carries : Carries L) (cap : ReadCapValue) (servers : List ℕ)
+    (old : Spanning L) (from to : ℕ) (held holds : Option (List ℕ)) : Type 0 where
   pub mid : Spanning L
   pub at : ℕ
   pub middle : Option (List ℕ)
-  pub leads : Leads carries cap old from held mid at middle
+  pub leads : Leads carries cap servers old from held mid at middle
   pub last : List (Run L)
   pub few : length last ≤ 1
   pub after : Point L
-  pub written : AreWritten carries cap (point_at mid at) middle last after holds
+  pub written : AreWritten carries cap servers (point_at mid at) middle last after holds
   pub within : after.offset ≤ to
 
 -- how far a download of a span came that was not refused

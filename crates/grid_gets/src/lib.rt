@@ -9,4 +9,5 @@ mod target;
 mod tried;
 mod watching;
 
+pub use output::{DiskFiles, NamedFiles};
 pub use range::get;

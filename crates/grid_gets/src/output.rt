@@ -1,6 +1,7 @@
 //! The file that a `get` writes with `-o`.
 
-ghost use Rattle.std.specs.Prelude.{◌≡◌, OnOk};
+ghost use Rattle.std.specs.Prelude.{◌≡◌, ◌∷◌, [], IfOk, List, None, OnErr, OnOk, Option};
+ghost use Rattle.grid_gets.specs.Files.{Adds, FileAct, ended, opened};
 
 use crate::target::{
     Found, MOST_LINKS, MOST_PARTS, Target, folder_of, found_of, part_name, target_of,
@@ -14,11 +15,60 @@ use std::path::Path;
 use std::rt::Files;
 use user_files::at_path;
 
+/// The files that a `-o` names.
+pub trait NamedFiles {
+    /// What takes the bytes that are to stand at a path.
+    type File: Write + Drop;
+
+    /// What was done with them, where that is known.
+    ghost acts: { Self → Option (List FileAct) } = { λ _. None };
+
+    /// Opens what is written so that the bytes stand at this path.
+    fn open(&mut self, path: &str) -> Result<Self::File, Fault>
+        ensures opened { IfOk result (λ file. Adds (acts self.old) (acts self.new)
+            (opened path.now (Self.File.contents file) ∷ [])) }
+        ensures refused { OnErr result (acts self.new ≡ acts self.old) };
+
+    /// Ends it, of which so much was written as this outcome says. One that is whole is put on the
+    /// disk, and gets its name.
+    fn end(&mut self, file: Self::File, outcome: Result<(), Failure>) -> Result<(), Failure>
+        ensures ended { Adds (acts self.old) (acts self.new)
+            (ended (Self.File.contents file) outcome ∷ []) }
+        ensures whole { OnOk result (outcome ≡ Ok tt) };
+}
+
+/// The files of the system. No clause says what it does with them.
+#[derive(Drop)]
+pub struct DiskFiles<'a, R> {
+    rt: &'a R,
+}
+
+impl<'a, R> DiskFiles<'a, R> {
+    /// Those of this system.
+    pub fn new(rt: &'a R) -> DiskFiles<'a, R> {
+        DiskFiles { rt }
+    }
+}
+
+impl<'a, R: Files + AllocGlobal> NamedFiles for DiskFiles<'a, R> {
+    type File = Part<R>;
+
+    // The empty path, a folder and what cannot be looked at are refused, and nothing is made then.
+    // A regular file that stands there is not opened.
+    fn open(&mut self, path: &str) -> Result<Part<R>, Fault> {
+        Part::create(self.rt, path)
+    }
+
+    fn end(&mut self, file: Part<R>, outcome: Result<(), Failure>) -> Result<(), Failure> {
+        file.finish(self.rt, outcome)
+    }
+}
+
 /// What the bytes are written to: a new file beside the one that is to have them, which is renamed
 /// once it is whole, and stays where it does not get whole, but for one that has no byte; or what
 /// is no regular file, as a device, and is written itself.
 #[derive(Drop)]
-pub(crate) struct Part<R: Files> {
+pub struct Part<R: Files> {
     file: R::File,
     path: String,
     // the file that it is renamed to, if it is
@@ -28,10 +78,8 @@ pub(crate) struct Part<R: Files> {
 }
 
 impl<R: Files + AllocGlobal> Part<R> {
-    /// Opens what is written so that the bytes stand at this path. The empty path, a folder and
-    /// what cannot be looked at are refused, and nothing is made then. A regular file that stands
-    /// there is not opened.
-    pub(crate) fn create(rt: &R, path: &str) -> Result<Part<R>, Fault> {
+    // What is written so that the bytes stand at this path.
+    fn create(rt: &R, path: &str) -> Result<Part<R>, Fault> {
         match target_of(path, found_at(rt, path)?) {
             Target::Beside => Part::beside(rt, path),
             Target::Straight => Part::straight(rt, path),
@@ -67,9 +115,8 @@ impl<R: Files + AllocGlobal> Part<R> {
         })
     }
 
-    /// Ends the file, of which so much was written as this outcome says: one that is whole is put
-    /// on the disk, and gets its name.
-    pub(crate) fn finish(self, rt: &R, outcome: Result<(), Failure>) -> Result<(), Failure>
+    // Ends the file: one that is whole is put on the disk, and gets its name.
+    fn finish(self, rt: &R, outcome: Result<(), Failure>) -> Result<(), Failure>
         ensures { OnOk result (outcome ≡ Ok tt) }
     {
         match outcome {

@@ -1,7 +1,6 @@
 //! `grid get`: bytes of a cap's file, from the servers of a grid.
 
-ghost use Rattle.std.specs.Prelude.{◌≡◌, ℕ, List, Option, Err, IfErr, IfOk, IfSome, OnOk};
-ghost use Rattle.std.specs.Prelude.{IsSome, IsTrue, None, is_some, length};
+ghost use Rattle.std.specs.Prelude.{◌≡◌, Err, IfErr, IfOk, IfSome, None, Ok, OnErr, OnOk, length};
 ghost use Rattle.std.specs.Io.KnownBytes.{Appends};
 ghost use Rattle.cap_text.specs.Cap.{VerifyCapValue};
 ghost use Rattle.cap_text.specs.CapText.{Spells};
@@ -11,10 +10,11 @@ ghost use Rattle.socket_links.specs.Ends.{pair_calls};
 ghost use Rattle.socket_links.specs.Links.{IsCarriedOver};
 ghost use Rattle.grid_rules.specs.Range.{IsWithin};
 ghost use Rattle.grid_telling.specs.declared.outcome.Failure.TheVariants as failures;
+ghost use Rattle.grid_gets.specs.Files.{IsFileBy, IsFileOf, MayBeFileBy, MayBeFileOf};
 ghost use Rattle.grid_gets.specs.Gets.{IsBegunBy, IsBegunOf, IsGotBy, IsGotOf, UnlessWriter};
 ghost use Rattle.grid_gets.specs.Gets.{bytes_in, file_size, range_by};
 
-use crate::output::Part;
+use crate::output::NamedFiles;
 use crate::spans::Spans;
 use cap_text::{Cap, ReadCap};
 use grid_faults::Fault;
@@ -31,15 +31,17 @@ use std::rt::{Clock, Files};
 /// Writes bytes of the file of a cap, to a file where one is named: from the cap itself where it
 /// holds the file, else from what the servers answer, each segment once it is proved. With
 /// `is_known` their grid has to be marked.
-pub fn get<R, O, E>(
+pub fn get<R, F, O, E>(
     rt: &R,
     words: &GetWords<'_>,
     is_known: bool,
+    files: &mut F,
     out: &mut O,
     progress: &mut Progress<'_, R, E>,
 ) -> Result<(), Failure>
 where
     R: Files + Net + Clock + RandomSource + AllocGlobal + Clone + Drop,
+    F: NamedFiles,
     O: Write,
     E: Write + IsTerminal,
     ensures got { words.now.output ≡ None → OnOk result (IsGotBy (IsCarriedOver (pair_calls
@@ -48,11 +50,15 @@ where
     ensures begun { words.now.output ≡ None → IfErr result (λ failure. UnlessWriter failure
         (IsBegunBy (IsCarriedOver (pair_calls R.Stream.contents R.Stream.remaining)) words.now
         (O.contents out.old) (O.contents out.new))) }
-    // With a file of a name it is what the file has that is written.
-    ensures file { IfSome words.now.output (λ _. OnOk result ((held holds : Option (List ℕ))
-        × IsGotBy (IsCarriedOver (pair_calls R.Stream.contents R.Stream.remaining)) words.now
-        held holds)) }
+    // With a file of a name the bytes are handed to it, and it is ended as whole only with all.
+    ensures file { IfSome words.now.output (λ path. OnOk result (IsFileBy (IsCarriedOver
+        (pair_calls R.Stream.contents R.Stream.remaining)) words.now path.now (Ok tt)
+        (F.acts files.old) (F.acts files.new))) }
+    ensures part { IfSome words.now.output (λ path. OnErr result (MayBeFileBy (IsCarriedOver
+        (pair_calls R.Stream.contents R.Stream.remaining)) words.now path.now
+        (F.acts files.old) (F.acts files.new))) }
     ensures kept { IfSome words.now.output (λ _. out.new ≡ out.old) }
+    ensures unasked { words.now.output ≡ None → F.acts files.new ≡ F.acts files.old }
     ensures verify { (cap : VerifyCapValue) → Spells words.now.cap.now (Verify cap)
         → result ≡ Err (failures.Fault faults.NeedsReadCap) }
 {
@@ -60,7 +66,7 @@ where
     may_get(rt, words, is_known, &asked.cap)?;
     match words.output {
         None => write_bytes(rt, words, &asked.cap, &asked.range, out, progress),
-        Some(path) => write_file(rt, words, path, &asked.cap, &asked.range, progress),
+        Some(path) => write_file(rt, words, path, &asked, files, progress),
     }
 }
 
@@ -109,25 +115,30 @@ where
     Ok(())
 }
 
-// Writes a range of a cap's file to a file of this path.
-fn write_file<R, E>(
+// Hands a range of a cap's file to a file of this path.
+fn write_file<R, F, E>(
     rt: &R,
     words: &GetWords<'_>,
     path: &str,
-    cap: &Cap,
-    range: &ByteRange,
+    asked: &Asked,
+    files: &mut F,
     progress: &mut Progress<'_, R, E>,
 ) -> Result<(), Failure>
 where
     R: Files + Net + Clock + RandomSource + AllocGlobal + Clone + Drop,
+    F: NamedFiles,
     E: Write + IsTerminal,
-    requires { IsWithin (file_size cap.now) range.now }
-    ensures { OnOk result ((held holds : Option (List ℕ)) × IsGotOf (IsCarriedOver (pair_calls
-        R.Stream.contents R.Stream.remaining)) words.now cap.now range.now held holds) }
+    requires { IsWithin (file_size asked.now.cap) asked.now.range }
+    ensures ok { OnOk result (IsFileOf (IsCarriedOver (pair_calls R.Stream.contents
+        R.Stream.remaining)) words.now asked.now.cap asked.now.range path.now (Ok tt)
+        (F.acts files.old) (F.acts files.new)) }
+    ensures err { OnErr result (MayBeFileOf (IsCarriedOver (pair_calls R.Stream.contents
+        R.Stream.remaining)) words.now asked.now.cap asked.now.range path.now
+        (F.acts files.old) (F.acts files.new)) }
 {
-    let mut part = Part::create(rt, path)?;
-    let written = write_bytes(rt, words, cap, range, &mut part, progress);
-    part.finish(rt, written)
+    let mut file = files.open(path)?;
+    let written = write_bytes(rt, words, &asked.cap, &asked.range, &mut file, progress);
+    files.end(file, written)
 }
 
 // Writes a range of a cap's file.

@@ -105,11 +105,11 @@ where
         requires distinct { IsDistinct nat_eq servers.now }
         requires ordered { range.now.from ≤ range.now.to }
         ensures ok { OnOk result (Leads (IsCarriedOver (pair_calls R.Stream.contents
-            R.Stream.remaining)) cap.now self.old range.now.from (O.contents out.old) self.new
-            range.now.to (O.contents out.new)) }
+            R.Stream.remaining)) cap.now servers.now self.old range.now.from (O.contents out.old)
+            self.new range.now.to (O.contents out.new)) }
         ensures err { IfErr result (λ failure. UnlessWriter failure (Stops (IsCarriedOver
-            (pair_calls R.Stream.contents R.Stream.remaining)) cap.now self.old range.now.from
-            range.now.to (O.contents out.old) (O.contents out.new))) }
+            (pair_calls R.Stream.contents R.Stream.remaining)) cap.now servers.now self.old
+            range.now.from range.now.to (O.contents out.old) (O.contents out.new))) }
     {
         let mut from = range.from;
         'spans: while from < range.to {
@@ -137,10 +137,10 @@ where
         requires distinct { IsDistinct nat_eq servers.now }
         requires ordered { from ≤ to }
         ensures ok { OnOk result (Leads (IsCarriedOver (pair_calls R.Stream.contents
-            R.Stream.remaining)) cap.now self.old from (O.contents out.old) self.new to
+            R.Stream.remaining)) cap.now servers.now self.old from (O.contents out.old) self.new to
             (O.contents out.new)) }
         ensures err { IfErr result (λ failure. UnlessWriter failure (Stops (IsCarriedOver
-            (pair_calls R.Stream.contents R.Stream.remaining)) cap.now self.old from to
+            (pair_calls R.Stream.contents R.Stream.remaining)) cap.now servers.now self.old from to
             (O.contents out.old) (O.contents out.new))) }
     {
         let trusted = self.suspects.without(servers)?;
@@ -168,10 +168,10 @@ where
         requires distinct { IsDistinct nat_eq servers.now }
         requires ordered { from ≤ to }
         ensures ok { OnOk result (Leads (IsCarriedOver (pair_calls R.Stream.contents
-            R.Stream.remaining)) cap.now self.old from (O.contents out.old) self.new to
+            R.Stream.remaining)) cap.now servers.now self.old from (O.contents out.old) self.new to
             (O.contents out.new)) }
         ensures err { IfErr result (λ failure. UnlessWriter failure (Stops (IsCarriedOver
-            (pair_calls R.Stream.contents R.Stream.remaining)) cap.now self.old from to
+            (pair_calls R.Stream.contents R.Stream.remaining)) cap.now servers.now self.old from to
             (O.contents out.old) (O.contents out.new))) }
     {
         match self.try_span(servers, cap, from, to, out, progress)? {
@@ -196,11 +196,11 @@ where
         requires distinct { IsDistinct nat_eq servers.now }
         requires ordered { from ≤ to }
         ensures ok { IfOk result (λ tried. Leads (IsCarriedOver (pair_calls R.Stream.contents
-            R.Stream.remaining)) cap.now self.old from (O.contents out.old) self.new
+            R.Stream.remaining)) cap.now servers.now self.old from (O.contents out.old) self.new
             (reached_by tried to) (O.contents out.new)) }
         ensures within { IfOk result (λ tried. reached_by tried to ≤ to) }
         ensures err { IfErr result (λ failure. UnlessWriter failure (Stops (IsCarriedOver
-            (pair_calls R.Stream.contents R.Stream.remaining)) cap.now self.old from to
+            (pair_calls R.Stream.contents R.Stream.remaining)) cap.now servers.now self.old from to
             (O.contents out.old) (O.contents out.new))) }
     {
         let session = self.session;

@@ -1,6 +1,6 @@
 //! The servers that are asked only where the others do not have enough.
 
-ghost use Rattle.std.specs.Prelude.{IfOk, nat_eq};
+ghost use Rattle.std.specs.Prelude.{All, Contains, IfOk, nat_eq};
 ghost use Rattle.std.specs.List.{IsDistinct};
 
 use download_core::status::Blame;
@@ -37,7 +37,8 @@ where
     /// These servers without the suspects, in their order.
     pub(crate) fn without(&self, servers: &[NodeId]) -> Result<Vec<NodeId>, AllocError>
         requires { IsDistinct nat_eq servers.now }
-        ensures { IfOk result (λ left. IsDistinct nat_eq left.items) }
+        ensures distinct { IfOk result (λ left. IsDistinct nat_eq left.items) }
+        ensures some { IfOk result (λ left. All (Contains servers.now) left.items) }
     {
         servers_without(self.rt.alloc(), servers, self.servers.as_slice())
     }

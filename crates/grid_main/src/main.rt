@@ -2,7 +2,7 @@
 //! status.
 #![tactic(auto)]
 
-use grid_commands::{Environment, grid, refuse_words};
+use grid_commands::{DiskFiles, Environment, grid, refuse_words};
 use std::env::VarError;
 use std::process::ExitCode;
 use std::{env, io};
@@ -53,5 +53,7 @@ fn run(rt: &HostRuntime, words: &[String]) -> u8 {
             Err(_) => USUAL_TEMPORARY,
         },
     };
-    grid(rt, words, &environment, &mut rt.stdout(), &mut rt.stderr())
+    let mut files = DiskFiles::new(rt);
+    let (mut out, mut err) = (rt.stdout(), rt.stderr());
+    grid(rt, words, &environment, &mut files, &mut out, &mut err)
 }

@@ -3,7 +3,7 @@
 use crate::acts::likeness;
 use crate::folders::path_of;
 use crate::names::{no_such_row, number};
-use grid_commands::{Environment, grid};
+use grid_commands::{DiskFiles, Environment, grid};
 use std::alloc::AllocError;
 use std::net::Net;
 use std::random::RandomSource;
@@ -78,7 +78,8 @@ where
     R: Files + io::Input + Net + Clock + RandomSource + AllocGlobal + Clone + Drop,
 {
     let (mut out, mut err) = (Vec::new(rt.alloc()), Told::new(rt.alloc(), false));
-    let status = grid(rt, words, &HERE, &mut out, &mut err);
+    let mut files = DiskFiles::new(rt);
+    let status = grid(rt, words, &HERE, &mut files, &mut out, &mut err);
     Ended { status, out, err }
 }
 

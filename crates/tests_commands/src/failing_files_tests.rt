@@ -9,7 +9,7 @@ use crate::runs::{
     CAP_56, CLOSED, HERE, ONES, ZEROS_CAP, ZEROS_PUT, begins_with_56, begins_with_zeros, cap_line,
     counted, has_share, makes_file, path, put_line, puts_zeros, removes_all, words_of, zeros_come,
 };
-use grid_commands::grid;
+use grid_commands::{DiskFiles, grid};
 use std::alloc::{Allocator, Global};
 use std::cell::Cell;
 use std::fs::{File, Metadata, OpenFile, OpenOptions};
@@ -313,6 +313,15 @@ fn is_file_fault(err: &[u8]) -> bool {
     }
 }
 
+// The status of a command over such files.
+fn status_of<R>(files: &R, words: &[&str], out: &mut Vec<u8>, err: &mut Told) -> u8
+where
+    R: Files + io::Input + Net + Clock + RandomSource + AllocGlobal + Clone + Drop,
+{
+    let mut named = DiskFiles::new(files);
+    grid(files, words, &HERE, &mut named, out, err)
+}
+
 // How the words of a line end where the call after so many fails.
 fn ending_of(rt: &HostRuntime, calls: &Calls, left: u64, line: &str, whole: &[u8]) -> Ending {
     let Ok(words) = words_of(rt, line) else {
@@ -322,7 +331,7 @@ fn ending_of(rt: &HostRuntime, calls: &Calls, left: u64, line: &str, whole: &[u8
     let files = FailingFiles { rt: *rt, calls };
     let mut out = Vec::new(rt.alloc());
     let mut err = Told::new(rt.alloc(), false);
-    let status = grid(&files, words.as_slice(), &HERE, &mut out, &mut err);
+    let status = status_of(&files, words.as_slice(), &mut out, &mut err);
     told_ending(status, &out, err.rest(), whole)
 }
 

@@ -1,7 +1,7 @@
 // The commands where a writer fails: the status tells it, and of standard output a line.
 
 use crate::runs::{CAP_131074, HERE, begins_with_131074, cap_line, counted, removes_all, words_of};
-use grid_commands::{grid, refuse_words};
+use grid_commands::{DiskFiles, grid, refuse_words};
 use std::alloc::AllocError;
 use std::io;
 use test_writers::Told;
@@ -56,10 +56,11 @@ const OUTPUT_FAULT: &[u8] = b"grid: 99 OutputFault\n";
 fn ends_short(rt: &HostRuntime, words: &[&str], is_output: bool, left: usize, status: u8) -> bool {
     let mut other = Told::new(rt.alloc(), false);
     let mut short = Short::new(rt, left);
+    let mut files = DiskFiles::new(rt);
     let ended = if is_output {
-        grid(rt, words, &HERE, &mut short, &mut other)
+        grid(rt, words, &HERE, &mut files, &mut short, &mut other)
     } else {
-        grid(rt, words, &HERE, &mut other, &mut short)
+        grid(rt, words, &HERE, &mut files, &mut other, &mut short)
     };
     let is_told = is_output && status == 7;
     let wanted = if is_told { OUTPUT_FAULT } else { &[] };
@@ -98,7 +99,8 @@ fn fails_after(rt: &HostRuntime, left: usize) -> Result<bool, AllocError> {
     let words = words_of(rt, line.as_str())?;
     let mut out = Short::new(rt, left);
     let mut err = Told::new(rt.alloc(), false);
-    let status = grid(rt, words.as_slice(), &HERE, &mut out, &mut err);
+    let mut files = DiskFiles::new(rt);
+    let status = grid(rt, words.as_slice(), &HERE, &mut files, &mut out, &mut err);
     let beginning = counted(rt, left)?;
     Ok(
         status == 7

@@ -4,7 +4,7 @@
 use crate::runs::{
     CLOSED, HERE, ZEROS_CAP, begins_with_zeros, cap_line, path, removes_all, words_of,
 };
-use grid_commands::grid;
+use grid_commands::{DiskFiles, grid};
 use std::alloc::AllocError;
 use std::fs;
 use std::os::unix::fs::symlink;
@@ -18,7 +18,8 @@ fn got(rt: &HostRuntime, output: &str) -> Result<(u8, String), AllocError> {
     let words = words_of(rt, line.as_str())?;
     let mut out = Vec::new(rt.alloc());
     let mut err = Told::new(rt.alloc(), false);
-    let status = grid(rt, words.as_slice(), &HERE, &mut out, &mut err);
+    let mut files = DiskFiles::new(rt);
+    let status = grid(rt, words.as_slice(), &HERE, &mut files, &mut out, &mut err);
     let told = String::from_utf8(Vec::from_slice(rt.alloc(), err.as_slice())?);
     Ok((status, told.unwrap_or(String::new(rt.alloc()))))
 }

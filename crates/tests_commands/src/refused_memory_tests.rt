@@ -6,7 +6,7 @@ use crate::runs::{
     HERE, ONES, ZEROS_CAP, ZEROS_PUT, begins_with_zeros, cap_line, makes_file, put_line,
     removes_all, words_of,
 };
-use grid_commands::grid;
+use grid_commands::{DiskFiles, grid};
 use test_writers::Told;
 
 // Whether the words of a line end well and write this, or tell that memory was refused and write
@@ -19,7 +19,8 @@ fn gives_or_is_refused(rt: &HostRuntime, line: &str, wanted: &[u8]) -> bool {
     ) else {
         return true;
     };
-    match grid(rt, words.as_slice(), &HERE, &mut out, &mut err) {
+    let mut files = DiskFiles::new(rt);
+    match grid(rt, words.as_slice(), &HERE, &mut files, &mut out, &mut err) {
         0 => out.as_slice() == wanted && err.rest().is_empty(),
         7 => {
             let is_begun = line.starts_with("grid get ") && wanted.starts_with(out.as_slice());

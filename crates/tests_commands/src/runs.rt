@@ -2,7 +2,7 @@
 //!
 //! The helpers answer no where memory is out or the system refuses a file.
 
-use grid_commands::{Environment, grid};
+use grid_commands::{DiskFiles, Environment, grid};
 use std::alloc::AllocError;
 use std::fs;
 use test_writers::Told;
@@ -111,7 +111,15 @@ fn gives(rt: &HostRuntime, line: &str, out: &[u8]) -> bool {
     };
     let mut written = Vec::new(rt.alloc());
     let mut told = Told::new(rt.alloc(), false);
-    let status = grid(rt, words.as_slice(), &HERE, &mut written, &mut told);
+    let mut files = DiskFiles::new(rt);
+    let status = grid(
+        rt,
+        words.as_slice(),
+        &HERE,
+        &mut files,
+        &mut written,
+        &mut told,
+    );
     status == 0 && written.as_slice() == out && told.rest().is_empty()
 }
 

@@ -2,7 +2,7 @@
 
 use crate::host::{Odd, OddHost, Plan};
 use crate::runs::{CAP_131074, Ended, HERE, begin, counted, path, remove, run};
-use grid_commands::grid;
+use grid_commands::{DiskFiles, grid};
 use std::alloc::AllocError;
 use std::io::{self, IsTerminal, Write};
 
@@ -192,7 +192,16 @@ fn gets_without_lines(rt: &HostRuntime) -> io::Result<bool> {
     let line = cap_line(rt, "get", CAP_131074)?;
     let words: Vec<&str> = line.split(' ').collect(rt.alloc())?;
     let mut out = Vec::new(rt.alloc());
-    let status = grid(&host, words.as_slice(), &HERE, &mut out, &mut DeadTerminal);
+    let mut files = DiskFiles::new(&host);
+    let mut err = DeadTerminal;
+    let status = grid(
+        &host,
+        words.as_slice(),
+        &HERE,
+        &mut files,
+        &mut out,
+        &mut err,
+    );
     let file = counted(rt, 131_074)?;
     Ok(is_put && status == 0 && out.as_slice() == file.as_slice())
 }

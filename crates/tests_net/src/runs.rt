@@ -1,7 +1,7 @@
 //! Runs of commands in a folder that is this process's own.
 
 use crate::host::{OddHost, Plan};
-use grid_commands::{Environment, grid};
+use grid_commands::{DiskFiles, Environment, grid};
 use std::alloc::AllocError;
 use std::{fs, io};
 use test_writers::Told;
@@ -75,7 +75,15 @@ pub(crate) fn run(host: &OddHost<'_>, line: &str, is_terminal: bool) -> Result<E
     let alloc = host.rt.alloc();
     let words: Vec<&str> = line.split(' ').collect(alloc)?;
     let (mut out, mut err) = (Vec::new(alloc), Told::new(alloc, is_terminal));
-    let status = grid(host, words.as_slice(), &HERE, &mut out, &mut err);
+    let mut files = DiskFiles::new(host);
+    let status = grid(
+        host,
+        words.as_slice(),
+        &HERE,
+        &mut files,
+        &mut out,
+        &mut err,
+    );
     Ok(Ended { status, out, err })
 }
 

@@ -1,23 +1,27 @@
-use Rattle.grid_commands.proofs.RunLemmas.{check_run, describe_run, init_run, put_run, repair_run, scrub_run, world_run}
+use Rattle.std.proofs.Common.{refl}
+use Rattle.grid_commands.proofs.RunLemmas.{check_run, describe_run, get_run, init_run, put_run, repair_run, scrub_run, world_run}
 use Rattle.grid_commands.proofs.run.Goals as goal
 
 pub returns-in-Init : goal.returns-in-Init
-returns-in-Init g c = init_run _ _ c.args.request.now c.printed.result _ _ c.in-Init.words c.init.result c.in-Init.is c.init.ensures c.printed.ensures.done c.printed.ensures.undone
+returns-in-Init g c = init_run _ _ c.args.request.now c.printed.result _ _ _ _ refl c.in-Init.words c.init.result c.in-Init.is c.init.ensures c.printed.ensures.done c.printed.ensures.undone
 
 pub returns-in-Put : goal.returns-in-Put
-returns-in-Put g c = put_run _ _ c.args.request.now c.told.result _ _ c.in-Put.words c.put.result c.in-Put.is c.put.ensures c.told.ensures.done c.told.ensures.undone
+returns-in-Put g c = put_run _ _ c.args.request.now c.told.result _ _ _ _ refl c.in-Put.words c.put.result c.in-Put.is c.put.ensures c.told.ensures.done c.told.ensures.undone
+
+pub returns-in-Get : goal.returns-in-Get
+returns-in-Get g c = get_run _ _ c.args.request.now c.got.result _ _ _ _ c.in-Get.words c.in-Get.is c.got.ensures.done c.got.ensures.undone c.got.ensures.filed
 
 pub returns-in-Check : goal.returns-in-Check
-returns-in-Check g c = check_run _ _ c.args.request.now c.told-in-Check.result _ _ c.in-Check.words c.check.result c.in-Check.is c.check.ensures c.told-in-Check.ensures.done c.told-in-Check.ensures.undone
+returns-in-Check g c = check_run _ _ c.args.request.now c.told-in-Check.result _ _ _ _ refl c.in-Check.words c.check.result c.in-Check.is c.check.ensures c.told-in-Check.ensures.done c.told-in-Check.ensures.undone
 
 pub returns-in-Repair : goal.returns-in-Repair
-returns-in-Repair g c = repair_run _ _ c.args.request.now c.told-in-Repair.result _ _ c.in-Repair.words c.repair.result c.in-Repair.is c.repair.ensures c.told-in-Repair.ensures.done c.told-in-Repair.ensures.undone
+returns-in-Repair g c = repair_run _ _ c.args.request.now c.told-in-Repair.result _ _ _ _ refl c.in-Repair.words c.repair.result c.in-Repair.is c.repair.ensures c.told-in-Repair.ensures.done c.told-in-Repair.ensures.undone
 
 pub returns-in-Scrub : goal.returns-in-Scrub
-returns-in-Scrub g c = scrub_run _ _ c.args.request.now c.scrub.result _ _ c.in-Scrub.words c.in-Scrub.is c.scrub.ensures
+returns-in-Scrub g c = scrub_run _ _ c.args.request.now c.scrub.result _ _ _ _ refl c.in-Scrub.words c.in-Scrub.is c.scrub.ensures
 
 pub returns-in-World : goal.returns-in-World
-returns-in-World g c = world_run _ _ c.args.request.now c.world.result _ _ c.in-World.path c.in-World.is c.world.ensures.done c.world.ensures.undone
+returns-in-World g c = world_run _ _ c.args.request.now c.world.result _ _ _ _ refl c.in-World.path c.in-World.is c.world.ensures.done c.world.ensures.undone
 
 pub returns-in-Describe : goal.returns-in-Describe
-returns-in-Describe g c = describe_run _ _ c.args.request.now c.printed-in-Describe.result _ _ c.in-Describe.text c.describe.result c.in-Describe.is c.describe.ensures c.printed-in-Describe.ensures.done c.printed-in-Describe.ensures.undone
+returns-in-Describe g c = describe_run _ _ c.args.request.now c.printed-in-Describe.result _ _ _ _ refl c.in-Describe.text c.describe.result c.in-Describe.is c.describe.ensures c.printed-in-Describe.ensures.done c.printed-in-Describe.ensures.undone

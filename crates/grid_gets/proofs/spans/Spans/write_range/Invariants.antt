@@ -7,7 +7,7 @@ use Rattle.grid_gets.proofs.spans.Spans.write_range.Given as goal
 abbrev pub invariant-spans : goal.invariant-spans
 invariant-spans g l = record {
   within : l.from ≤ l.range.to;
-  leads : Leads (IsCarriedOver (pair_calls g.R.Stream.Write.contents g.R.Stream.Read.remaining)) l.cap l.fn.self l.range.from (g.O.Write.contents l.fn.out) l.self l.from (g.O.Write.contents l.out);
+  leads : Leads (IsCarriedOver (pair_calls g.R.Stream.Write.contents g.R.Stream.Read.remaining)) l.cap l.servers l.fn.self l.range.from (g.O.Write.contents l.fn.out) l.self l.from (g.O.Write.contents l.out);
 }
 
 abbrev pub decreases-spans : goal.decreases-spans

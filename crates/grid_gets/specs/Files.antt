@@ -1,0 +1,62 @@
+-- What a get does with the file that a `-o` names.
+use Rattle.std.specs.Prelude.{◌≡◌, ◌⊎◌, ℕ, List, [], ◌∷◌, ◌++◌, Option, Some, None, Result, OnOk}
+use Rattle.std.specs.Prelude.{IfErr, ⊤}
+use Rattle.cap_text.specs.declared.cap.Cap.{Cap}
+use Rattle.local_grid.specs.Nodes.{Carries}
+use Rattle.grid_rules.specs.declared.range.ByteRange.{ByteRange}
+use Rattle.grid_telling.specs.declared.outcome.Failure.{Failure}
+use Rattle.grid_words.specs.declared.words.GetWords.{GetWords}
+use Rattle.grid_gets.specs.Gets.{IsBegunBy, IsBegunOf, IsGotBy, IsGotOf, UnlessWriter}
+
+-- What is done with a file of a name. What is written was opened for this path, and held these
+-- bytes; it was ended with this outcome, and held these bytes then.
+pub data FileAct : Type 0 where
+  opened : (path : List ℕ) → (held : Option (List ℕ)) → FileAct
+  ended : (holds : Option (List ℕ)) → (outcome : Result (Unit {0}) Failure) → FileAct
+
+-- This was done more, where it is known what was done.
+abbrev pub Adds : Option (List FileAct) → Option (List FileAct) → List FileAct → Type 0
+Adds None new acts = ⊤
+Adds (Some done) new acts = new ≡ Some (done ++ acts)
+
+-- A file was opened for this path and ended with this outcome, and no other. Bytes were handed to
+-- it in between: all of them where the outcome is Ok, else a beginning, unless it failed itself.
+pub record IsHanded (IsWhole IsBegun : Option (List ℕ) → Option (List ℕ) → Type 0)
+    (path : List ℕ) (outcome : Result (Unit {0}) Failure) (old new : Option (List FileAct))
+    : Type 0 where
+  pub held : Option (List ℕ)
+  pub holds : Option (List ℕ)
+  pub acts : Adds old new (opened path held ∷ ended holds outcome ∷ [])
+  pub whole : OnOk outcome (IsWhole held holds)
+  pub begun : IfErr outcome (λ failure. UnlessWriter failure (IsBegun held holds))
+
+-- Nothing was opened, or one was for this path, and ended with some outcome.
+abbrev pub MayBeHanded : (Option (List ℕ) → Option (List ℕ) → Type 0)
+    → (Option (List ℕ) → Option (List ℕ) → Type 0) → List ℕ → Option (List FileAct)
+    → Option (List FileAct) → Type 0
+MayBeHanded IsWhole IsBegun path old new = (new ≡ old)
+    ⊎ ((outcome : Result (Unit {0}) Failure) × IsHanded IsWhole IsBegun path outcome old new)
+
+-- ---- by the words of a get
+
+-- The bytes that its words ask for were handed to a file of a path.
+abbrev pub IsFileBy : {L : Type 0} → Carries L → GetWords → List ℕ → Result (Unit {0}) Failure
+    → Option (List FileAct) → Option (List FileAct) → Type 0
+IsFileBy carries words = IsHanded (IsGotBy carries words) (IsBegunBy carries words)
+
+abbrev pub MayBeFileBy : {L : Type 0} → Carries L → GetWords → List ℕ → Option (List FileAct)
+    → Option (List FileAct) → Type 0
+MayBeFileBy carries words = MayBeHanded (IsGotBy carries words) (IsBegunBy carries words)
+
+-- ---- words of private clauses
+
+-- The same of a range of a cap's file.
+abbrev pub IsFileOf : {L : Type 0} → Carries L → GetWords → Cap → ByteRange → List ℕ
+    → Result (Unit {0}) Failure → Option (List FileAct) → Option (List FileAct) → Type 0
+IsFileOf carries words cap range = IsHanded (IsGotOf carries words cap range)
+    (λ held holds. IsBegunOf carries words range held holds cap)
+
+abbrev pub MayBeFileOf : {L : Type 0} → Carries L → GetWords → Cap → ByteRange → List ℕ
+    → Option (List FileAct) → Option (List FileAct) → Type 0
+MayBeFileOf carries words cap range = MayBeHanded (IsGotOf carries words cap range)
+    (λ held holds. IsBegunOf carries words range held holds cap)
