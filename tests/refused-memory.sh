@@ -81,7 +81,7 @@ run() {
     wait $!
     status=$?
     grep -v '^made ' all > err
-    rm -rf "$(dirname "$room")/grid-tests-$!" "$(dirname "$room")/share-store-tests-$!"
+    rm -rf ./*-tests-$!*
 }
 
 is_as_without() {
