@@ -10,8 +10,9 @@
 # there is one.
 cd "$(dirname "$0")/.." || exit 2
 
-# Lines that may: a sum or an offset that does not fit 64 bits counts as one too many for the memory,
-# a machine or a world that ended without memory is told so, and so is an error of the command line.
+# Lines that may: a sum or an offset that does not fit 64 bits counts as one too many for the
+# memory, a machine or a world that ended without memory is told so, and so is an error of the
+# command line.
 allowed=$(cat <<'END'
 share_store/src/memory.rt:return Err(StoreError::OutOfMemory);
 request_record/src/entries.rt:return Err(AllocError);

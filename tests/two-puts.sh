@@ -26,8 +26,8 @@
 # known there. Bytes that are written and synced go to open files, which are of one program alone.
 # With `all` the stops of both are all of their calls, which takes some hours.
 #
-# It needs gcc and python3, and takes three minutes with TMPDIR in memory, and up to twenty on a busy
-# disk. Each scene has a line, behind its first faults, and one that counts how the first and the
+# It needs gcc and python3, and takes three minutes with TMPDIR in memory, and up to twenty on a
+# busy disk. Each scene has a line, behind its first faults, and one that counts how the first and the
 # second ended. The last line is `runs N faults N`; the status is 0 where there are no faults, 1
 # where there are, and 2 where nothing could be run.
 

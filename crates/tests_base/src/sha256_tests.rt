@@ -91,7 +91,8 @@ fn tags_are_netstrings_before_the_message(rt: HostRuntime) {
 #[test]
 fn a_node_is_the_netstrings_of_its_children(rt: HostRuntime) {
     let input =
-        b"25:Merkle tree internal node,32:llllllllllllllllllllllllllllllll,32:rrrrrrrrrrrrrrrrrrrrrrrrrrrrrrrr,";
+        b"25:Merkle tree internal node,32:llllllllllllllllllllllllllllllll,32:rrrrrrrrrrrrrrrrrrrr\
+            rrrrrrrrrrrr,";
     assert!(rt; pair(&[b'l'; 32], &[b'r'; 32]) == twice(input));
     assert!(rt; pair(&[b'l'; 32], &[b'r'; 32]) == tagged(Tag::TreeNode, &input[29..]));
 }

@@ -1,5 +1,5 @@
-//! Shares are put on a disk that stops at each call in turn, and is found in each state that a crash
-//! may leave.
+//! Shares are put on a disk that stops at each call in turn, and is found in each state that a
+//! crash may leave.
 
 use crate::crash_disk::{CrashDisk, Held};
 use disks::own::{begin, discard};

@@ -132,11 +132,16 @@ fn is_written(alloc: Global, cap: &Cap, text: &str) -> Result<bool, AllocError> 
 }
 
 const CAPS: [&str; 5] = [
-    "URI:CHK:vwuwqphq6vtyhagrqwyqajtjoq:mulphu6sadrudv3w5tjchnmax5njyq74hibk3qaudszblkawpxgq:1:1:56",
-    "URI:CHK:5ervuplwjtqf5caeknmrecgz54:24yuguv5na3h27x2i5w2i77yy5yujv6vcnbabzeljhzb4gaqqzyq:3:10:56",
-    "URI:CHK:x45opozjlsd45uhibsv2apw46e:upsh3wg4mj5hhojd7qv6ug2rqe7zphsxgbnniumsdns2twtt3vyq:3:10:131074",
-    "URI:CHK:7lybh5ouvumxd73pofyvmqwohi:tgutdhok27z7bf3fuj4wxdxubyrgszgkvscudrmudup63ucwbgcq:2:5:30000",
-    "URI:CHK:6ozi2qamud4qu5yb4pxpwvwg6q:cybh7pnuhaymiyfoyrjqrpph4h5ifrdfnw5eqyv7pmgguelrnr7a:256:256:256",
+    "URI:CHK:vwuwqphq6vtyhagrqwyqajtjoq:mulphu6sadrudv3w5tjchnmax5njyq74hibk3qaudszblkawpxgq:1:1:5\
+        6",
+    "URI:CHK:5ervuplwjtqf5caeknmrecgz54:24yuguv5na3h27x2i5w2i77yy5yujv6vcnbabzeljhzb4gaqqzyq:3:10:\
+        56",
+    "URI:CHK:x45opozjlsd45uhibsv2apw46e:upsh3wg4mj5hhojd7qv6ug2rqe7zphsxgbnniumsdns2twtt3vyq:3:10:\
+        131074",
+    "URI:CHK:7lybh5ouvumxd73pofyvmqwohi:tgutdhok27z7bf3fuj4wxdxubyrgszgkvscudrmudup63ucwbgcq:2:5:3\
+        0000",
+    "URI:CHK:6ozi2qamud4qu5yb4pxpwvwg6q:cybh7pnuhaymiyfoyrjqrpph4h5ifrdfnw5eqyv7pmgguelrnr7a:256:2\
+        56:256",
 ];
 
 // Whether a file whose byte i is i modulo 251 becomes this cap, and shares of this length with

@@ -70,7 +70,8 @@ fn files_become_their_caps(rt: HostRuntime) -> Result<(), Fail> {
             &[0; 56],
             b"",
             (1, 1, 131_072),
-            "URI:CHK:vwuwqphq6vtyhagrqwyqajtjoq:mulphu6sadrudv3w5tjchnmax5njyq74hibk3qaudszblkawpxgq:1:1:56"
+            "URI:CHK:vwuwqphq6vtyhagrqwyqajtjoq:mulphu6sadrudv3w5tjchnmax5njyq74hibk3qaudszblkawpx\
+                gq:1:1:56"
         )?
     );
     assert!(rt;
@@ -79,7 +80,8 @@ fn files_become_their_caps(rt: HostRuntime) -> Result<(), Fail> {
             &counted(alloc, 56)?,
             b"",
             (3, 10, 131_072),
-            "URI:CHK:5ervuplwjtqf5caeknmrecgz54:24yuguv5na3h27x2i5w2i77yy5yujv6vcnbabzeljhzb4gaqqzyq:3:10:56"
+            "URI:CHK:5ervuplwjtqf5caeknmrecgz54:24yuguv5na3h27x2i5w2i77yy5yujv6vcnbabzeljhzb4gaqqz\
+                yq:3:10:56"
         )?
     );
     assert!(rt;
@@ -88,7 +90,8 @@ fn files_become_their_caps(rt: HostRuntime) -> Result<(), Fail> {
             &counted(alloc, 131_074)?,
             b"",
             (3, 10, 131_072),
-            "URI:CHK:x45opozjlsd45uhibsv2apw46e:upsh3wg4mj5hhojd7qv6ug2rqe7zphsxgbnniumsdns2twtt3vyq:3:10:131074"
+            "URI:CHK:x45opozjlsd45uhibsv2apw46e:upsh3wg4mj5hhojd7qv6ug2rqe7zphsxgbnniumsdns2twtt3v\
+                yq:3:10:131074"
         )?
     );
     assert!(rt;
@@ -97,7 +100,8 @@ fn files_become_their_caps(rt: HostRuntime) -> Result<(), Fail> {
             &counted(alloc, 30_000)?,
             b"friends of the grid",
             (2, 5, 4096),
-            "URI:CHK:7lybh5ouvumxd73pofyvmqwohi:tgutdhok27z7bf3fuj4wxdxubyrgszgkvscudrmudup63ucwbgcq:2:5:30000"
+            "URI:CHK:7lybh5ouvumxd73pofyvmqwohi:tgutdhok27z7bf3fuj4wxdxubyrgszgkvscudrmudup63ucwbg\
+                cq:2:5:30000"
         )?
     );
     assert!(rt;
@@ -106,7 +110,8 @@ fn files_become_their_caps(rt: HostRuntime) -> Result<(), Fail> {
             &counted(alloc, 256)?,
             b"",
             (256, 256, 131_072),
-            "URI:CHK:6ozi2qamud4qu5yb4pxpwvwg6q:cybh7pnuhaymiyfoyrjqrpph4h5ifrdfnw5eqyv7pmgguelrnr7a:256:256:256"
+            "URI:CHK:6ozi2qamud4qu5yb4pxpwvwg6q:cybh7pnuhaymiyfoyrjqrpph4h5ifrdfnw5eqyv7pmgguelrnr\
+                7a:256:256:256"
         )?
     );
     Ok(())

@@ -49,8 +49,10 @@ fn tells_failure(alloc: Global, cap: &Cap, text: &[u8], left: usize) -> bool {
 #[test]
 fn a_cap_is_cut_where_its_writer_fails(rt: HostRuntime) -> Result<(), Fail> {
     let texts = [
-        "URI:CHK:5ervuplwjtqf5caeknmrecgz54:24yuguv5na3h27x2i5w2i77yy5yujv6vcnbabzeljhzb4gaqqzyq:3:10:56",
-        "URI:CHK-Verifier:btqtqeoqjcl3aeqkqmueqgjgiy:24yuguv5na3h27x2i5w2i77yy5yujv6vcnbabzeljhzb4gaqqzyq:3:10:56",
+        "URI:CHK:5ervuplwjtqf5caeknmrecgz54:24yuguv5na3h27x2i5w2i77yy5yujv6vcnbabzeljhzb4gaqqzyq:3\
+            :10:56",
+        "URI:CHK-Verifier:btqtqeoqjcl3aeqkqmueqgjgiy:24yuguv5na3h27x2i5w2i77yy5yujv6vcnbabzeljhzb4\
+            gaqqzyq:3:10:56",
         "URI:LIT:nbswy3dp",
     ];
     for text in texts {

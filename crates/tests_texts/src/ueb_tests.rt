@@ -6,7 +6,10 @@ use ueb::{Expect, MAX_LENGTH, Ueb, UebError};
 
 // A block of a file of 56 bytes at 3 of 10, with hashes that can be read.
 const GOOD: &str =
-    "codec_name:3:crs,codec_params:7:57-3-10,crypttext_hash:32:abcdefghijklmnopqrstuvwxyz012345,crypttext_root_hash:32:ABCDEFGHIJKLMNOPQRSTUVWXYZ012345,needed_shares:1:3,num_segments:1:1,segment_size:2:57,share_root_hash:32:0123456789abcdefghijklmnopqrstuv,size:2:56,tail_codec_params:7:57-3-10,total_shares:2:10,";
+    "codec_name:3:crs,codec_params:7:57-3-10,crypttext_hash:32:abcdefghijklmnopqrstuvwxyz012345,cr\
+        ypttext_root_hash:32:ABCDEFGHIJKLMNOPQRSTUVWXYZ012345,needed_shares:1:3,num_segments:1:1,s\
+        egment_size:2:57,share_root_hash:32:0123456789abcdefghijklmnopqrstuv,size:2:56,tail_codec_\
+        params:7:57-3-10,total_shares:2:10,";
 
 const EXPECT: Expect = Expect {
     needed: 3,
