@@ -1,5 +1,6 @@
 mod Durable
 mod OwnNames
+mod OwnFiles
 mod Kept
 mod Held
 mod Beside
@@ -9,6 +10,7 @@ mod Changes
 mod Replays
 mod Alone
 mod Named
+mod Unused
 mod Polite
 mod Sparing
 mod Moved

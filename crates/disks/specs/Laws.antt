@@ -1,7 +1,7 @@
 -- What holds of folders.
-use Rattle.std.specs.Prelude.{◌≡◌, ◌≢◌, ◌⊎◌, ℕ, List, Some, true}
+use Rattle.std.specs.Prelude.{◌≡◌, ◌≢◌, ◌⊎◌, ℕ, List, Some, true, false}
 use Rattle.disks.specs.Names.{Name, lasts}
-use Rattle.disks.specs.Folder.{Folder, HasBytes, IsDurable, IsOneOf, Crashes}
+use Rattle.disks.specs.Folder.{Folder, FileState, HasBytes, IsDurable, IsOneOf, IsOwn, Crashes}
 
 -- What is durable stays so through a crash.
 abbrev pub DurableOutlasts : Type 0
@@ -35,3 +35,17 @@ KeepsBut last bytes s t = (name : Name) (kept : List ℕ) → lasts name ≡ tru
 abbrev pub KeepsBeside : Name → Folder → Folder → Type 0
 KeepsBeside last s t = (name : Name) (bytes : List ℕ) → lasts name ≡ true
     → name ≢ last → IsDurable s name bytes → IsDurable t name bytes
+
+-- This program's own files stay as they are.
+abbrev pub OwnStay : Folder → Folder → Type 0
+OwnStay s t = (name : Name) (i : ℕ) (file : FileState) → IsOwn s name i file → IsOwn t name i file
+
+-- So do those under other names than this one.
+abbrev pub OwnStayBeside : Name → Folder → Folder → Type 0
+OwnStayBeside last s t = (name : Name) (i : ℕ) (file : FileState)
+    → name ≢ last → IsOwn s name i file → IsOwn t name i file
+
+-- So do others than this one, under names that pass.
+abbrev pub OwnStayBut : ℕ → Folder → Folder → Type 0
+OwnStayBut last s t = (name : Name) (i : ℕ) (file : FileState)
+    → lasts name ≡ false → i ≢ last → IsOwn s name i file → IsOwn t name i file

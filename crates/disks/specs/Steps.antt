@@ -16,10 +16,12 @@ SameFiles s t = (i : ℕ) → t.file i ≡ s.file i
 abbrev pub OtherFilesStay : ℕ → Folder → Folder → Type 0
 OtherFilesStay i s t = (j : ℕ) → j ≢ i → t.file j ≡ s.file j
 
--- A file was made where nothing stood: the name is this program's own from then on.
+-- A file was made where nothing stood. It is none of those that stand under a name, and its name is
+-- this program's own from then on.
 pub record Creates (name : Name) (i : ℕ) (s t : Folder) : Type 0 where
   pub free : s.found name ≡ None
   pub new : (s.file i).is_finished ≡ false
+  pub fresh : (other : Name) → s.found other ≢ Some i
   pub found : t.found name ≡ Some i
   pub own : t.own name ≡ true
   pub file : t.file i ≡ record { bytes = []; is_synced = false; is_finished = false }

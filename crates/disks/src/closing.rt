@@ -4,7 +4,7 @@ ghost use Rattle.std.specs.Prelude.{◌≡◌, ℕ, List, Bool, true, false, OnO
 ghost use Rattle.disks.specs.Names.{lasts};
 ghost use Rattle.disks.specs.Folder.{IsOwn, IsDurable, HasBytes};
 ghost use Rattle.disks.specs.Past.{Passed};
-ghost use Rattle.disks.specs.Laws.{KeepsBut, KeepsBeside, FilesStay};
+ghost use Rattle.disks.specs.Laws.{FilesStay, KeepsBeside, KeepsBut, OwnStayBut};
 
 use crate::disk::Disk;
 use crate::error::DiskError;
@@ -38,6 +38,10 @@ pub fn finish_synced<D: Disk>(
         → IsOwn (D.folder disk.old) own.now (D.inode file.now)
         (record { bytes = bytes; is_synced = true; is_finished = false })
         → FilesStay (D.folder disk.old) (D.folder disk.new) }
+    ensures others { D.honest disk.new → (bytes : List ℕ)
+        → IsOwn (D.folder disk.old) own.now (D.inode file.now)
+        (record { bytes = bytes; is_synced = true; is_finished = false })
+        → OwnStayBut (D.inode file.now) (D.folder disk.old) (D.folder disk.new) }
     ensures any_moment { D.honest disk.new → (bytes : List ℕ)
         → IsOwn (D.folder disk.old) own.now (D.inode file.now)
         (record { bytes = bytes; is_synced = true; is_finished = false })
@@ -74,6 +78,10 @@ pub fn finish_unsynced<D: Disk>(
         → IsOwn (D.folder disk.old) own.now (D.inode file.now)
         (record { bytes = bytes; is_synced = synced; is_finished = false })
         → FilesStay (D.folder disk.old) (D.folder disk.new) }
+    ensures others { D.honest disk.new → (bytes : List ℕ) (synced : Bool)
+        → IsOwn (D.folder disk.old) own.now (D.inode file.now)
+        (record { bytes = bytes; is_synced = synced; is_finished = false })
+        → OwnStayBut (D.inode file.now) (D.folder disk.old) (D.folder disk.new) }
 {
     disk.rename(file, length, own, last)
 }

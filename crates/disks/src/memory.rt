@@ -2,9 +2,9 @@
 //! is there.
 
 ghost use Rattle.std.specs.Prelude.{◌≡◌, ◌++◌, [], ◌∷◌, IfOk, OnOk, OnErr, IsTrue, length, take};
-ghost use Rattle.std.specs.Prelude.{drop, map};
+ghost use Rattle.std.specs.Prelude.{drop, false, map};
 ghost use Rattle.disks.specs.Folder.{Folder};
-ghost use Rattle.disks.specs.Replay.{happens, replay, states, AreNamed, HasFound};
+ghost use Rattle.disks.specs.Replay.{happens, replay, states, AreNamed, HasFound, IsUnused};
 ghost use Rattle.std.specs.String.{string_bytes};
 
 use crate::disk::{Disk, HonestDisk};
@@ -100,28 +100,29 @@ fn found_in(events: &[Event], name: &str) -> Option<u64>
     found
 }
 
-// Whether a file is finished after a call, where it was so before.
-fn finished_after(event: &Event, number: u64, finished: bool) -> bool
-    ensures { (s : Folder) → (s.file number).is_finished ≡ finished
-        → result ≡ ((happens s event.now).file number).is_finished }
+// Whether a call gave a name to the file of this number.
+fn is_named_by(event: &Event, number: u64) -> bool
+    ensures { result ≡ false → (s : Folder) → IsUnused number s
+        → IsUnused number (happens s event.now) }
 {
     match event {
-        Event::Created(_, other) if number == *other => false,
-        Event::Renamed(_, _, other) if number == *other => true,
-        Event::Linked(_, other) if number == *other => true,
-        _ => finished,
+        Event::Created(_, other) => number == *other,
+        Event::Renamed(_, _, other) => number == *other,
+        Event::Linked(_, other) => number == *other,
+        _ => false,
     }
 }
 
-// Whether a file is finished.
-fn is_finished_in(events: &[Event], number: u64) -> bool
-    ensures { result ≡ ((replay events.now).file number).is_finished }
+// Whether a file has, or had, this number.
+fn is_used_in(events: &[Event], number: u64) -> bool
+    ensures { result ≡ false → IsUnused number (replay events.now) }
 {
-    let mut finished = false;
     for event in events {
-        finished = finished_after(event, number, finished);
+        if is_named_by(event, number) {
+            return true;
+        }
     }
-    finished
+    false
 }
 
 // The bytes of a file after a call, where it had these before.
@@ -215,7 +216,7 @@ impl Disk for MemoryDisk {
         if found_in(self.events.as_slice(), name).is_some() {
             return Err(DiskError::AlreadyExists);
         }
-        if is_finished_in(self.events.as_slice(), number) {
+        if is_used_in(self.events.as_slice(), number) {
             return Err(DiskError::Failed);
         }
         let name = String::from_str(self.alloc, name)?;

@@ -4,7 +4,7 @@ ghost use Rattle.std.specs.Prelude.{◌≡◌, ℕ, List, true, map, Contains, I
 ghost use Rattle.std.specs.String.{string_bytes};
 ghost use Rattle.disks.specs.Names.{Name, lasts};
 ghost use Rattle.disks.specs.Folder.{Folder, IsDurable, HasBytes, StandsFor, Crashes};
-ghost use Rattle.disks.specs.Laws.{StaysHeld};
+ghost use Rattle.disks.specs.Laws.{OwnStay, StaysHeld};
 ghost use Rattle.disks.specs.Past.{Passed};
 ghost use Rattle.disks.specs.Whole.{Keeps, Any};
 
@@ -24,6 +24,7 @@ pub fn names<D: Disk>(alloc: Global, disk: &mut D) -> Result<Vec<String>, DiskEr
         × HasBytes (D.folder disk.new) bytes ((D.folder disk.new).found name)
         × IsDurable (D.folder disk.new) name bytes) }
     ensures stays { D.honest disk.new → StaysHeld (D.folder disk.old) (D.folder disk.new) }
+    ensures own { D.honest disk.new → OwnStay (D.folder disk.old) (D.folder disk.new) }
 {
     disk.list(alloc)
 }
@@ -37,6 +38,7 @@ pub fn sync_names<D: Disk>(disk: &mut D) -> Result<(), DiskError>
         → StandsFor (D.folder disk.old) bytes ((D.folder disk.old).found name)
         → OnOk result (IsDurable (D.folder disk.new) name bytes) }
     ensures stays { D.honest disk.new → StaysHeld (D.folder disk.old) (D.folder disk.new) }
+    ensures own { D.honest disk.new → OwnStay (D.folder disk.old) (D.folder disk.new) }
     ensures owns { D.honest disk.new → (name : Name)
         → (D.folder disk.new).own name ≡ (D.folder disk.old).own name }
     ensures kept { D.honest disk.new → (own : Name)

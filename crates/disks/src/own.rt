@@ -1,10 +1,10 @@
 //! Files of a program's own, under names that pass.
 
-ghost use Rattle.std.specs.Prelude.{◌≡◌, ◌++◌, ℕ, List, Bool, true, false, IfOk, OnOk};
+ghost use Rattle.std.specs.Prelude.{◌≡◌, ◌≢◌, ◌++◌, ℕ, List, Bool, true, false, IfOk, OnOk};
 ghost use Rattle.disks.specs.Names.{Name, lasts};
 ghost use Rattle.disks.specs.Folder.{FileState, IsOwn};
 ghost use Rattle.disks.specs.Changed.{nothing};
-ghost use Rattle.disks.specs.Laws.{StaysHeld};
+ghost use Rattle.disks.specs.Laws.{OwnStayBeside, OwnStayBut, StaysHeld};
 
 use crate::disk::Disk;
 use crate::error::DiskError;
@@ -17,7 +17,12 @@ pub fn begin<D: Disk>(disk: &mut D, name: &str) -> Result<D::File, DiskError>
     ensures so_far { D.honest disk.new → D.honest disk.old }
     ensures begun { D.honest disk.new → IfOk result
         (λ file. IsOwn (D.folder disk.new) name.now (D.inode file) nothing) }
+    ensures apart { D.honest disk.new → IfOk result (λ file. (other : Name) (i : ℕ)
+        (was : FileState) → other ≢ name.now → IsOwn (D.folder disk.old) other i was
+        → i ≢ D.inode file) }
     ensures kept { D.honest disk.new → StaysHeld (D.folder disk.old) (D.folder disk.new) }
+    ensures others { D.honest disk.new
+        → OwnStayBeside name.now (D.folder disk.old) (D.folder disk.new) }
 {
     match disk.create(name) {
         Ok(file) => return Ok(file),
@@ -34,6 +39,8 @@ fn remove_regular<D: Disk>(disk: &mut D, name: &str) -> Result<(), DiskError>
     ensures place { D.place disk.new ≡ D.place disk.old }
     ensures so_far { D.honest disk.new → D.honest disk.old }
     ensures kept { D.honest disk.new → StaysHeld (D.folder disk.old) (D.folder disk.new) }
+    ensures others { D.honest disk.new
+        → OwnStayBeside name.now (D.folder disk.old) (D.folder disk.new) }
 {
     if disk.find(name)?.is_none() {
         return Err(DiskError::Failed);
@@ -47,6 +54,8 @@ pub fn discard<D: Disk>(disk: &mut D, name: &str) -> Result<(), DiskError>
     ensures place { D.place disk.new ≡ D.place disk.old }
     ensures so_far { D.honest disk.new → D.honest disk.old }
     ensures kept { D.honest disk.new → StaysHeld (D.folder disk.old) (D.folder disk.new) }
+    ensures others { D.honest disk.new
+        → OwnStayBeside name.now (D.folder disk.old) (D.folder disk.new) }
 {
     disk.remove(name)
 }
@@ -66,6 +75,8 @@ pub fn write<D: Disk>(disk: &mut D, file: &mut D::File, bytes: &[u8]) -> Result<
         → IsOwn (D.folder disk.old) name (D.inode file.old) before
         → before.is_finished ≡ false
         → StaysHeld (D.folder disk.old) (D.folder disk.new) }
+    ensures others { D.honest disk.new
+        → OwnStayBut (D.inode file.old) (D.folder disk.old) (D.folder disk.new) }
 {
     disk.append(file, bytes)
 }
@@ -83,6 +94,8 @@ pub fn sync<D: Disk>(disk: &mut D, file: &D::File) -> Result<(), DiskError>
         → IsOwn (D.folder disk.old) name (D.inode file.now) before
         → before.is_finished ≡ false
         → StaysHeld (D.folder disk.old) (D.folder disk.new) }
+    ensures others { D.honest disk.new
+        → OwnStayBut (D.inode file.now) (D.folder disk.old) (D.folder disk.new) }
 {
     disk.sync_file(file)
 }

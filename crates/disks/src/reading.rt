@@ -4,7 +4,7 @@ ghost use Rattle.std.specs.Prelude.{◌≡◌, ℕ, List, true, length, take, dr
 ghost use Rattle.std.specs.Prelude.{IfOk, OnOk};
 ghost use Rattle.disks.specs.Folder.{HasBytes};
 ghost use Rattle.disks.specs.Names.{lasts};
-ghost use Rattle.disks.specs.Laws.{StaysHeld};
+ghost use Rattle.disks.specs.Laws.{OwnStay, StaysHeld};
 
 use crate::disk::Disk;
 use crate::error::DiskError;
@@ -19,6 +19,7 @@ pub fn open_finished<D: Disk>(disk: &mut D, name: &str) -> Result<D::File, DiskE
 
     // however it ends, what other names and files have they have still
     ensures stays { D.honest disk.new → StaysHeld (D.folder disk.old) (D.folder disk.new) }
+    ensures own { D.honest disk.new → OwnStay (D.folder disk.old) (D.folder disk.new) }
 {
     disk.open(name)
 }
@@ -32,6 +33,7 @@ pub fn find_finished<D: Disk>(disk: &mut D, name: &str) -> Result<Option<u64>, D
         → HasBytes (D.folder disk.old) bytes ((D.folder disk.old).found name.now)
         → IfOk result (λ found. found ≡ Some (length bytes)) }
     ensures stays { D.honest disk.new → StaysHeld (D.folder disk.old) (D.folder disk.new) }
+    ensures own { D.honest disk.new → OwnStay (D.folder disk.old) (D.folder disk.new) }
 {
     disk.find(name)
 }
@@ -50,6 +52,7 @@ pub fn read_finished<D: Disk>(
         → HasBytes (D.folder disk.old) bytes (Some (D.inode file.old))
         → OnOk result (out.new ≡ take (length out.new) (drop offset bytes)) }
     ensures stays { D.honest disk.new → StaysHeld (D.folder disk.old) (D.folder disk.new) }
+    ensures own { D.honest disk.new → OwnStay (D.folder disk.old) (D.folder disk.new) }
 {
     disk.read_at(file, offset, out)
 }
