@@ -114,3 +114,8 @@ pub beside_noted : (r : Result Unit StoreError) (key : ShareKey) (old new : List
     → OnOk r ((other : ShareKey) → same_key key other ≡ false → at other new ≡ at other old) → OnErr r (new ≡ old) → StayBeside (same_key key) old new
 beside_noted (Ok u) key old new others err = others
 beside_noted (Err e) key old new others err = λ other apart. ap (at other) err
+
+-- open shares that stay are as long as they were
+pub on_err_lengths : {F : Type 0} (r : Result Unit StoreError) (old new : List (ShareKey × OpenShare F)) → OnErr r (new ≡ old) → OnErr r (lengths_of new ≡ lengths_of old)
+on_err_lengths (Ok u) old new same = tt
+on_err_lengths (Err e) old new same = ap lengths_of same

@@ -2,6 +2,9 @@ pub mod NameLaws
 pub mod FolderLaws
 pub mod Lasting
 pub mod Closings
+pub mod OpenLaws
 pub mod Written
 pub mod Holding
 pub mod Taking
+pub mod Told
+pub mod FolderSteps

@@ -8,7 +8,7 @@ use Rattle.share_store.specs.Shelf.{ShareKey, at}
 use Rattle.share_folders.specs.declared.files.OpenShare.{OpenShare}
 use Rattle.share_folders.specs.Folder.{length_at, lengths_of}
 use Rattle.share_folders.specs.Names.{open_name}
-use Rattle.share_folders.specs.Stored.{FileCloses, WasWritten}
+use Rattle.share_folders.specs.Stored.{FileCloses, IsReady, WasWritten}
 use Rattle.share_folders.specs.declared.disk.Durability.{Durability}
 use Rattle.share_folders.proofs.FolderLaws.{length_is}
 
@@ -60,3 +60,23 @@ same_closes durability n m bytes r q s t same is closes =
 pub nothing_written : {F : Type 0} (inode : F → ℕ) (s : Folder) (name : Name) (key : ShareKey) (opened : List (ShareKey × OpenShare F)) → opened ≡ []
     → WasWritten inode s name (at key opened) []
 nothing_written {F} inode s name key opened is = subst (λ (es : List (ShareKey × OpenShare F)). WasWritten inode s name (at key es) []) (sym is) refl
+
+-- ---- shares that are ready to be written to
+
+pub same_ready : {F : Type 0} (inode : F → ℕ) (offset : ℕ) (s : Folder) (opened : List (ShareKey × OpenShare F)) (k l : ShareKey) (o p : Option (List ℕ)) (bytes : List ℕ)
+    → l ≡ k → p ≡ o → IsReady inode offset s (open_name k o) (at k opened) bytes → IsReady inode offset s (open_name l p) (at l opened) bytes
+same_ready inode offset s opened k l o p bytes same own (inl none_yet) = inl none_yet
+same_ready inode offset s opened k l o p bytes same own (inr was) = inr (same_written inode s opened k l o p bytes same own was)
+
+-- the same once it went well
+pub ok_written : {F : Type 0} (inode : F → ℕ) (r : Result Unit StoreError) (s : Folder) (opened : List (ShareKey × OpenShare F)) (k l : ShareKey) (o p : Option (List ℕ)) (bytes : List ℕ)
+    → l ≡ k → p ≡ o → OnOk r (WasWritten inode s (open_name k o) (at k opened) bytes) → OnOk r (WasWritten inode s (open_name l p) (at l opened) bytes)
+ok_written inode (Err e) s opened k l o p bytes same own was = tt
+ok_written inode (Ok u) s opened k l o p bytes same own was = same_written inode s opened k l o p bytes same own was
+
+-- what is begun anew has no bytes before
+pub ready_before : {F : Type 0} (inode : F → ℕ) (offset : ℕ) (s : Folder) (name : Name) (opened : List (ShareKey × OpenShare F)) (key : ShareKey) (before : List ℕ)
+    → (offset ≡ 0) ⊎ (length_at key (lengths_of opened) ≡ 0) → IsReady inode offset s name (at key opened) before → (offset ≡ 0) ⊎ (before ≡ [])
+ready_before inode offset s name opened key before (inl none_yet) ready = inl none_yet
+ready_before inode offset s name opened key before (inr none) (inl none_yet) = inl none_yet
+ready_before inode offset s name opened key before (inr none) (inr was) = inr (empty_written inode s name opened key before none was)

@@ -116,12 +116,14 @@ FolderReads s id offset len (Ok bytes) t =
 FolderReads s id offset len (Err OutOfMemory) t = LooksAt (same_key (key_of id)) s t
 FolderReads s id offset len (Err StoreFault) t = LooksAt (same_key (key_of id)) (faulted s) t
 
+-- All closed shares of a file. It is a fault where one of them could not be looked at: else one
+-- that is there would count as gone.
 abbrev pub FolderLists : FolderState → List ℕ → Result (List HeldShare) StoreError
     → FolderState → Type 0
 FolderLists s index (Ok found) t =
     (found ≡ held_by (λ (k : KeptShare). k.digest) index t.closed) × LooksAt (has_index index) s t
 FolderLists s index (Err OutOfMemory) t = LooksAt (has_index index) s t
-FolderLists s index (Err StoreFault) t = ⊥
+FolderLists s index (Err StoreFault) t = LooksAt (has_index index) (faulted s) t
 
 abbrev pub FolderRestarts : FolderState → FolderState → Type 0
 FolderRestarts s t =

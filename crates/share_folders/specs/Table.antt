@@ -12,8 +12,9 @@ abbrev pub is_known : Option KeptShare → Bool
 is_known None = false
 is_known (Some k) = is_some k.length
 
--- A closed share stays as it is. One whose length was not asked may be looked at: then its length
--- is known, or its file is no regular one, and the share is closed no longer.
+-- A closed share stays as it is. One whose length was not asked may be looked at: once that went
+-- well its length is known, or nothing regular stands under its name, and the share is closed no
+-- longer. A look that fails leaves it as it is.
 abbrev pub IsSeen : Option KeptShare → Option KeptShare → Type 0
 IsSeen None new = new ≡ None
 IsSeen (Some k) new =
@@ -24,9 +25,9 @@ IsSeen (Some k) new =
 abbrev pub AreSeen : List (ShareKey × KeptShare) → List (ShareKey × KeptShare) → Type 0
 AreSeen old new = (key : ShareKey) → IsSeen (at key old) (at key new)
 
--- the closed shares at other keys than those that are asked for stay as they are
-abbrev pub StayBeside : (ShareKey → Bool) → List (ShareKey × KeptShare)
-    → List (ShareKey × KeptShare) → Type 0
+-- the shares at other keys than those that are asked for stay as they are
+abbrev pub StayBeside : {A : Type 0} → (ShareKey → Bool) → List (ShareKey × A)
+    → List (ShareKey × A) → Type 0
 StayBeside asked old new = (key : ShareKey) → asked key ≡ false → at key new ≡ at key old
 
 -- is the key one of a storage index?

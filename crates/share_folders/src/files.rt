@@ -2,10 +2,10 @@
 //! folder, a socket or a pipe that nobody writes to, is a fault and is not waited for.
 
 ghost use Rattle.std.specs.Prelude.{◌≡◌, ◌+◌, ◌++◌, ◌≤◌, ℕ, List, [], Some, true, false, length};
-ghost use Rattle.std.specs.Prelude.{take, drop, IfOk, IfSome, IsOkUnless, OnOk};
+ghost use Rattle.std.specs.Prelude.{◌≢◌, take, drop, IfOk, OnOk};
 ghost use Rattle.disks.specs.Names.{Name, lasts};
 ghost use Rattle.disks.specs.Folder.{FileState, HasBytes, IsOwn};
-ghost use Rattle.disks.specs.Laws.{StaysHeld};
+ghost use Rattle.disks.specs.Laws.{OwnStay, OwnStayBeside, OwnStayBut, StaysHeld};
 ghost use Rattle.share_store.specs.declared.error.StoreError.{StoreError};
 ghost use Rattle.share_folders.specs.declared.disk.Durability.{Durability};
 ghost use Rattle.share_folders.specs.Stored.{FileCloses, IsAs, WasWritten};
@@ -44,22 +44,18 @@ fn as_fault(outcome: Result<(), DiskError>) -> Result<(), StoreError>
     }
 }
 
-/// The length of the regular file under a name; `None` for what else stands there, for what cannot
-/// be asked, and where there is nothing.
+/// The length of the regular file under a name; `None` for what else stands there, and where there
+/// is nothing. It is a fault where it cannot be asked.
 pub(crate) fn regular_length<D: Disk>(disk: &mut D, name: &str) -> Result<Option<u64>, StoreError>
-    ensures memory { IsOkUnless result StoreError.OutOfMemory }
     ensures place { D.place disk.new ≡ D.place disk.old }
     ensures so_far { D.honest disk.new → D.honest disk.old }
     ensures right { D.honest disk.new → (bytes : List ℕ) → lasts name.now ≡ true
         → HasBytes (D.folder disk.old) bytes ((D.folder disk.old).found name.now)
-        → IfOk result (λ found. IfSome found (λ n. n ≡ length bytes)) }
+        → IfOk result (λ found. found ≡ Some (length bytes)) }
     ensures held { D.honest disk.new → StaysHeld (D.folder disk.old) (D.folder disk.new) }
+    ensures opened { D.honest disk.new → OwnStay (D.folder disk.old) (D.folder disk.new) }
 {
-    match find_finished(disk, name) {
-        Ok(found) => Ok(found),
-        Err(DiskError::OutOfMemory) => Err(StoreError::OutOfMemory),
-        Err(_) => Ok(None),
-    }
+    as_stored(find_finished(disk, name))
 }
 
 /// The file of an open share. It is of this store alone, by its name, and stays open until the
@@ -89,6 +85,11 @@ pub(crate) fn begin_share<D: Disk>(
     ensures begun { D.honest disk.new → IfOk result
         (λ share. WasWritten D.inode (D.folder disk.new) name.now (Some share) []) }
     ensures held { D.honest disk.new → StaysHeld (D.folder disk.old) (D.folder disk.new) }
+    ensures apart { D.honest disk.new → IfOk result (λ share. (other : Name) (i : ℕ)
+        (was : FileState) → other ≢ name.now → IsOwn (D.folder disk.old) other i was
+        → i ≢ D.inode share.file) }
+    ensures others { D.honest disk.new
+        → OwnStayBeside name.now (D.folder disk.old) (D.folder disk.new) }
 {
     let file = as_stored(begin(disk, name))?;
     Ok(OpenShare {
@@ -118,6 +119,9 @@ pub(crate) fn append<D: Disk>(
     ensures held { D.honest disk.new → (name : Name) (before : List ℕ)
         → WasWritten D.inode (D.folder disk.old) name (Some share.old) before
         → StaysHeld (D.folder disk.old) (D.folder disk.new) }
+    ensures same { D.inode share.new.file ≡ D.inode share.old.file }
+    ensures others { D.honest disk.new
+        → OwnStayBut (D.inode share.old.file) (D.folder disk.old) (D.folder disk.new) }
 {
     if share.is_closing.get() {
         return Err(StoreError::StoreFault);
@@ -141,8 +145,8 @@ pub(crate) struct Closing<'a> {
 }
 
 /// Gives the file of an open share its closed name. It is a fault if another file has the open
-/// name, which no store makes, or if the file has more or fewer bytes than were written. Synced, its
-/// bytes are on the disk before that, and its name after it.
+/// name, which no store makes, or if the file has more or fewer bytes than were written. Synced,
+/// its bytes are on the disk before that, and its name after it.
 pub(crate) fn close_share<D: Disk>(
     disk: &mut D,
     share: &OpenShare<D::File>,
@@ -156,6 +160,9 @@ pub(crate) fn close_share<D: Disk>(
         → WasWritten D.inode (D.folder disk.old) closing.now.open.now (Some share.now) bytes
         → FileCloses closing.now.durability closing.now.closed.now bytes result
         (D.folder disk.old) (D.folder disk.new) }
+    ensures others { D.honest disk.new → (bytes : List ℕ)
+        → WasWritten D.inode (D.folder disk.old) closing.now.open.now (Some share.now) bytes
+        → OwnStayBut (D.inode share.now.file) (D.folder disk.old) (D.folder disk.new) }
 {
     share.is_closing.set(true);
     match closing.durability {
@@ -177,6 +184,9 @@ fn close_synced<D: Disk>(
         → WasWritten D.inode (D.folder disk.old) closing.now.open.now (Some share.now) bytes
         → FileCloses Durability.Synced closing.now.closed.now bytes result
         (D.folder disk.old) (D.folder disk.new) }
+    ensures others { D.honest disk.new → (bytes : List ℕ)
+        → WasWritten D.inode (D.folder disk.old) closing.now.open.now (Some share.now) bytes
+        → OwnStayBut (D.inode share.now.file) (D.folder disk.old) (D.folder disk.new) }
 {
     sync_share(disk, share)?;
     let (open, closed) = (closing.open, closing.closed);
@@ -196,6 +206,9 @@ fn close_unsynced<D: Disk>(
         → WasWritten D.inode (D.folder disk.old) closing.now.open.now (Some share.now) bytes
         → FileCloses Durability.Unsynced closing.now.closed.now bytes result
         (D.folder disk.old) (D.folder disk.new) }
+    ensures others { D.honest disk.new → (bytes : List ℕ)
+        → WasWritten D.inode (D.folder disk.old) closing.now.open.now (Some share.now) bytes
+        → OwnStayBut (D.inode share.now.file) (D.folder disk.old) (D.folder disk.new) }
 {
     let (open, closed) = (closing.open, closing.closed);
     as_stored(finish_unsynced(disk, &share.file, share.length, open, closed))
@@ -214,6 +227,8 @@ fn sync_share<D: Disk>(disk: &mut D, share: &OpenShare<D::File>) -> Result<(), S
         → IsOwn (D.folder disk.old) name (D.inode share.now.file) before
         → before.is_finished ≡ false
         → StaysHeld (D.folder disk.old) (D.folder disk.new) }
+    ensures others { D.honest disk.new
+        → OwnStayBut (D.inode share.now.file) (D.folder disk.old) (D.folder disk.new) }
 {
     if share.is_lost.get() {
         return Err(StoreError::StoreFault);
@@ -243,6 +258,7 @@ pub(crate) fn open_closed<D: Disk>(
         → HasBytes (D.folder disk.old) bytes ((D.folder disk.old).found name.now)
         → IfOk result (λ recent. HasBytes (D.folder disk.new) bytes (Some (D.inode recent.file))) }
     ensures held { D.honest disk.new → StaysHeld (D.folder disk.old) (D.folder disk.new) }
+    ensures opened { D.honest disk.new → OwnStay (D.folder disk.old) (D.folder disk.new) }
 {
     let file = as_stored(open_finished(disk, name))?;
     Ok(RecentFile { key: *key, file })
@@ -267,6 +283,7 @@ pub(crate) fn read_at<D: Disk>(
         → HasBytes (D.folder disk.old) bytes (Some (D.inode recent.old.file))
         → IfOk result (λ got. got ≡ take count (drop position bytes)) }
     ensures held { D.honest disk.new → StaysHeld (D.folder disk.old) (D.folder disk.new) }
+    ensures opened { D.honest disk.new → OwnStay (D.folder disk.old) (D.folder disk.new) }
 {
     let mut bytes = vec![in alloc; 0u8; count as usize]?;
     as_stored(read_finished(disk, &mut recent.file, position, bytes.as_mut_slice()))?;

@@ -9,14 +9,12 @@ ghost use Rattle.share_folders.specs.Folder.{FolderState, counted, folder_calls}
 
 pub use crate::disk::Durability;
 use crate::kept::DiskStore;
-use crate::lengths::look_at_all;
 pub use crate::listing::Purpose;
 use crate::listing::{Listing, list_folder, list_standing, own_token};
 use disks::system::SystemDisk;
 use share_store::error::StoreError;
 use share_store::shelf::key_of;
 use share_store::store::Store;
-use share_store::table::held_under;
 use std::alloc::Global;
 use std::collections::BTreeMap;
 use std::marker::Model;
@@ -34,11 +32,11 @@ use wire::message::{Digest, HeldList, ReadData, ReadLength, ShareId, StorageInde
 ///
 /// A synced store puts a share's bytes on the disk, renames its file and then puts the names of its
 /// folder on the disk: where one of them fails, so does the close, and the share is open as it was.
-/// No further close of it goes well until it is begun anew. Where only the names could not be put
-/// on the disk, the file stands under its closed name, whole, and a power failure may take that
-/// name away. Once the share is begun anew, a close under the same digest puts the new file, which
-/// is whole too, in its place; one under another digest stands beside it. A store that is opened
-/// later finds the share closed.
+/// A further close goes well only where it was the rename that failed; else none does until the
+/// share is begun anew. Where only the names could not be put on the disk, the file stands under
+/// its closed name, whole, and a power failure may take that name away. Once the share is begun
+/// anew, a close under the same digest puts the new file, which is whole too, in its place; one
+/// under another digest stands beside it. A store that is opened later finds the share closed.
 #[derive(Drop)]
 pub struct FolderStore<R: Files + AllocGlobal + Clone + Drop> {
     store: DiskStore<SystemDisk<R>>,
@@ -207,13 +205,10 @@ impl<R: Files + AllocGlobal + Clone + Drop> Store for FolderStore<R> {
         self.count(outcome)
     }
 
-    // What is no regular file counts as not there, so there is no fault.
+    // What is no regular file counts as not there. What cannot be looked at is a fault.
     fn list(&mut self, alloc: Global, index: &StorageIndex) -> Result<HeldList, StoreError> {
-        let named = held_under(alloc, &self.store.closed, index)?;
-        let shares = named.as_slice();
-        let (disk, closed) = (&mut self.store.disk, &mut self.store.closed);
-        look_at_all(alloc, disk, closed, index, shares)?;
-        held_under(alloc, &self.store.closed, index)
+        let outcome = self.store.list_kept(alloc, index);
+        self.count(outcome)
     }
 
     fn restart(&mut self) {

@@ -2,22 +2,23 @@
 
 ghost use Rattle.std.specs.Prelude.{◌≡◌, ◌+◌, ◌++◌, ◌-◌, ◌==◌, ◌≤◌, ℕ, List, [], None, Some, true};
 ghost use Rattle.std.specs.Prelude.{length, min, take, drop, if◌then◌else◌, IfOk, IsOkUnless};
-ghost use Rattle.std.specs.Prelude.{IsSome, OnErr, OnOk};
+ghost use Rattle.std.specs.Prelude.{Contains, IsSome, OnErr, OnOk, ⊤};
 ghost use Rattle.std.specs.BTreeMap.{insert_entry};
 ghost use Rattle.disks.specs.Folder.{HasBytes};
-ghost use Rattle.disks.specs.Laws.{StaysHeld};
+ghost use Rattle.disks.specs.Laws.{OwnStay, OwnStayBeside, StaysHeld};
 ghost use Rattle.share_store.specs.declared.error.StoreError.{StoreError};
-ghost use Rattle.share_store.specs.Shelf.{ShareKey, at, key_of, order, same_key};
-ghost use Rattle.share_folders.specs.Folder.{IsOpenedAt, OthersStay, length_at, length_of};
-ghost use Rattle.share_folders.specs.Folder.{lengths_of};
+ghost use Rattle.share_store.specs.Shelf.{ShareKey, at, held_by, is_under, key_of, order, same_key};
+ghost use Rattle.share_folders.specs.declared.table.KeptShare.{KeptShare};
+ghost use Rattle.share_folders.specs.Folder.{length_at, length_of, lengths_of};
 ghost use Rattle.share_folders.specs.Names.{closed_name, open_name};
-ghost use Rattle.share_folders.specs.Stored.{FileCloses, HasShare, RecentHas, WasWritten};
-ghost use Rattle.share_folders.specs.Table.{AreSeen, StayBeside, is_known};
+ghost use Rattle.share_folders.specs.Stored.{FileCloses, HasShare, RecentHas, StayHeld, StayOpen};
+ghost use Rattle.share_folders.specs.Stored.{IsLatest, IsReady, WasWritten};
+ghost use Rattle.share_folders.specs.Table.{AreSeen, StayBeside, has_index, is_known};
 ghost use Rattle.wire.specs.Limits.{most_data};
 
 use crate::disk::Durability;
 use crate::files::{Closing, OpenShare, RecentFile, begin_share, open_closed, read_at};
-use crate::lengths::look_at;
+use crate::lengths::{look_at, look_at_all};
 use crate::names::{ClosedName, OpenName, OwnToken};
 use crate::opened::{append_to, forget_open, put_begun, put_closed, written_length};
 use crate::table::KeptShare;
@@ -25,9 +26,10 @@ use disks::disk::Disk;
 use disks::own::discard;
 use share_store::error::StoreError;
 use share_store::shelf::{ShareKey, key_of};
+use share_store::table::held_under;
 use std::alloc::Global;
 use std::collections::BTreeMap;
-use wire::message::{Digest, ReadData, ReadLength, ShareId};
+use wire::message::{Digest, HeldList, ReadData, ReadLength, ShareId, StorageIndex};
 
 /// What a store keeps in a folder.
 #[derive(Drop)]
@@ -90,8 +92,9 @@ impl<D: Disk + Drop> DiskStore<D> {
         ensures own { self.new.own ≡ self.old.own }
         ensures durability { self.new.durability ≡ self.old.durability }
         ensures closed { self.new.closed.entries ≡ self.old.closed.entries }
-        ensures others { IsOpenedAt name.now.key (lengths_of self.old.opened.entries)
-            (lengths_of self.new.opened.entries) }
+        ensures recent { self.new.recent ≡ self.old.recent }
+        ensures others { StayBeside (same_key name.now.key) self.old.opened.entries
+            self.new.opened.entries }
         ensures empty { OnOk result
             (length_at name.now.key (lengths_of self.new.opened.entries) ≡ 0) }
         ensures place { D.place self.new.disk ≡ D.place self.old.disk }
@@ -101,6 +104,9 @@ impl<D: Disk + Drop> DiskStore<D> {
             (at name.now.key self.new.opened.entries) []) }
         ensures held { D.honest self.new.disk
             → StaysHeld (D.folder self.old.disk) (D.folder self.new.disk) }
+        ensures beside { D.honest self.new.disk → StayOpen D.inode name.now.own name.now.key ⊤
+            result (D.folder self.old.disk) self.old.opened.entries (D.folder self.new.disk)
+            self.new.opened.entries }
     {
         let text = name.text(self.alloc)?;
         let share = begin_share(&mut self.disk, text.as_str())?;
@@ -112,21 +118,25 @@ impl<D: Disk + Drop> DiskStore<D> {
         ensures own { self.new.own ≡ self.old.own }
         ensures durability { self.new.durability ≡ self.old.durability }
         ensures closed { self.new.closed.entries ≡ self.old.closed.entries }
-        ensures others { IsOpenedAt name.now.key (lengths_of self.old.opened.entries)
-            (lengths_of self.new.opened.entries) }
+        ensures recent { self.new.recent ≡ self.old.recent }
+        ensures others { StayBeside (same_key name.now.key) self.old.opened.entries
+            self.new.opened.entries }
         ensures long { OnOk result (length_at name.now.key (lengths_of self.new.opened.entries)
             ≡ (if offset == 0 then 0
             else length_at name.now.key (lengths_of self.old.opened.entries))) }
         ensures place { D.place self.new.disk ≡ D.place self.old.disk }
         ensures so_far { D.honest self.new.disk → D.honest self.old.disk }
-        ensures begun { D.honest self.new.disk → (before : List ℕ) → WasWritten D.inode
-            (D.folder self.old.disk) (open_name name.now.key name.now.own)
+        ensures begun { D.honest self.new.disk → (before : List ℕ) → IsReady D.inode
+            offset (D.folder self.old.disk) (open_name name.now.key name.now.own)
             (at name.now.key self.old.opened.entries) before
             → OnOk result (WasWritten D.inode
             (D.folder self.new.disk) (open_name name.now.key name.now.own)
             (at name.now.key self.new.opened.entries) (if offset == 0 then [] else before)) }
         ensures held { D.honest self.new.disk
             → StaysHeld (D.folder self.old.disk) (D.folder self.new.disk) }
+        ensures beside { D.honest self.new.disk → StayOpen D.inode name.now.own name.now.key
+            (offset ≡ 0) result (D.folder self.old.disk) self.old.opened.entries
+            (D.folder self.new.disk) self.new.opened.entries }
     {
         if offset == 0 || written_length(&self.opened, &name.key) == 0 {
             return self.begin(name);
@@ -144,8 +154,9 @@ impl<D: Disk + Drop> DiskStore<D> {
         ensures own { self.new.own ≡ self.old.own }
         ensures durability { self.new.durability ≡ self.old.durability }
         ensures closed { self.new.closed.entries ≡ self.old.closed.entries }
-        ensures others { OthersStay id.now (lengths_of self.old.opened.entries)
-            (lengths_of self.new.opened.entries) }
+        ensures recent { self.new.recent ≡ self.old.recent }
+        ensures others { StayBeside (same_key (key_of id.now)) self.old.opened.entries
+            self.new.opened.entries }
         ensures takes { OnOk result (IsSome self.old.own) }
         ensures long { OnOk result
             (length_at (id.now.index, id.now.share) (lengths_of self.new.opened.entries)
@@ -154,17 +165,20 @@ impl<D: Disk + Drop> DiskStore<D> {
             + length bytes.now) }
         ensures place { D.place self.new.disk ≡ D.place self.old.disk }
         ensures so_far { D.honest self.new.disk → D.honest self.old.disk }
-        ensures written { D.honest self.new.disk → (before : List ℕ) → WasWritten D.inode
-            (D.folder self.old.disk) (open_name (key_of id.now) self.old.own)
+        ensures written { D.honest self.new.disk → (before : List ℕ) → IsReady D.inode
+            offset (D.folder self.old.disk) (open_name (key_of id.now) self.old.own)
             (at (key_of id.now) self.old.opened.entries) before
             → OnOk result (WasWritten D.inode
             (D.folder self.new.disk) (open_name (key_of id.now) self.old.own)
             (at (key_of id.now) self.new.opened.entries)
             ((if offset == 0 then [] else before) ++ bytes.now)) }
-        ensures held { D.honest self.new.disk → (before : List ℕ) → WasWritten D.inode
-            (D.folder self.old.disk) (open_name (key_of id.now) self.old.own)
+        ensures held { D.honest self.new.disk → (before : List ℕ) → IsReady D.inode
+            offset (D.folder self.old.disk) (open_name (key_of id.now) self.old.own)
             (at (key_of id.now) self.old.opened.entries) before
             → StaysHeld (D.folder self.old.disk) (D.folder self.new.disk) }
+        ensures beside { D.honest self.new.disk → StayOpen D.inode self.old.own (key_of id.now)
+            (offset ≡ 0) result (D.folder self.old.disk) self.old.opened.entries
+            (D.folder self.new.disk) self.new.opened.entries }
     {
         let name = self.open_name(id)?;
         self.begin_at(&name, offset)?;
@@ -180,11 +194,15 @@ impl<D: Disk + Drop> DiskStore<D> {
         ensures own { self.new.own ≡ self.old.own }
         ensures durability { self.new.durability ≡ self.old.durability }
         ensures closed { self.new.closed.entries ≡ self.old.closed.entries }
+        ensures recent { self.new.recent ≡ self.old.recent }
         ensures opened { self.new.opened.entries ≡ self.old.opened.entries }
         ensures place { D.place self.new.disk ≡ D.place self.old.disk }
         ensures so_far { D.honest self.new.disk → D.honest self.old.disk }
         ensures held { D.honest self.new.disk
             → StaysHeld (D.folder self.old.disk) (D.folder self.new.disk) }
+        ensures beside { D.honest self.new.disk → OwnStayBeside
+            (open_name name.now.key name.now.own) (D.folder self.old.disk)
+            (D.folder self.new.disk) }
     {
         if let Ok(text) = name.text(self.alloc) {
             let _ = discard(&mut self.disk, text.as_str());
@@ -203,10 +221,12 @@ impl<D: Disk + Drop> DiskStore<D> {
               digest = digest.now;
             })) }
         ensures takes { OnOk result (IsSome self.old.own) }
-        ensures others { OthersStay id.now (lengths_of self.old.opened.entries)
-            (lengths_of self.new.opened.entries) }
+        ensures others { StayBeside (same_key (key_of id.now)) self.old.opened.entries
+            self.new.opened.entries }
         ensures err_closed { OnErr result (self.new.closed.entries ≡ self.old.closed.entries) }
         ensures err_opened { OnErr result (self.new.opened.entries ≡ self.old.opened.entries) }
+        ensures recent { OnOk result (self.new.recent ≡ None) }
+        ensures err_recent { OnErr result (self.new.recent ≡ self.old.recent) }
         ensures place { D.place self.new.disk ≡ D.place self.old.disk }
         ensures so_far { D.honest self.new.disk → D.honest self.old.disk }
         ensures closes { D.honest self.new.disk → (bytes : List ℕ) → WasWritten D.inode
@@ -214,6 +234,11 @@ impl<D: Disk + Drop> DiskStore<D> {
             (at (key_of id.now) self.old.opened.entries) bytes
             → FileCloses self.old.durability (closed_name (key_of id.now) digest.now) bytes result
             (D.folder self.old.disk) (D.folder self.new.disk) }
+        ensures beside { D.honest self.new.disk → (bytes : List ℕ) → WasWritten D.inode
+            (D.folder self.old.disk) (open_name (key_of id.now) self.old.own)
+            (at (key_of id.now) self.old.opened.entries) bytes
+            → StayOpen D.inode self.old.own (key_of id.now) ⊥ result (D.folder self.old.disk)
+            self.old.opened.entries (D.folder self.new.disk) self.new.opened.entries }
     {
         let name = self.open_name(id)?;
         let (key, digest) = (name.key, *digest);
@@ -232,6 +257,8 @@ impl<D: Disk + Drop> DiskStore<D> {
                 closed: closed.as_str(),
             },
         )?;
+        // what was read last may have had the name of this share before
+        self.recent = None;
         forget_open(&mut self.opened, &key);
         Ok(())
     }
@@ -259,12 +286,13 @@ impl<D: Disk + Drop> DiskStore<D> {
         ensures given { D.honest self.new.disk → (digest bytes : List ℕ) → HasShare D.inode
             (D.folder self.old.disk) self.old.closed.entries self.old.recent (key_of id.now) digest
             bytes → IfOk result (λ got. got ≡ take count (drop offset bytes)) }
-        ensures still { D.honest self.new.disk → (digest bytes : List ℕ) → HasShare D.inode
-            (D.folder self.old.disk) self.old.closed.entries self.old.recent (key_of id.now) digest
-            bytes → OnOk result (HasShare D.inode (D.folder self.new.disk)
-            self.new.closed.entries self.new.recent (key_of id.now) digest bytes) }
+        ensures still { D.honest self.new.disk → StayHeld D.inode
+            (D.folder self.old.disk) self.old.closed.entries self.old.recent
+            (D.folder self.new.disk) self.new.closed.entries self.new.recent }
         ensures held { D.honest self.new.disk
             → StaysHeld (D.folder self.old.disk) (D.folder self.new.disk) }
+        ensures beside { D.honest self.new.disk
+            → OwnStay (D.folder self.old.disk) (D.folder self.new.disk) }
     {
         let key = key_of(id);
         look_at(self.alloc, &mut self.disk, &mut self.closed, &key)?;
@@ -284,6 +312,40 @@ impl<D: Disk + Drop> DiskStore<D> {
             offset,
             left,
         )
+    }
+
+    /// The closed shares under a storage index with their digests, lowest number first.
+    pub(crate) fn list_kept(
+        &mut self,
+        alloc: Global,
+        index: &StorageIndex,
+    ) -> Result<HeldList, StoreError>
+        ensures own { self.new.own ≡ self.old.own }
+        ensures durability { self.new.durability ≡ self.old.durability }
+        ensures opened { self.new.opened.entries ≡ self.old.opened.entries }
+        ensures seen { AreSeen self.old.closed.entries self.new.closed.entries }
+        ensures others { StayBeside (has_index index.now) self.old.closed.entries
+            self.new.closed.entries }
+        ensures told { IfOk result (λ found. found
+            ≡ held_by (λ (k : KeptShare). k.digest) index.now self.new.closed.entries) }
+        ensures each { D.honest self.new.disk → (key : ShareKey) (digest bytes : List ℕ)
+            → HasShare D.inode (D.folder self.old.disk) self.old.closed.entries self.old.recent key
+            digest bytes → is_under index.now key ≡ true → IfOk result
+            (λ found. Contains found (record { share = key.1; digest = digest })) }
+        ensures place { D.place self.new.disk ≡ D.place self.old.disk }
+        ensures so_far { D.honest self.new.disk → D.honest self.old.disk }
+        ensures still { D.honest self.new.disk → StayHeld D.inode
+            (D.folder self.old.disk) self.old.closed.entries self.old.recent
+            (D.folder self.new.disk) self.new.closed.entries self.new.recent }
+        ensures held { D.honest self.new.disk
+            → StaysHeld (D.folder self.old.disk) (D.folder self.new.disk) }
+        ensures beside { D.honest self.new.disk
+            → OwnStay (D.folder self.old.disk) (D.folder self.new.disk) }
+    {
+        let named = held_under(alloc, &self.closed, index)?;
+        let (disk, closed) = (&mut self.disk, &mut self.closed);
+        look_at_all(alloc, disk, closed, index, named.as_slice())?;
+        held_under(alloc, &self.closed, index)
     }
 }
 
@@ -309,7 +371,9 @@ fn read_named<D: Disk>(
         ((D.folder disk.old).found (closed_name named.now.key named.now.digest))
         → RecentHas D.inode (D.folder disk.old) named.now.key recent.old bytes
         → RecentHas D.inode (D.folder disk.new) named.now.key recent.new bytes }
+    ensures latest { IsLatest named.now.key recent.old recent.new }
     ensures held { D.honest disk.new → StaysHeld (D.folder disk.old) (D.folder disk.new) }
+    ensures beside { D.honest disk.new → OwnStay (D.folder disk.old) (D.folder disk.new) }
 {
     if count == 0 {
         return Ok(ReadData::from_vec(Vec::new(alloc)).unwrap());
@@ -336,6 +400,7 @@ fn take_file<D: Disk>(
         → RecentHas D.inode (D.folder disk.old) named.now.key recent.old bytes
         → IfOk result (λ file. HasBytes (D.folder disk.new) bytes (Some (D.inode file.file))) }
     ensures held { D.honest disk.new → StaysHeld (D.folder disk.old) (D.folder disk.new) }
+    ensures beside { D.honest disk.new → OwnStay (D.folder disk.old) (D.folder disk.new) }
 {
     match recent.take() {
         Some(file) if file.key == named.key => Ok(file),
@@ -356,6 +421,7 @@ fn open_named<D: Disk>(
         ((D.folder disk.old).found (closed_name named.now.key named.now.digest))
         → IfOk result (λ recent. HasBytes (D.folder disk.new) bytes (Some (D.inode recent.file))) }
     ensures held { D.honest disk.new → StaysHeld (D.folder disk.old) (D.folder disk.new) }
+    ensures beside { D.honest disk.new → OwnStay (D.folder disk.old) (D.folder disk.new) }
 {
     let text = named.text(alloc)?;
     open_closed(disk, &named.key, text.as_str())

@@ -2,12 +2,10 @@
 
 ghost use Rattle.std.specs.Prelude.{◌≡◌, ℕ, List, None, Some, false, true, is_some, IfNone, IfSome};
 ghost use Rattle.std.specs.Prelude.{IsOkUnless, OnErr, OnOk, length};
-ghost use Rattle.disks.specs.Folder.{HasBytes};
-ghost use Rattle.disks.specs.Laws.{StaysHeld};
+ghost use Rattle.disks.specs.Laws.{OwnStay, StaysHeld};
 ghost use Rattle.share_store.specs.declared.error.StoreError.{StoreError};
 ghost use Rattle.share_store.specs.Shelf.{ShareKey, at, same_key};
-ghost use Rattle.share_folders.specs.Names.{closed_name};
-ghost use Rattle.share_folders.specs.Stored.{IsNoted};
+ghost use Rattle.share_folders.specs.Stored.{IsKept, StayKept};
 ghost use Rattle.share_folders.specs.Table.{AreSeen, StayBeside, has_index};
 
 use crate::files::regular_length;
@@ -20,8 +18,8 @@ use std::alloc::Global;
 use std::collections::BTreeMap;
 use wire::message::{Digest, HeldShare, StorageIndex};
 
-/// Asks the length of a closed share, where it is not known. A share whose file is no regular one
-/// is closed no longer.
+/// Asks the length of a closed share, where it is not known. A share is closed no longer where that
+/// went well and nothing regular stands under its name. After an error all is as it was.
 pub(crate) fn look_at<D: Disk>(
     alloc: Global,
     disk: &mut D,
@@ -32,15 +30,17 @@ pub(crate) fn look_at<D: Disk>(
     ensures others { StayBeside (same_key key.now) closed.old.entries closed.new.entries }
     ensures known { OnOk result (IfSome (at key.now closed.new.entries)
         (λ k. is_some k.length ≡ true)) }
-    ensures memory { IsOkUnless result StoreError.OutOfMemory }
+    ensures err { OnErr result (closed.new.entries ≡ closed.old.entries) }
     ensures place { D.place disk.new ≡ D.place disk.old }
     ensures so_far { D.honest disk.new → D.honest disk.old }
-    ensures right { D.honest disk.new → (digest bytes : List ℕ) → IsNoted closed.old.entries
-        key.now digest bytes → HasBytes (D.folder disk.old) bytes
-        ((D.folder disk.old).found (closed_name key.now digest))
-        → OnOk result (IfSome (at key.now closed.new.entries)
-        (λ k. (k.length ≡ Some (length bytes)) × (k.digest ≡ digest))) }
+    ensures right { D.honest disk.new → (digest bytes : List ℕ)
+        → IsKept (D.folder disk.old) closed.old.entries key.now digest bytes
+        → OnOk result (at key.now closed.new.entries
+        ≡ Some (record { length = Some (length bytes); digest = digest })) }
+    ensures kept { D.honest disk.new → StayKept (D.folder disk.old) closed.old.entries
+        (D.folder disk.new) closed.new.entries }
     ensures held { D.honest disk.new → StaysHeld (D.folder disk.old) (D.folder disk.new) }
+    ensures opened { D.honest disk.new → OwnStay (D.folder disk.old) (D.folder disk.new) }
 {
     let Some(digest) = digest_to_look_at(closed, key) else {
         return Ok(());
@@ -55,7 +55,7 @@ pub(crate) fn look_at<D: Disk>(
     }
 }
 
-/// The same of these shares of one storage index.
+/// The same of these shares of one storage index, up to the first that cannot be looked at.
 #[tactic(auto, using(crate::proofs::Closings::held_on, crate::proofs::Closings::held_same))]
 pub(crate) fn look_at_all<D: Disk>(
     alloc: Global,
@@ -66,10 +66,12 @@ pub(crate) fn look_at_all<D: Disk>(
 ) -> Result<(), StoreError>
     ensures seen { AreSeen closed.old.entries closed.new.entries }
     ensures others { StayBeside (has_index index.now) closed.old.entries closed.new.entries }
-    ensures memory { IsOkUnless result StoreError.OutOfMemory }
     ensures place { D.place disk.new ≡ D.place disk.old }
     ensures so_far { D.honest disk.new → D.honest disk.old }
+    ensures kept { D.honest disk.new → StayKept (D.folder disk.old) closed.old.entries
+        (D.folder disk.new) closed.new.entries }
     ensures held { D.honest disk.new → StaysHeld (D.folder disk.old) (D.folder disk.new) }
+    ensures opened { D.honest disk.new → OwnStay (D.folder disk.old) (D.folder disk.new) }
 {
     for held in shares {
         look_at(alloc, disk, closed, &(*index, held.share))?;

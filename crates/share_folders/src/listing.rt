@@ -252,7 +252,7 @@ fn take_named<D: Disk>(
 }
 
 // Takes note of a further file of a closed share. What is no regular file does not stand before one
-// that is.
+// that is; it is a fault where that cannot be told.
 #[tactic(auto, using(crate::proofs::Closings::held_on))]
 fn take_second<D: Disk>(
     alloc: Global,

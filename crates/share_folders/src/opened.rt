@@ -1,15 +1,16 @@
 //! The open shares of a folder store, and how one is closed.
 
 ghost use Rattle.std.specs.Prelude.{◌≡◌, ◌+◌, ◌++◌, ℕ, List, [], None, Some, true, false, length};
-ghost use Rattle.std.specs.Prelude.{IsOkUnless, OnErr, OnOk};
+ghost use Rattle.std.specs.Prelude.{IsOkUnless, OnErr, OnOk, Option};
 ghost use Rattle.std.specs.BTreeMap.{insert_entry};
 ghost use Rattle.disks.specs.Names.{Name, lasts};
 ghost use Rattle.disks.specs.Folder.{Folder};
 ghost use Rattle.disks.specs.Laws.{StaysHeld};
 ghost use Rattle.share_store.specs.declared.error.StoreError.{StoreError};
-ghost use Rattle.share_store.specs.Shelf.{ShareKey, at, order};
-ghost use Rattle.share_folders.specs.Folder.{IsOpenedAt, length_at, lengths_of};
-ghost use Rattle.share_folders.specs.Stored.{FileCloses, WasWritten};
+ghost use Rattle.share_store.specs.Shelf.{ShareKey, at, order, same_key};
+ghost use Rattle.share_folders.specs.Folder.{length_at, lengths_of};
+ghost use Rattle.share_folders.specs.Stored.{FileCloses, OwnStayButOf, StayOpen, WasWritten};
+ghost use Rattle.share_folders.specs.Table.{StayBeside};
 
 use crate::files::{Closing, OpenShare, append, begin_share, close_share};
 use crate::table::KeptShare;
@@ -20,7 +21,7 @@ use std::collections::BTreeMap;
 use std::collections::btree_map::Entry;
 
 /// How many bytes were written to an open share.
-#[tactic(auto, using(crate::proofs::FolderLaws::length_is, crate::proofs::FolderLaws::opened_at))]
+#[tactic(auto, using(crate::proofs::FolderLaws::length_is))]
 pub(crate) fn written_length<F>(opened: &BTreeMap<ShareKey, OpenShare<F>>, key: &ShareKey) -> u64
     ensures { result ≡ length_at key.now (lengths_of opened.now.entries) }
 {
@@ -31,7 +32,7 @@ pub(crate) fn written_length<F>(opened: &BTreeMap<ShareKey, OpenShare<F>>, key: 
 }
 
 /// Puts an open share's file into the table, in place of one that was there.
-#[tactic(auto, using(crate::proofs::FolderLaws::length_is, crate::proofs::FolderLaws::opened_at))]
+#[tactic(auto, using(crate::proofs::FolderLaws::length_is))]
 pub(crate) fn put_begun<F: Drop>(
     opened: &mut BTreeMap<ShareKey, OpenShare<F>>,
     key: &ShareKey,
@@ -40,8 +41,8 @@ pub(crate) fn put_begun<F: Drop>(
     ensures begun { OnOk result
         (length_at key.now (lengths_of opened.new.entries) ≡ share.length) }
     ensures there { OnOk result (at key.now opened.new.entries ≡ Some share) }
-    ensures others { IsOpenedAt key.now (lengths_of opened.old.entries)
-        (lengths_of opened.new.entries) }
+    ensures err { OnErr result (opened.new.entries ≡ opened.old.entries) }
+    ensures others { StayBeside (same_key key.now) opened.old.entries opened.new.entries }
     ensures memory { IsOkUnless result StoreError.OutOfMemory }
 {
     opened.insert(*key, share)?;
@@ -49,7 +50,7 @@ pub(crate) fn put_begun<F: Drop>(
 }
 
 // Adds bytes to the file of an open share.
-#[tactic(auto, using(crate::proofs::FolderLaws::length_is, crate::proofs::FolderLaws::opened_at))]
+#[tactic(auto, using(crate::proofs::FolderLaws::length_is))]
 fn append_there<D: Disk>(
     disk: &mut D,
     opened: &mut BTreeMap<ShareKey, OpenShare<D::File>>,
@@ -58,8 +59,7 @@ fn append_there<D: Disk>(
 ) -> Result<(), StoreError>
     ensures long { OnOk result (length_at key.now (lengths_of opened.new.entries)
         ≡ length_at key.now (lengths_of opened.old.entries) + length bytes.now) }
-    ensures others { IsOpenedAt key.now (lengths_of opened.old.entries)
-        (lengths_of opened.new.entries) }
+    ensures others { StayBeside (same_key key.now) opened.old.entries opened.new.entries }
     ensures place { D.place disk.new ≡ D.place disk.old }
     ensures so_far { D.honest disk.new → D.honest disk.old }
     ensures written { D.honest disk.new → (name : Name) (before : List ℕ)
@@ -69,6 +69,8 @@ fn append_there<D: Disk>(
     ensures held { D.honest disk.new → (name : Name) (before : List ℕ)
         → WasWritten D.inode (D.folder disk.old) name (at key.now opened.old.entries) before
         → StaysHeld (D.folder disk.old) (D.folder disk.new) }
+    ensures beside { D.honest disk.new → (own : Option (List ℕ)) → StayOpen D.inode own key.now ⊥
+        result (D.folder disk.old) opened.old.entries (D.folder disk.new) opened.new.entries }
 {
     match opened.get_mut(key) {
         Some(share) => append(disk, share, bytes),
@@ -85,8 +87,7 @@ pub(crate) fn append_to<D: Disk>(
 ) -> Result<(), StoreError>
     ensures long { OnOk result (length_at key.now (lengths_of opened.new.entries)
         ≡ length_at key.now (lengths_of opened.old.entries) + length bytes.now) }
-    ensures others { IsOpenedAt key.now (lengths_of opened.old.entries)
-        (lengths_of opened.new.entries) }
+    ensures others { StayBeside (same_key key.now) opened.old.entries opened.new.entries }
     ensures place { D.place disk.new ≡ D.place disk.old }
     ensures so_far { D.honest disk.new → D.honest disk.old }
     ensures written { D.honest disk.new → (name : Name) (before : List ℕ)
@@ -96,6 +97,8 @@ pub(crate) fn append_to<D: Disk>(
     ensures held { D.honest disk.new → (name : Name) (before : List ℕ)
         → WasWritten D.inode (D.folder disk.old) name (at key.now opened.old.entries) before
         → StaysHeld (D.folder disk.old) (D.folder disk.new) }
+    ensures beside { D.honest disk.new → (own : Option (List ℕ)) → StayOpen D.inode own key.now ⊥
+        result (D.folder disk.old) opened.old.entries (D.folder disk.new) opened.new.entries }
 {
     let outcome = append_there(disk, opened, key, bytes);
     if outcome.is_err() {
@@ -105,10 +108,10 @@ pub(crate) fn append_to<D: Disk>(
 }
 
 /// Forgets an open share.
-#[tactic(auto, using(crate::proofs::FolderLaws::length_is, crate::proofs::FolderLaws::opened_at))]
+#[tactic(auto, using(crate::proofs::FolderLaws::length_is))]
 pub(crate) fn forget_open<F: Drop>(opened: &mut BTreeMap<ShareKey, OpenShare<F>>, key: &ShareKey)
-    ensures { IsOpenedAt key.now (lengths_of opened.old.entries)
-        (lengths_of opened.new.entries) }
+    ensures gone { at key.now opened.new.entries ≡ None }
+    ensures others { StayBeside (same_key key.now) opened.old.entries opened.new.entries }
 {
     opened.remove(key);
 }
@@ -128,6 +131,11 @@ fn close_file<D: Disk>(
         → WasWritten D.inode (D.folder disk.old) closing.now.open.now
         (at key.now opened.now.entries) bytes
         → FileCloses closing.now.durability closing.now.closed.now bytes result
+        (D.folder disk.old) (D.folder disk.new) }
+    ensures beside { D.honest disk.new → (bytes : List ℕ)
+        → WasWritten D.inode (D.folder disk.old) closing.now.open.now
+        (at key.now opened.now.entries) bytes
+        → OwnStayButOf D.inode closing.now.open.now (at key.now opened.now.entries)
         (D.folder disk.old) (D.folder disk.new) }
 {
     match opened.get(key) {
@@ -160,6 +168,11 @@ pub(crate) fn put_closed<D: Disk>(
         → WasWritten D.inode (D.folder disk.old) closing.now.open.now
         (at key.now opened.now.entries) bytes
         → FileCloses closing.now.durability closing.now.closed.now bytes result
+        (D.folder disk.old) (D.folder disk.new) }
+    ensures beside { D.honest disk.new → (bytes : List ℕ)
+        → WasWritten D.inode (D.folder disk.old) closing.now.open.now
+        (at key.now opened.now.entries) bytes
+        → OwnStayButOf D.inode closing.now.open.now (at key.now opened.now.entries)
         (D.folder disk.old) (D.folder disk.new) }
 {
     // room first: once the file is renamed, no memory is asked for

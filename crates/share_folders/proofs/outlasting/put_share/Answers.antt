@@ -1,4 +1,4 @@
-use Rattle.std.proofs.Common.{◌≡◌, List, ℕ, [], sym, subst, ◌∙◌}
+use Rattle.std.proofs.Common.{◌≡◌, List, ℕ, [], sym, subst, ◌∙◌, inr}
 use Rattle.std.specs.Prelude.{Ok, Option}
 use Rattle.share_store.specs.Shelf.{at, key_of}
 use Rattle.share_folders.specs.declared.disk.Durability.{Durability}
@@ -19,9 +19,9 @@ returns g c honest =
     let u = g.D.Disk.folder c.close_open.new.self.disk in
     let none = nothing_written g.D.Disk.inode s (open_name key store.own) key store.opened.entries c.new-store.ensures.opened in
     let before = c.close_open.ensures.so_far honest in
-    let written = c.in_ok-write_open.ensures.written before [] none in
+    let written = c.in_ok-write_open.ensures.written before [] (inr none) in
     let own = subst (λ (o : Option (List ℕ)). WasWritten g.D.Disk.inode (g.D.Disk.folder c.write_open.new.self.disk) (open_name key o) (at key c.write_open.new.self.opened.entries) bytes) (sym c.write_open.ensures.own) written in
-    let later = closes_later c.write_open.new.self.durability name bytes (Ok tt) s (g.D.Disk.folder c.write_open.new.self.disk) u (c.write_open.ensures.held before [] none) (c.in_ok-close_open.ensures.closes honest bytes own) in
+    let later = closes_later c.write_open.new.self.durability name bytes (Ok tt) s (g.D.Disk.folder c.write_open.new.self.disk) u (c.write_open.ensures.held before [] (inr none)) (c.in_ok-close_open.ensures.closes honest bytes own) in
     let synced : c.write_open.new.self.durability ≡ Synced = c.write_open.ensures.durability ∙ c.new-store.ensures.durability in
     subst (λ (disk : g.row.D.Denot). FileCloses Synced name bytes (Ok tt) (g.D.Disk.folder disk) u) c.new-store.ensures.disk
     (subst (λ (d : Durability). FileCloses d name bytes (Ok tt) s u) synced later)

@@ -1,13 +1,11 @@
-use Rattle.std.proofs.Common.{◌≡◌, List, ℕ, map, sym, subst}
-use Rattle.std.specs.Prelude.{Option, None, Contains, true}
+use Rattle.std.proofs.Common.{List, map, sym, subst}
+use Rattle.std.specs.Prelude.{Option, None}
 use Rattle.std.specs.String.{string_bytes}
-use Rattle.disks.specs.Names.{Name, lasts}
-use Rattle.disks.specs.Folder.{Folder, HasBytes, IsDurable, Crashes}
-use Rattle.share_store.specs.Shelf.{ShareKey, at, key_of}
+use Rattle.share_store.specs.Shelf.{ShareKey, key_of}
 use Rattle.share_folders.specs.declared.files.RecentFile.{RecentFile}
 use Rattle.share_folders.specs.declared.table.KeptShare.{KeptShare}
 use Rattle.share_folders.specs.Names.{closed_name}
-use Rattle.share_folders.specs.Listed.{AreTaken, IsSole}
+use Rattle.share_folders.specs.Listed.{AreTaken}
 use Rattle.share_folders.specs.Stored.{HasShare}
 use Rattle.share_folders.proofs.Closings.{from_stored_if}
 use Rattle.share_folders.proofs.Holding.{sole_has}
