@@ -14,3 +14,4 @@ mod Unused
 mod Polite
 mod Sparing
 mod Moved
+mod Writing

@@ -13,3 +13,4 @@ pub mod own;
 pub mod reading;
 pub mod system;
 pub mod whole;
+pub mod written;

@@ -289,8 +289,8 @@ fn dropped<D: Disk>(disk: &mut D, own: &str, error: DiskError) -> Unmade
     }
 }
 
-// Removes the own name of a file.
-fn take_away<D: Disk>(disk: &mut D, own: &str) -> Result<(), DiskError>
+/// Removes the own name of a file.
+pub(crate) fn take_away<D: Disk>(disk: &mut D, own: &str) -> Result<(), DiskError>
     ensures place { D.place disk.new ≡ D.place disk.old }
     ensures so_far { D.honest disk.new → D.honest disk.old }
     ensures stands { D.honest disk.new → (name : Name) (bytes : List ℕ) → lasts name ≡ true
