@@ -4,7 +4,7 @@ use Rattle.std.specs.Prelude.{Option, Some, None, true, false, All, Result, Ok, 
 use Rattle.std.proofs.lemmas.List.Elements.{All-cons, All-nil}
 use Rattle.disks.specs.Names.{Name, lasts}
 use Rattle.disks.specs.Folder.{Folder, FileState, StandsFor, IsDurable, IsOwn}
-use Rattle.disks.specs.Steps.{Changes, Links, Removes, Renames, SyncsFolder}
+use Rattle.disks.specs.Steps.{Changes, Links, MaySyncFolder, Removes, Renames, SyncsFolder}
 use Rattle.disks.specs.Others.{Others, Steps}
 use Rattle.disks.specs.Calls.{Does, Either, Stays}
 use Rattle.disks.specs.declared.error.DiskError.{DiskError}
@@ -117,3 +117,32 @@ removes_stand name other bytes (Ok u) s t lasting apart does stands =
     does.then.settled other bytes lasting (removed_stand name other bytes does.before does.after apart does.step (does.first.settled other bytes lasting stands))
 removes_stand name other bytes (Err e) s t lasting apart does stands =
     does.then.settled other bytes lasting (either_stand name other bytes does.before does.after apart does.step (does.first.settled other bytes lasting stands))
+
+-- an own name is as it was where another one is removed
+removed_own : (name other : Name) (i : ℕ) (f : FileState) (u v : Folder) → other ≢ name → Removes name u v → IsOwn u other i f → IsOwn v other i f
+removed_own name other i f u v apart step is =
+    let same = step.names other apart in
+    record { own = same.own ∙ is.own; found = same.found ∙ is.found; file_is = step.files i ∙ is.file_is }
+
+either_own : (name other : Name) (i : ℕ) (f : FileState) (u v : Folder) → other ≢ name → Either Stays (Removes name) u v → IsOwn u other i f → IsOwn v other i f
+either_own name other i f u v apart (inl same) is = subst (λ (w : Folder). IsOwn w other i f) (sym same) is
+either_own name other i f u v apart (inr step) is = removed_own name other i f u v apart step is
+
+pub removes_own : (name other : Name) (i : ℕ) (f : FileState) (r : Result Unit DiskError) (s t : Folder) → other ≢ name
+    → Does (Removes name) (Either Stays (Removes name)) r s t → IsOwn s other i f → IsOwn t other i f
+removes_own name other i f (Ok u) s t apart does is =
+    others_own does.after t other i f does.then (removed_own name other i f does.before does.after apart does.step (others_own s does.before other i f does.first is))
+removes_own name other i f (Err e) s t apart does is =
+    others_own does.after t other i f does.then (either_own name other i f does.before does.after apart does.step (others_own s does.before other i f does.first is))
+
+-- and where the names are put on the disk
+pub synced_own : (name : Name) (i : ℕ) (f : FileState) (r : Result Unit DiskError) (s t : Folder)
+    → Does SyncsFolder MaySyncFolder r s t → IsOwn s name i f → IsOwn t name i f
+synced_own name i f (Ok u) s t does own =
+    let is = others_own s does.before name i f does.first own in
+    let step = does.step in
+    others_own does.after t name i f does.then (record { own = step.own name ∙ is.own; found = step.found name ∙ is.found; file_is = step.files i ∙ is.file_is })
+synced_own name i f (Err e) s t does own =
+    let is = others_own s does.before name i f does.first own in
+    let step = does.step in
+    others_own does.after t name i f does.then (record { own = step.own name ∙ is.own; found = step.found name ∙ is.found; file_is = step.files i ∙ is.file_is })

@@ -1,7 +1,7 @@
 -- Files that appear whole, beside others or in the place of one.
-use Rattle.std.specs.Prelude.{◌≡◌, ◌≢◌, ℕ, List, true, ⊤}
+use Rattle.std.specs.Prelude.{◌≡◌, ◌≢◌, ℕ, List, true, false, ⊤}
 use Rattle.disks.specs.Names.{Name, lasts}
-use Rattle.disks.specs.Folder.{Folder, IsDurable, IsOneOf}
+use Rattle.disks.specs.Folder.{Folder, IsDurable, IsOneOf, IsOwn}
 use Rattle.disks.specs.Laws.{FilesStay, KeepsBeside}
 
 -- What is durable under names that last stays so, and what finished files have.
@@ -35,6 +35,11 @@ OwnsNoMoreThan last s t =
 -- No name is this program's own that was not so before.
 abbrev pub OwnsNoMore : Folder → Folder → Type 0
 OwnsNoMore s t = (name : Name) → t.own name ≡ true → s.own name ≡ true
+
+-- A file of these bytes, on the disk, stands under a name of this program's own.
+abbrev pub HasOwn : Folder → Name → List ℕ → Type 0
+HasOwn s name bytes = (i : ℕ)
+    × IsOwn s name i (record { bytes = bytes; is_synced = true; is_finished = false })
 
 -- ---- words of private clauses
 

@@ -6,7 +6,7 @@ ghost use Rattle.disks.specs.Names.{Name, lasts};
 ghost use Rattle.disks.specs.Folder.{Folder, IsDurable, HasBytes, StandsFor, Crashes};
 ghost use Rattle.disks.specs.Laws.{OwnStay, StaysHeld};
 ghost use Rattle.disks.specs.Past.{Passed};
-ghost use Rattle.disks.specs.Whole.{Keeps, Any};
+ghost use Rattle.disks.specs.Whole.{HasOwn, Keeps, Any};
 
 use crate::disk::Disk;
 use crate::error::DiskError;
@@ -41,6 +41,8 @@ pub fn sync_names<D: Disk>(disk: &mut D) -> Result<(), DiskError>
     ensures own { D.honest disk.new → OwnStay (D.folder disk.old) (D.folder disk.new) }
     ensures owns { D.honest disk.new → (name : Name)
         → (D.folder disk.new).own name ≡ (D.folder disk.old).own name }
+    ensures owned { D.honest disk.new → (name : Name) (bytes : List ℕ)
+        → HasOwn (D.folder disk.old) name bytes → HasOwn (D.folder disk.new) name bytes }
     ensures kept { D.honest disk.new → (own : Name)
         → Keeps own Any (D.folder disk.old) (D.folder disk.new) }
     ensures any_moment { D.honest disk.new → (own : Name)

@@ -6,7 +6,7 @@ ghost use Rattle.disks.specs.Folder.{IsOwn, IsDurable, StandsFor};
 ghost use Rattle.disks.specs.Past.{Passed};
 ghost use Rattle.disks.specs.Changed.{nothing};
 ghost use Rattle.disks.specs.Whole.{SparesAll, Spares, OwnsNoMore, OwnsNoMoreThan, IsFree};
-ghost use Rattle.disks.specs.Whole.{Keeps, Beside, Any};
+ghost use Rattle.disks.specs.Whole.{Keeps, Beside, Any, HasOwn};
 
 use crate::disk::Disk;
 use crate::error::DiskError;
@@ -86,6 +86,8 @@ pub fn publish<D: Disk>(
     ensures durable { D.honest disk.new → lasts last.now ≡ true → IfOk result
         (λ published. published ≡ Published.Linked
         → IsDurable (D.folder disk.new) last.now bytes.now) }
+    ensures written { D.honest disk.new → IfOk result (λ published. published ≡ Published.Written
+        → HasOwn (D.folder disk.new) last.now bytes.now) }
 
     // However it ends, and at each moment until then: it never takes the place of another.
     ensures spared { D.honest disk.new → SparesAll (D.folder disk.old) (D.folder disk.new) }
@@ -120,6 +122,8 @@ fn end_published<D: Disk>(disk: &mut D, published: Published) -> Result<Publishe
         → OnOk result (IsDurable (D.folder disk.new) name bytes) }
     ensures owns { D.honest disk.new → (name : Name)
         → (D.folder disk.new).own name ≡ (D.folder disk.old).own name }
+    ensures owned { D.honest disk.new → (name : Name) (bytes : List ℕ)
+        → HasOwn (D.folder disk.old) name bytes → HasOwn (D.folder disk.new) name bytes }
     ensures kept { D.honest disk.new → (own : Name)
         → Keeps own Any (D.folder disk.old) (D.folder disk.new) }
     ensures any_moment { D.honest disk.new → (own : Name)
@@ -172,6 +176,8 @@ fn link_or_write<D: Disk>(
         (record { bytes = bytes.now; is_synced = true; is_finished = false })
         → IfOk result (λ published. published ≡ Published.Linked → lasts last.now ≡ true
         → StandsFor (D.folder disk.new) bytes.now ((D.folder disk.new).found last.now)) }
+    ensures written { D.honest disk.new → IfOk result (λ published. published ≡ Published.Written
+        → HasOwn (D.folder disk.new) last.now bytes.now) }
     ensures spared { D.honest disk.new → (i : ℕ) → IsOwn (D.folder disk.old) own.now i
         (record { bytes = bytes.now; is_synced = true; is_finished = false })
         → SparesAll (D.folder disk.old) (D.folder disk.new) }
@@ -199,6 +205,8 @@ fn write_alone<D: Disk>(disk: &mut D, last: &str, bytes: &[u8]) -> Result<Publis
     ensures place { D.place disk.new ≡ D.place disk.old }
     ensures so_far { D.honest disk.new → D.honest disk.old }
     ensures linked { IfOk result (λ published. published ≢ Published.Linked) }
+    ensures written { D.honest disk.new → IfOk result (λ published. published ≡ Published.Written
+        → HasOwn (D.folder disk.new) last.now bytes.now) }
     ensures spared { D.honest disk.new → SparesAll (D.folder disk.old) (D.folder disk.new) }
     ensures any_moment { D.honest disk.new
         → Passed (SparesAll (D.folder disk.old)) (D.past disk.old) (D.past disk.new) }
@@ -296,6 +304,8 @@ pub(crate) fn take_away<D: Disk>(disk: &mut D, own: &str) -> Result<(), DiskErro
     ensures stands { D.honest disk.new → (name : Name) (bytes : List ℕ) → lasts name ≡ true
         → name ≢ own.now → StandsFor (D.folder disk.old) bytes ((D.folder disk.old).found name)
         → StandsFor (D.folder disk.new) bytes ((D.folder disk.new).found name) }
+    ensures owned { D.honest disk.new → (name : Name) (bytes : List ℕ) → name ≢ own.now
+        → HasOwn (D.folder disk.old) name bytes → HasOwn (D.folder disk.new) name bytes }
     ensures kept { D.honest disk.new
         → Keeps own.now (Beside own.now) (D.folder disk.old) (D.folder disk.new) }
     ensures any_moment { D.honest disk.new

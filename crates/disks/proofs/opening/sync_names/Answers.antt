@@ -6,7 +6,7 @@ use Rattle.disks.specs.Folder.{Folder, StandsFor, IsDurable}
 use Rattle.disks.specs.Steps.{SyncsFolder, MaySyncFolder}
 use Rattle.disks.specs.Calls.{Does}
 use Rattle.disks.proofs.Held.{held_on, folder_held, sync_names_held}
-use Rattle.disks.proofs.OwnNames.{stays_stand, syncs_durable}
+use Rattle.disks.proofs.OwnNames.{stays_own, stays_stand, synced_own, syncs_durable}
 use Rattle.disks.specs.Whole.{Any}
 use Rattle.disks.proofs.Sparing.{owns_same, owns_synced, keeps_on, opened_keep, opened_passes, passes_on, sync_keep, sync_passes}
 use Rattle.disks.proofs.opening.sync_names.Goals as goal
@@ -53,3 +53,13 @@ returns-clause-any_moment g c honest own =
     passes_on own Any _ _ _ _ _ (opened_keep own Any _ _ (c.in_ok-folder.ensures.gives before))
     (opened_passes own Any _ _ _ (c.open_folder.ensures.passes before))
     (sync_passes own Any _ _ _ (c.sync_folder.ensures.passes honest))
+
+pub returns-in_err-folder-clause-owned : goal.returns-in_err-folder-clause-owned
+returns-in_err-folder-clause-owned g c honest name bytes is = (is.0, stays_own _ _ name _ _ (c.in_err-folder.ensures.gives honest) is.1)
+
+pub returns-clause-owned : goal.returns-clause-owned
+returns-clause-owned g c honest name bytes is = (
+  is.0,
+  synced_own name _ _ c.sync_folder.result _ _ (c.sync_folder.ensures.gives honest)
+      (stays_own _ _ name _ _ (c.in_ok-folder.ensures.gives (c.sync_folder.ensures.so_far honest)) is.1),
+)

@@ -32,6 +32,7 @@ returns-in-Err g c =
       place = c.write_alone.ensures.place ∙ c.link.ensures.place;
       so_far = λ honest. c.link.ensures.so_far (c.write_alone.ensures.so_far honest);
       linked = λ honest i is. not_linked c.write_alone.result _ c.write_alone.ensures.linked;
+      written = λ honest. c.write_alone.ensures.written honest;
       spared = λ honest i is.
           spares_on _ _ _ (linked_spares own last _ _ i bytes c.link.result is (c.link.ensures.gives (c.write_alone.ensures.so_far honest)))
           (c.write_alone.ensures.spared honest);
@@ -53,6 +54,7 @@ returns-in-Err-2 g c =
       place = c.link.ensures.place;
       so_far = c.link.ensures.so_far;
       linked = λ honest i is. tt;
+      written = λ honest. tt;
       spared = λ honest i is. linked_spares own last _ _ i bytes c.link.result is (c.link.ensures.gives honest);
       any_moment = λ honest i is. linked_passes own last _ i bytes _ _ is (c.link.ensures.passes honest);
       owns = λ honest i is name apart other. (linked_keep own last _ _ i bytes c.link.result is (c.link.ensures.gives honest)).owns name apart;

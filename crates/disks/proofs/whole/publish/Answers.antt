@@ -14,6 +14,22 @@ durable_where (Err e) named p S Q same is linked then = tt
 durable_where (Ok told) named p S Q same is linked then = λ e.
     then ((subst (λ (n : Result Published Unmade). IfOk n (λ (q : Published). q ≡ published.Linked → S)) is linked) (sym same ∙ e))
 
+-- what is told as written was written
+written_where : (r named : Result Published Unmade) (p : Published) (S Q : Type 0) → IfOk r (λ (told : Published). told ≡ p) → named ≡ Ok p
+    → IfOk named (λ (q : Published). q ≡ published.Written → S) → (S → Q) → IfOk r (λ (told : Published). told ≡ published.Written → Q)
+written_where (Err e) named p S Q same is written then = tt
+written_where (Ok told) named p S Q same is written then = λ e.
+    then ((subst (λ (n : Result Published Unmade). IfOk n (λ (q : Published). q ≡ published.Written → S)) is written) (sym same ∙ e))
+
+pub returns-in-Ok-named_alone-clause-written : goal.returns-in-Ok-named_alone-clause-written
+returns-in-Ok-named_alone-clause-written g c honest =
+    let last = c.args.last.now in
+    let bytes = c.args.bytes.now in
+    let removed = c.end_published.ensures.so_far honest in
+    written_where c.end_published.result c.link_or_write-named.result c.in-Ok-named_alone.published _ _ c.end_published.ensures.same c.in-Ok-named_alone.ensures.same
+    (c.link_or_write-named.ensures.written (c.take_away-removed.ensures.so_far removed))
+    (λ is. c.end_published.ensures.owned honest last bytes (c.take_away-removed.ensures.owned removed last bytes (λ same. c.requires.apart (sym same)) is))
+
 pub returns-in-Ok-named_alone-clause-durable : goal.returns-in-Ok-named_alone-clause-durable
 returns-in-Ok-named_alone-clause-durable g c honest lasting =
     let last = c.args.last.now in

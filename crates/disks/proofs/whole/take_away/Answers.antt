@@ -2,7 +2,7 @@ use Rattle.disks.specs.Calls.{Either, Stays}
 use Rattle.disks.specs.Steps.{Removes}
 use Rattle.disks.specs.Whole.{Beside}
 use Rattle.disks.proofs.Sparing.{does_keep, either_so, passes_keep, removes_so, stays_so}
-use Rattle.disks.proofs.OwnNames.{removes_stand}
+use Rattle.disks.proofs.OwnNames.{removes_own, removes_stand}
 use Rattle.disks.proofs.whole.take_away.Goals as goal
 
 pub returns-clause-kept : goal.returns-clause-kept
@@ -26,3 +26,7 @@ returns-clause-any_moment g c honest =
 pub returns-clause-stands : goal.returns-clause-stands
 returns-clause-stands g c honest name bytes lasting apart stands =
     removes_stand c.args.own.now name bytes c.remove.result _ _ lasting apart (c.remove.ensures.gives honest) stands
+
+pub returns-clause-owned : goal.returns-clause-owned
+returns-clause-owned g c honest name bytes apart is =
+    (is.0, removes_own c.args.own.now name is.0 _ c.remove.result _ _ apart (c.remove.ensures.gives honest) is.1)
