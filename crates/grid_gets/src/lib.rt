@@ -1,6 +1,7 @@
 //! What a `get` does: a range of a file is got span by span, and written to a writer or a file.
 #![tactic(auto)]
 
+mod beside;
 mod output;
 mod range;
 mod spans;

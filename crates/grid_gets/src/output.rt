@@ -3,13 +3,12 @@
 ghost use Rattle.std.specs.Prelude.{◌≡◌, ◌∷◌, [], IfOk, List, None, OnErr, OnOk, Option};
 ghost use Rattle.grid_gets.specs.Files.{Adds, FileAct, ended, opened};
 
-use crate::target::{
-    Found, MOST_LINKS, MOST_PARTS, Target, folder_of, found_of, part_name, target_of,
-};
+use crate::beside::Beside;
+use crate::target::{Found, MOST_LINKS, Target, found_of, target_of};
 use grid_faults::Fault;
 use grid_telling::Failure;
 use std::fs;
-use std::fs::{File, OpenFile, OpenOptions};
+use std::fs::{OpenFile, OpenOptions};
 use std::io::{self, ErrorKind, Write};
 use std::path::Path;
 use std::rt::Files;
@@ -50,7 +49,7 @@ impl<'a, R> DiskFiles<'a, R> {
     }
 }
 
-impl<'a, R: Files + AllocGlobal> NamedFiles for DiskFiles<'a, R> {
+impl<'a, R: Files + AllocGlobal + Clone + Drop> NamedFiles for DiskFiles<'a, R> {
     type File = Part<R>;
 
     // The empty path, a folder and what cannot be looked at are refused, and nothing is made then.
@@ -64,55 +63,36 @@ impl<'a, R: Files + AllocGlobal> NamedFiles for DiskFiles<'a, R> {
     }
 }
 
-/// What the bytes are written to: a new file beside the one that is to have them, which is renamed
-/// once it is whole, and stays where it does not get whole, but for one that has no byte; or what
-/// is no regular file, as a device, and is written itself.
+/// What the bytes are written to.
 #[derive(Drop)]
-pub struct Part<R: Files> {
+pub enum Part<R: Files + AllocGlobal + Clone + Drop> {
+    /// A new file beside the one that is to have them, which is renamed once it is whole, and stays
+    /// where it does not get whole, but for one that has no byte.
+    Beside(Beside<R>),
+    /// What is no regular file, as a device, and is written itself.
+    Straight(Straight<R>),
+}
+
+/// What is no regular file, and its path.
+#[derive(Drop)]
+pub struct Straight<R: Files> {
     file: R::File,
     path: String,
-    // the file that it is renamed to, if it is
-    whole: Option<String>,
-    written: u64,
     fault: Option<io::Error>,
 }
 
-impl<R: Files + AllocGlobal> Part<R> {
+impl<R: Files + AllocGlobal + Clone + Drop> Part<R> {
     // What is written so that the bytes stand at this path.
     fn create(rt: &R, path: &str) -> Result<Part<R>, Fault> {
-        match target_of(path, found_at(rt, path)?) {
-            Target::Beside => Part::beside(rt, path),
-            Target::Straight => Part::straight(rt, path),
+        let found = found_at(rt, path)?;
+        match target_of(path, found) {
+            Target::Beside => {
+                let whole = behind_links(rt, path, found)?;
+                Ok(Part::Beside(Beside::begin(rt, whole.as_str())?))
+            }
+            Target::Straight => Ok(Part::Straight(Straight::open(rt, path)?)),
             Target::Refused(reason) => refused(rt, path, reason),
         }
-    }
-
-    // To a new file beside the one at the end of the links, where the path is one.
-    fn beside(rt: &R, path: &str) -> Result<Part<R>, Fault> {
-        let whole = behind_links(rt, path)?;
-        let (file, part) = new_file_beside(rt, whole.as_str())?;
-        Ok(Part {
-            file,
-            path: part,
-            whole: Some(whole),
-            written: 0,
-            fault: None,
-        })
-    }
-
-    // To what stands at this path, which is neither made nor cut.
-    fn straight(rt: &R, path: &str) -> Result<Part<R>, Fault> {
-        let alloc = rt.alloc();
-        let mut options = OpenOptions::new();
-        options.write(true);
-        let file = at_path(alloc, options.open(rt, path), path)?;
-        Ok(Part {
-            file,
-            path: String::from_str(alloc, path)?,
-            whole: None,
-            written: 0,
-            fault: None,
-        })
     }
 
     // Ends the file: one that is whole is put on the disk, and gets its name.
@@ -125,37 +105,50 @@ impl<R: Files + AllocGlobal> Part<R> {
         }
     }
 
-    // Puts the file on the disk, renames it, and puts its new name on the disk.
+    // Puts what was written on the disk, and gives it its name.
     fn keep(self, rt: &R) -> Result<(), Fault> {
-        let alloc = rt.alloc();
-        let part = self.path.as_str();
-        let Some(whole) = &self.whole else {
-            return at_path(alloc, sync_device(&self.file), part);
-        };
-        at_path(alloc, self.file.sync_all(), part)?;
-        at_path(alloc, fs::rename(rt, part, whole.as_str()), part)?;
-        let folder = folder_of(whole.as_str());
-        at_path(alloc, sync_folder(rt, folder), folder)
+        match self {
+            Part::Beside(part) => part.keep(),
+            Part::Straight(part) => {
+                let synced = sync_device(&part.file);
+                at_path(rt.alloc(), synced, part.path.as_str())
+            }
+        }
     }
 
-    // Leaves the file as it is, or removes one without a byte. Where it could not be written the
-    // fault names it.
+    // Leaves the file as it is, or removes a new one without a byte. Where it could not be written
+    // the fault names it.
     fn give_up(self, rt: &R, failure: Failure) -> Failure {
-        let path = self.path.as_str();
-        if self.whole.is_some() && self.written == 0 {
-            let _ = fs::remove_file(rt, path);
-        }
+        let (path, fault) = match self {
+            Part::Beside(part) => part.give_up(),
+            Part::Straight(part) => (part.path, part.fault),
+        };
         match failure {
             Failure::Writer => {
-                let fault = self.fault.unwrap_or(io::Error::from(ErrorKind::Other));
+                let fault = fault.unwrap_or(io::Error::from(ErrorKind::Other));
                 let written: io::Result<()> = Err(fault);
-                match at_path(rt.alloc(), written, path) {
+                match at_path(rt.alloc(), written, path.as_str()) {
                     Ok(()) => Failure::Writer,
                     Err(fault) => Failure::Fault(fault),
                 }
             }
             failure => failure,
         }
+    }
+}
+
+impl<R: Files + AllocGlobal> Straight<R> {
+    // What stands at this path, which is neither made nor cut.
+    fn open(rt: &R, path: &str) -> Result<Straight<R>, Fault> {
+        let alloc = rt.alloc();
+        let mut options = OpenOptions::new();
+        options.write(true);
+        let file = at_path(alloc, options.open(rt, path), path)?;
+        Ok(Straight {
+            file,
+            path: String::from_str(alloc, path)?,
+            fault: None,
+        })
     }
 }
 
@@ -173,14 +166,28 @@ fn refused<R: Files + AllocGlobal, T>(rt: &R, path: &str, reason: ErrorKind) -> 
     at_path(rt.alloc(), Err(io::Error::from(reason)), path)
 }
 
-// The path at the end of the links that begin at this one. It is refused where something else is
-// found there, as behind a link of the system to a file that has no name any more.
-fn behind_links<R: Files + AllocGlobal>(rt: &R, path: &str) -> Result<String, Fault> {
-    let mut end = String::from_str(rt.alloc(), path)?;
-    for _ in 0..MOST_LINKS {
+// The path at the end of the links that begin at this one, at which this was found.
+fn behind_links<R: Files + AllocGlobal>(rt: &R, path: &str, found: Found) -> Result<String, Fault> {
+    match next_link(rt, path)? {
+        Some(next) => behind_link(rt, path, next, found),
+        None => Ok(String::from_str(rt.alloc(), path)?),
+    }
+}
+
+// The path at the end of the links that begin at this one and go on with the next. It is refused
+// where something else is found there, as behind a link of the system to a file that has no name
+// any more.
+fn behind_link<R: Files + AllocGlobal>(
+    rt: &R,
+    path: &str,
+    next: String,
+    found: Found,
+) -> Result<String, Fault> {
+    let mut end = next;
+    for _ in 1..MOST_LINKS {
         match next_link(rt, end.as_str())? {
             Some(next) => end = next,
-            None if found_at(rt, end.as_str())? == found_at(rt, path)? => return Ok(end),
+            None if found_at(rt, end.as_str())? == found => return Ok(end),
             None => return refused(rt, path, ErrorKind::NotFound),
         }
     }
@@ -208,30 +215,6 @@ fn is_link<R: Files + AllocGlobal>(rt: &R, path: &str) -> Result<bool, Fault> {
     }
 }
 
-// A new file beside a path, under the first of its names that is not taken.
-fn new_file_beside<R>(rt: &R, path: &str) -> Result<(R::File, String), Fault>
-where
-    R: Files + AllocGlobal,
-{
-    for turn in 1..MOST_PARTS {
-        let part = part_name(rt.alloc(), path, turn)?;
-        match new_file(rt, part.as_str()) {
-            Err(error) if error.kind() == ErrorKind::AlreadyExists => {}
-            made => return Ok((at_path(rt.alloc(), made, part.as_str())?, part)),
-        }
-    }
-    let part = part_name(rt.alloc(), path, MOST_PARTS)?;
-    let file = at_path(rt.alloc(), new_file(rt, part.as_str()), part.as_str())?;
-    Ok((file, part))
-}
-
-// Makes a file at a path at which nothing stands.
-fn new_file<R: Files>(rt: &R, path: &str) -> io::Result<R::File> {
-    let mut options = OpenOptions::new();
-    options.write(true).create_new(true);
-    options.open(rt, path)
-}
-
 // Puts on the disk what was written to a device, or to what has none.
 fn sync_device<F: OpenFile>(file: &F) -> io::Result<()> {
     match file.sync_all() {
@@ -240,19 +223,13 @@ fn sync_device<F: OpenFile>(file: &F) -> io::Result<()> {
     }
 }
 
-// Puts the names that stand in a folder on the disk.
-fn sync_folder<R: Files>(rt: &R, folder: &str) -> io::Result<()> {
-    File::open(rt, folder)?.sync_all()
-}
-
-impl<R: Files> Write for Part<R> {
+impl<R: Files> Write for Straight<R> {
     ghost contents = { λ part. R.File.contents part.file };
 
     fn write(&mut self, buf: &[u8]) -> io::Result<usize> {
         let outcome = self.file.write(buf);
-        match &outcome {
-            Ok(count) => self.written = self.written.saturating_add(*count as u64),
-            Err(error) => self.fault = Some(*error),
+        if let Err(error) = &outcome {
+            self.fault = Some(*error);
         }
         outcome
     }
@@ -263,5 +240,21 @@ impl<R: Files> Write for Part<R> {
             self.fault = Some(*error);
         }
         outcome
+    }
+}
+
+impl<R: Files + AllocGlobal + Clone + Drop> Write for Part<R> {
+    fn write(&mut self, buf: &[u8]) -> io::Result<usize> {
+        match self {
+            Part::Beside(part) => part.write(buf),
+            Part::Straight(part) => part.write(buf),
+        }
+    }
+
+    fn flush(&mut self) -> io::Result<()> {
+        match self {
+            Part::Beside(part) => part.flush(),
+            Part::Straight(part) => part.flush(),
+        }
     }
 }

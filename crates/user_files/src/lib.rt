@@ -7,10 +7,12 @@
 mod files;
 mod inputs;
 mod names;
+mod paths;
 mod pieces;
 mod publishing;
 mod spooling;
 
 pub use files::{at_path, if_there, read_at_most};
 pub use inputs::{Input, open_input};
+pub use paths::{folder_before, last_name};
 pub use publishing::{NewFile, OWNER_ONLY, SHARED, publish, replace, sync_folder};

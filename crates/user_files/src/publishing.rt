@@ -5,6 +5,7 @@ ghost use Rattle.std.specs.Prelude.{◌≢◌, IfOk};
 ghost use Rattle.std.specs.String.{string_bytes};
 
 use crate::names::random_name;
+use crate::paths::last_name;
 use disks::system::SystemDisk;
 use disks::whole;
 use disks::whole::Published;
@@ -59,14 +60,6 @@ where
     match whole::replace(&mut disk, own.as_str(), name, file.text) {
         Ok(()) => Ok(()),
         Err(unmade) => Err(unmade.error.reason()),
-    }
-}
-
-// The name behind the last slash of a path.
-fn last_name(path: &str) -> &str {
-    match path.rsplit_once('/') {
-        Some((_, name)) => name,
-        None => path,
     }
 }
 
