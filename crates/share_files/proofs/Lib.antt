@@ -1,2 +1,3 @@
 mod AsideNames
 pub mod Going
+mod OneStep

@@ -16,12 +16,14 @@ ghost use Rattle.share_files.specs.Order.{file_order};
 
 use crate::acts::{Act, Acts, Standing};
 use crate::bytes::{Verdict, Watch, check_bytes};
+use crate::changes::{make_file, remove_file, rename_file};
 use crate::name::{FileKind, ShareFile};
 use cap_text::to_base32;
+use disks::system::SystemDisk;
 use share_folders::names::{OwnToken, draw_token};
 use share_store::error::StoreError;
 use std::alloc::Global;
-use std::fs::{DirEntry, File, Metadata, OpenFile, OpenOptions};
+use std::fs::{DirEntry, File, Metadata, OpenFile};
 use std::io::ErrorKind;
 use std::marker::Model;
 use std::random::RandomSource;
@@ -110,6 +112,12 @@ where
             Err(error) => self.add(&Act::failure(error, file)),
         }
         outcome
+    }
+
+    // The folder, of which names are changed.
+    fn disk(&self) -> io::Result<SystemDisk<&'a R>> {
+        let folder = String::from_str(self.rt.alloc(), self.folder)?;
+        Ok(SystemDisk::new(self.rt, folder))
     }
 
     // The path of a file.
@@ -234,9 +242,8 @@ where
 
     // The same, which is not added.
     fn renaming(&self, from: &ShareFile, to: &ShareFile) -> io::Result<()> {
-        let from = self.path(from)?;
-        let to = self.path(to)?;
-        fs::rename(self.rt, from.as_str(), to.as_str())
+        let mut disk = self.disk()?;
+        rename_file(self.rt.alloc(), &mut disk, from, to).map_err(|error| error.reason())
     }
 
     /// Makes an empty file under a name that is free.
@@ -251,11 +258,8 @@ where
 
     // The same, which is not added.
     fn making(&self, file: &ShareFile) -> io::Result<()> {
-        let path = self.path(file)?;
-        let mut options = OpenOptions::new();
-        options.write(true).create_new(true);
-        let _place = options.open(self.rt, path.as_str())?;
-        Ok(())
+        let mut disk = self.disk()?;
+        make_file(self.rt.alloc(), &mut disk, file).map_err(|error| error.reason())
     }
 
     /// Removes a file.
@@ -270,8 +274,8 @@ where
 
     // The same, which is not added.
     fn removing(&self, file: &ShareFile) -> io::Result<()> {
-        let path = self.path(file)?;
-        fs::remove_file(self.rt, path.as_str())
+        let mut disk = self.disk()?;
+        remove_file(self.rt.alloc(), &mut disk, file).map_err(|error| error.reason())
     }
 
     /// Puts the bytes of a file on the disk.

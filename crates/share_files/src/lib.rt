@@ -5,6 +5,7 @@
 mod acts;
 mod aside;
 mod bytes;
+mod changes;
 mod fate;
 mod files;
 mod name;

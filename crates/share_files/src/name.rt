@@ -12,7 +12,7 @@ ghost use Rattle.share_files.specs.Name.{IsAsideNumber, aside_end, aside_file, a
 ghost use Rattle.share_files.specs.Name.{closed_file, file_name, half_file, half_name};
 
 use cap_text::from_base32;
-use share_folders::names::{ClosedName, OpenName, OwnToken, base32_of, closed_path, open_path};
+use share_folders::names::{ClosedName, OpenName, OwnToken, base32_of};
 use share_store::error::StoreError;
 use share_store::shelf::ShareKey;
 use std::alloc::Global;
@@ -117,67 +117,79 @@ impl ShareFile {
         read_aside(name)
     }
 
+    /// The file's name.
+    pub fn text(&self, alloc: Global) -> Result<String, StoreError>
+        ensures text { IfOk result (λ text. string_bytes text ≡ file_name self.now) }
+        ensures memory { IsOkUnless result StoreError.OutOfMemory }
+    {
+        match &self.kind {
+            FileKind::Closed(digest) => closed_text(alloc, &self.key, digest),
+            FileKind::Open(own) => open_text(alloc, &self.key, *own),
+            FileKind::HalfAside(digest, own) => half_text(alloc, &self.key, digest, own),
+            FileKind::Aside(digest, number) => aside_text(alloc, &self.key, digest, *number),
+        }
+    }
+
     /// The file's path.
     pub fn path(&self, alloc: Global, folder: &str) -> Result<String, StoreError>
         ensures path { IfOk result
             (λ path. string_bytes path ≡ in_folder folder.now (file_name self.now)) }
         ensures memory { IsOkUnless result StoreError.OutOfMemory }
     {
-        match &self.kind {
-            FileKind::Closed(digest) => closed_path(alloc, folder, &self.key, digest),
-            FileKind::Open(own) => open_file_path(alloc, folder, &self.key, *own),
-            FileKind::HalfAside(digest, own) => half_path(alloc, folder, &self.key, digest, own),
-            FileKind::Aside(digest, number) => {
-                aside_path(alloc, folder, &self.key, digest, *number)
-            }
-        }
+        let name = self.text(alloc)?;
+        Ok(format!(in alloc; "{folder}/{name}")?)
     }
 }
 
-// The path of an open share's file.
-fn open_file_path(
-    alloc: Global,
-    folder: &str,
-    key: &ShareKey,
-    own: Option<OwnToken>,
-) -> Result<String, StoreError>
-    ensures path { IfOk result
-        (λ path. string_bytes path ≡ in_folder folder.now (open_name key.now own)) }
+// The name of a closed share's file.
+fn closed_text(alloc: Global, key: &ShareKey, digest: &Digest) -> Result<String, StoreError>
+    ensures text { IfOk result (λ text. string_bytes text ≡ closed_name key.now digest.now) }
     ensures memory { IsOkUnless result StoreError.OutOfMemory }
 {
-    open_path(alloc, folder, &OpenName { key: *key, own })
+    let name = ClosedName {
+        key: *key,
+        digest: *digest,
+    };
+    name.text(alloc)
 }
 
-// The path of a closed share's file that is on its way to be set aside.
-fn half_path(
+// The name of an open share's file.
+fn open_text(alloc: Global, key: &ShareKey, own: Option<OwnToken>) -> Result<String, StoreError>
+    ensures text { IfOk result (λ text. string_bytes text ≡ open_name key.now own) }
+    ensures memory { IsOkUnless result StoreError.OutOfMemory }
+{
+    let name = OpenName { key: *key, own };
+    name.text(alloc)
+}
+
+// The name of a closed share's file that is on its way to be set aside.
+fn half_text(
     alloc: Global,
-    folder: &str,
     key: &ShareKey,
     digest: &Digest,
     own: &OwnToken,
 ) -> Result<String, StoreError>
-    ensures path { IfOk result (λ path.
-        string_bytes path ≡ in_folder folder.now (half_name key.now digest.now own.now)) }
+    ensures text { IfOk result
+        (λ text. string_bytes text ≡ half_name key.now digest.now own.now) }
     ensures memory { IsOkUnless result StoreError.OutOfMemory }
 {
-    let closed = closed_path(alloc, folder, key, digest)?;
+    let closed = closed_text(alloc, key, digest)?;
     let own = base32_of(alloc, own)?;
     Ok(format!(in alloc; "{closed}.{own}.aside")?)
 }
 
-// The path of a closed share's file that is set aside, by its number.
-fn aside_path(
+// The name of a closed share's file that is set aside, by its number.
+fn aside_text(
     alloc: Global,
-    folder: &str,
     key: &ShareKey,
     digest: &Digest,
     number: u8,
 ) -> Result<String, StoreError>
-    ensures path { IfOk result (λ path.
-        string_bytes path ≡ in_folder folder.now (aside_name key.now digest.now number)) }
+    ensures text { IfOk result
+        (λ text. string_bytes text ≡ aside_name key.now digest.now number) }
     ensures memory { IsOkUnless result StoreError.OutOfMemory }
 {
-    let closed = closed_path(alloc, folder, key, digest)?;
+    let closed = closed_text(alloc, key, digest)?;
     if number == 1 {
         return Ok(format!(in alloc; "{closed}.damaged")?);
     }
