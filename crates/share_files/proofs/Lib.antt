@@ -1,3 +1,4 @@
 mod AsideNames
 pub mod Going
 mod OneStep
+mod ReadingLemmas

@@ -7,6 +7,7 @@ pub mod Going
 pub mod Order
 -- The words of private clauses.
 pub mod Reading
+pub mod Readings
 pub mod Failures
 pub mod ActsState
 pub mod Steps

@@ -3,6 +3,7 @@
 
 ghost use Rattle.std.specs.Prelude.{◌≡◌, ◌≢◌, ◌<◌, [], ◌∷◌, List, length, All, IfErr, IfOk, OnErr};
 ghost use Rattle.std.specs.Prelude.{IsSorted};
+ghost use Rattle.std.specs.Bool.{OnFalse, OnTrue};
 ghost use Rattle.std.specs.IoError.{error_kind};
 ghost use Rattle.std.specs.declared.io.ErrorKind.TheVariants.{NotFound};
 ghost use Rattle.share_files.specs.declared.acts.Act.{Act};
@@ -10,6 +11,7 @@ ghost use Rattle.share_files.specs.declared.acts.Act.TheVariants.{Found, Judged,
 ghost use Rattle.share_files.specs.declared.acts.Act.TheVariants.{Removed, Unlisted};
 ghost use Rattle.share_files.specs.declared.name.ShareFile.{ShareFile};
 ghost use Rattle.share_files.specs.Acts.{Lists};
+ghost use Rattle.share_files.specs.declared.bytes.Verdict.TheVariants.{Whole};
 ghost use Rattle.share_files.specs.Failures.{failure_of};
 ghost use Rattle.share_files.specs.Verdict.{IsReadAs};
 ghost use Rattle.share_files.specs.Order.{file_order};
@@ -18,6 +20,7 @@ use crate::acts::{Act, Acts, Standing};
 use crate::bytes::{Verdict, Watch, check_bytes};
 use crate::changes::{make_file, remove_file, rename_file};
 use crate::name::{FileKind, ShareFile};
+use crate::seen::SeenWhole;
 use cap_text::to_base32;
 use disks::system::SystemDisk;
 use share_folders::names::{OwnToken, draw_token};
@@ -216,7 +219,27 @@ where
         }
     }
 
-    // The same, which is not added.
+    /// Whether the bytes of a file that was read before have this digest. Nothing is done where
+    /// they have another.
+    pub fn recall(
+        &mut self,
+        file: &ShareFile,
+        digest: &Digest,
+        seen: &SeenWhole<R::File>,
+    ) -> bool
+        ensures read { OnTrue result (IsReadAs R.File.remaining digest.now Whole) }
+        ensures judged { OnTrue result
+            (self.new ≡ Judged file.now digest.now Whole ∷ self.old) }
+        ensures other { OnFalse result (self.new ≡ self.old) }
+    {
+        if !seen.is_of(digest) {
+            return false;
+        }
+        self.add(&Act::Judged(*file, *digest, Verdict::Whole));
+        true
+    }
+
+    // Whether the bytes of a file have this digest, which is not added.
     fn verdict<W: Watch>(
         &self,
         file: &ShareFile,

@@ -9,6 +9,8 @@ mod changes;
 mod fate;
 mod files;
 mod name;
+mod reading;
+mod seen;
 
 pub use acts::{Act, Standing};
 pub use aside::{Went, closed_fate, set_aside, settle};
@@ -16,3 +18,5 @@ pub use bytes::{Verdict, Watch, check_bytes};
 pub use fate::{Claim, Fate, Wanted, fate_of, fate_read};
 pub use files::{FolderFiles, Listing, OPEN_SECONDS};
 pub use name::{FileKind, ShareFile};
+pub use reading::{MOST_LANES, SharePath, WORTH_LANES, see_whole};
+pub use seen::SeenWhole;
