@@ -10,8 +10,6 @@ use Rattle.std.proofs.lemmas.Bool.Decides.{Decides-eqb}
 use Rattle.std.proofs.lemmas.Slice.Eq.{slice_eq-Decides}
 use Rattle.std.proofs.lemmas.Grind.{div_ceil_times}
 use Rattle.std.proofs.lemmas.List.{get_or-map, length-append, length-drop, length-map, length-take, length-take-le, take_all, take_at}
-use Rattle.aes_ctr.specs.CounterMode.{xored, xored_from}
-use Rattle.aes_ctr.proofs.StreamLemmas.{length-xored_from}
 use Rattle.tagged_hash.specs.TaggedHash.{tagged_hash}
 use Rattle.tagged_hash.specs.declared.tag.Tag.TheVariants.{Block}
 use Rattle.ueb.specs.Shape.{rounded_up}
@@ -31,9 +29,9 @@ use Rattle.block_making.specs.declared.error.PieceError.TheVariants.{SourceChang
 use Rattle.sources.proofs.PartReading.{err-again}
 use Rattle.sources.specs.Source.{IsRead}
 use Rattle.sources.specs.Change.{DiffersFromFile}
-use Rattle.block_making.specs.Making.{HasBlock, HasBlocks, IsSegmentRead, Making, hashes_of}
+use Rattle.block_making.specs.Making.{HasBlock, HasBlocks, IsSegmentRead, Making, ciphertext_from, hashes_of}
 use Rattle.block_making.proofs.BlockLists.{HaveSize}
-use Rattle.block_making.proofs.Streams.{drop-xored, take-xored}
+use Rattle.block_making.proofs.Streams.{drop-ciphertext, length-ciphertext, take-ciphertext}
 use Rattle.block_making.proofs.OtherBytes.{other-differs}
 
 -- ---- the blocks of a file
@@ -46,7 +44,7 @@ module _ (m : Making) (file : List ℕ) where
   g = m.geometry
 
   abbrev ciphertext : List ℕ
-  ciphertext = xored m.key file
+  ciphertext = ciphertext_from m.key 0 file
 
   abbrev pub own : List (List ℕ)
   own = blocks_of g.needed m.share (segments_of g ciphertext)
@@ -72,7 +70,7 @@ module _ (m : Making) (file : List ℕ) where
   pub own_sizes : IsGeometry g → length file ≡ g.size → HaveSize (block_size g) (share_data_size g) own
   own_sizes valid long number inside =
       let within : number < segment_count g = omega (arith, inside, length-own) in
-      let whole : length ciphertext ≡ g.size = length-xored_from m.key 0 file ∙ long in
+      let whole : length ciphertext ≡ g.size = length-ciphertext m.key 0 file ∙ long in
       let size : length (segment_at g number ciphertext) ≡ segment_length g number =
       length-take g.segment_size (drop (number * g.segment_size) ciphertext)
       ∙ omega (arith, length-drop (number * g.segment_size) ciphertext, whole) in
@@ -116,7 +114,7 @@ module _ {S : Type 0} (gives : S → ℕ → List ℕ → S → Type 0) (m : Mak
 
   -- a segment whose block has another hash is not the file's
   pub block_differs : (old new : S) (segment file : List ℕ) → length segment ≡ segment_length m.geometry number → IsRead gives old offset segment new
-      → tagged_hash Block (block_of m.geometry.needed m.share (xored_from m.key offset segment)) ≢ get_or (hashes_of m) number []
+      → tagged_hash Block (block_of m.geometry.needed m.share (ciphertext_from m.key offset segment)) ≢ get_or (hashes_of m) number []
       → HasBlock m number file → DiffersFromFile gives old file new
   block_differs old new segment file long read apart is =
       let part : List ℕ = drop offset file in
@@ -128,10 +126,10 @@ module _ {S : Type 0} (gives : S → ℕ → List ℕ → S → Type 0) (m : Mak
         | inl short ↦ take_all (length segment) part (omega (arith, size, length-take m.geometry.segment_size part)) ∙ sym (take_all m.geometry.segment_size part (omega (arith, short)))
         | inr enough ↦ (let same : length segment ≡ m.geometry.segment_size = omega (arith, size, length-take m.geometry.segment_size part) in ap (λ n. take n part) same)
       ] in
-      let encrypted : xored_from m.key offset segment ≡ segment_at m.geometry number (xored m.key file) =
-      ap (xored_from m.key offset) (e ∙ cut)
-      ∙ sym (take-xored m.key m.geometry.segment_size offset part)
-      ∙ ap (take m.geometry.segment_size) (sym (drop-xored m.key offset 0 file ∙ (let zero : 0 + offset ≡ offset = omega arith in ap (λ p. xored_from m.key p part) zero))) in
+      let encrypted : ciphertext_from m.key offset segment ≡ segment_at m.geometry number (ciphertext_from m.key 0 file) =
+      ap (ciphertext_from m.key offset) (e ∙ cut)
+      ∙ sym (take-ciphertext m.key m.geometry.segment_size offset part)
+      ∙ ap (take m.geometry.segment_size) (sym (drop-ciphertext m.key offset 0 file ∙ (let zero : 0 + offset ≡ offset = omega arith in ap (λ p. ciphertext_from m.key p part) zero))) in
       apart (ap (λ (s : List ℕ). tagged_hash Block (block_of m.geometry.needed m.share s)) encrypted ∙ is.hash))
 
 -- a segment begins before the end of its file, and does not reach behind it
@@ -159,19 +157,19 @@ is_room g number room valid inside is =
 pub segment_read : {S : Type 0} (gives : S → ℕ → List ℕ → S → Type 0) (old new : S) (m : Making) (number offset len : ℕ) (padded segment : List ℕ) → number < segment_count m.geometry
     → IsRoom m.geometry number (length padded) → offset ≡ number * m.geometry.segment_size → len ≡ segment_length m.geometry number → length segment ≡ length (take len padded)
     → IsRead gives old offset segment new
-    → IsSegmentRead gives old m number (xored_from m.key offset (take len (segment ++ drop len padded)) ++ replicate (length (segment ++ drop len padded) - len) 0) new
+    → IsSegmentRead gives old m number (ciphertext_from m.key offset (take len (segment ++ drop len padded)) ++ replicate (length (segment ++ drop len padded) - len) 0) new
 segment_read gives old new m number offset len padded segment within room offset_is len_is long read =
     let enough : len ≤ length padded = omega (arith, room.within, len_is) in
     let size : length segment ≡ len = long ∙ length-take-le len padded enough in
     let front : take len (segment ++ drop len padded) ≡ segment = take_at segment (drop len padded) len size in
-    let encrypted : length (xored_from m.key offset segment) ≡ segment_length m.geometry number = length-xored_from m.key offset segment ∙ size ∙ len_is in
-    let rest : length (segment ++ drop len padded) - len ≡ rounded_up (length (xored_from m.key offset segment)) m.geometry.needed - length (xored_from m.key offset segment) =
+    let encrypted : length (ciphertext_from m.key offset segment) ≡ segment_length m.geometry number = length-ciphertext m.key offset segment ∙ size ∙ len_is in
+    let rest : length (segment ++ drop len padded) - len ≡ rounded_up (length (ciphertext_from m.key offset segment)) m.geometry.needed - length (ciphertext_from m.key offset segment) =
     (let all : length (segment ++ drop len padded) ≡ length padded = omega (arith, length-append segment (drop len padded), length-drop len padded, size, enough) in
     (λ p. all p - len_is p) ∙ (λ p. room.rounded p - segment_length m.geometry number) ∙ λ p. rounded_up (sym encrypted p) m.geometry.needed - sym encrypted p) in
     record {
       was = record { segment = segment; long = size ∙ len_is; read = subst (λ p. IsRead gives old p segment new) offset_is read };
-      padded_is = (λ p. xored_from m.key offset (front p) ++ replicate (rest p) 0)
-          ∙ ap (λ p. padded_segment m.geometry.needed (xored_from m.key p segment)) offset_is;
+      padded_is = (λ p. ciphertext_from m.key offset (front p) ++ replicate (rest p) 0)
+          ∙ ap (λ p. padded_segment m.geometry.needed (ciphertext_from m.key p segment)) offset_is;
     }
 
 -- a part that ended is a changed source

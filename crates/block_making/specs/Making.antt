@@ -1,7 +1,7 @@
 -- How the blocks of a share are made again.
 use Rattle.std.specs.Prelude.{◌≡◌, ◌≢◌, ◌⊎◌, ℕ, ◌+◌, ◌-◌, ◌*◌, ◌<◌, ◌≤◌, List, [], ◌∷◌, ◌++◌}
-use Rattle.std.specs.Prelude.{drop, length, slice_index_or, take}
-use Rattle.aes_ctr.specs.CounterMode.{xored, xored_from}
+use Rattle.std.specs.Prelude.{Option, Some, None, drop, length, slice_index_or, take}
+use Rattle.aes_ctr.specs.CounterMode.{xored_from}
 use Rattle.tagged_hash.specs.TaggedHash.{tagged_hash}
 use Rattle.tagged_hash.specs.declared.tag.Tag.TheVariants.{Block}
 use Rattle.zfec_code.specs.Shares.{Parameters}
@@ -44,16 +44,22 @@ pub record AreSlots (g : Geometry) (leaves : List (List (List ℕ))) (slots : Sl
   pub verified : (block : KeptBlock) → Keeps slots.blocks block
       → IsBlock g leaves block.share block.number block.bytes
 
--- what the blocks of a share are made by: the key that encrypts their file, and the hashes that
--- the blocks of all shares have to have
+-- the ciphertext of bytes of a source from an offset on: under a key, or the bytes themselves where
+-- the source holds ciphertext
+abbrev pub ciphertext_from : Option (List ℕ) → ℕ → List ℕ → List ℕ
+ciphertext_from (Some key) offset bytes = xored_from key offset bytes
+ciphertext_from None offset bytes = bytes
+
+-- what the blocks of a share are made by: the key that encrypts their file, if it is to be
+-- encrypted, and the hashes that the blocks of all shares have to have
 pub record Making : Type 0 where
   pub geometry : Geometry
-  pub key : List ℕ
+  pub key : Option (List ℕ)
   pub leaves : List (List (List ℕ))
   pub share : ℕ
 
 -- the value of what is made by these
-abbrev pub making_with : Geometry → List ℕ → List (List (List ℕ)) → ℕ → Making
+abbrev pub making_with : Geometry → Option (List ℕ) → List (List (List ℕ)) → ℕ → Making
 making_with geometry key leaves share =
     record { geometry = geometry; key = key; leaves = leaves; share = share }
 
@@ -69,14 +75,15 @@ for_share m share = record m { share = share }
 pub record HasBlock (m : Making) (number : ℕ) (file : List ℕ) : Type 0 where
   pub long : length file ≡ m.geometry.size
   pub hash : tagged_hash Block
-      (block_of m.geometry.needed m.share (segment_at m.geometry number (xored m.key file)))
+      (block_of m.geometry.needed m.share
+      (segment_at m.geometry number (ciphertext_from m.key 0 file)))
       ≡ slice_index_or (hashes_of m) number []
 
 -- all blocks of the share have the hashes that are kept
 pub record HasBlocks (m : Making) (file : List ℕ) : Type 0 where
   pub long : length file ≡ m.geometry.size
   pub hashes : hashes_of m ≡ block_hashes
-      (blocks_of m.geometry.needed m.share (segments_of m.geometry (xored m.key file)))
+      (blocks_of m.geometry.needed m.share (segments_of m.geometry (ciphertext_from m.key 0 file)))
 
 -- so have those of each share
 abbrev pub HaveBlocks : Making → List ℕ → Type 0
@@ -108,12 +115,12 @@ pub record WasRead {S : Type 0} (gives : S → ℕ → List ℕ → S → Type 0
   pub long : length segment ≡ segment_length g number
   pub read : IsRead gives old (number * g.segment_size) segment new
 
--- so it was, and it stands here encrypted and padded
+-- so it was, and its ciphertext stands here, padded
 pub record IsSegmentRead {S : Type 0} (gives : S → ℕ → List ℕ → S → Type 0) (old : S) (m : Making)
     (number : ℕ) (padded : List ℕ) (new : S) : Type 0 where
   pub was : WasRead gives old m.geometry number new
   pub padded_is : padded ≡ padded_segment m.geometry.needed
-      (xored_from m.key (number * m.geometry.segment_size) was.segment)
+      (ciphertext_from m.key (number * m.geometry.segment_size) was.segment)
 
 -- The share's block of this segment was written over a piece of the share. It was made of the
 -- segment, which was read for it, or nothing was read.

@@ -6,11 +6,11 @@ ghost use Rattle.zfec_code.specs.ShareValue.{share_block};
 use aes_ctr::Aes128;
 use zfec_code::Code;
 
-/// What segments are encrypted and encoded by.
+/// What segments are encrypted and encoded by. Without a cipher they are ciphertext already.
 #[derive(Drop)]
 pub struct Encoder {
     pub code: Code,
-    pub cipher: Aes128,
+    pub cipher: Option<Aes128>,
 }
 
 /// The block in this lane, of lanes of `size` bytes that stand one after another.

@@ -3,7 +3,6 @@
 ghost use Rattle.std.specs.Prelude.{◌≡◌, ◌≢◌, ◌+◌, ◌-◌, ◌*◌, ◌<◌, ◌≤◌, ◌^◌, ◌++◌, ℕ, List, [], All};
 ghost use Rattle.std.specs.Prelude.{drop, false, length, replicate, slice_index_or, take, true};
 ghost use Rattle.std.specs.Prelude.{IsErrOf, OnOk};
-ghost use Rattle.aes_ctr.specs.CounterMode.{xored_from};
 ghost use Rattle.tagged_hash.specs.TaggedHash.{tagged_hash};
 ghost use Rattle.tagged_hash.specs.declared.tag.Tag.TheVariants.{Block};
 ghost use Rattle.share_layout.specs.Geometry.{block_size, segment_count};
@@ -14,7 +13,7 @@ ghost use Rattle.sources.specs.Change.{DiffersFromFile, HasEndedEarly};
 ghost use Rattle.sources.specs.Source.{HasFailedMore};
 ghost use Rattle.block_making.specs.Making.{ArePut, AreSlots, HasOtherBlock, HaveBlocks, IsBlock};
 ghost use Rattle.block_making.specs.Making.{IsBlockPut, IsMaking, IsSegmentRead, WereRead, leaf_at};
-ghost use Rattle.block_making.specs.Making.{making_with};
+ghost use Rattle.block_making.specs.Making.{ciphertext_from, making_with};
 
 use crate::encoder::{Encoder, encode_lane, lane_of};
 use crate::error::PieceError;
@@ -157,7 +156,7 @@ impl BlockMaker<'_> {
         Ok(())
     }
 
-    // Reads a segment and encrypts it, with its padding behind it.
+    // Reads a segment and encrypts it, if it is to be, with its padding behind it.
     fn read_segment<S: Source>(
         &self,
         source: &mut S,
@@ -346,14 +345,17 @@ impl BlockMaker<'_> {
     }
 }
 
-// Encrypts the first bytes, which stand at an offset of their file. The others become zero.
-fn encrypt(cipher: &Aes128, offset: u64, len: usize, padded: &mut [u8])
+// Encrypts the first bytes, which stand at an offset of their file, if there is a cipher. The
+// others become zero.
+fn encrypt(cipher: &Option<Aes128>, offset: u64, len: usize, padded: &mut [u8])
     requires within { len ≤ length padded.old }
     requires offset { offset + len < 2 ^ 64 }
-    ensures { padded.new ≡ xored_from cipher.now offset (take len padded.old)
+    ensures { padded.new ≡ ciphertext_from cipher.now offset (take len padded.old)
         ++ replicate (length padded.old - len) 0 }
 {
-    cipher.xor_at(offset, &mut padded[..len]);
+    if let Some(cipher) = cipher {
+        cipher.xor_at(offset, &mut padded[..len]);
+    }
     padded[len..].fill(0);
 }
 

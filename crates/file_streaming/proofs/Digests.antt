@@ -16,12 +16,12 @@ use Rattle.share_layout.specs.Writing.{ending}
 use Rattle.share_verify.specs.Pieces.{block_hashes, joined}
 use Rattle.proved_parts.specs.FileOf.{segment_hashes}
 use Rattle.file_encoding.specs.Encoding.{blocks_of, share_hashes, share_leaves, share_of}
-use Rattle.file_streaming.specs.Finishing.{bytes_behind}
-use Rattle.file_streaming.specs.Gathered.{Gathered, IsGathered, behind_blocks}
-use Rattle.file_streaming.specs.Shares.{HoldShares}
-use Rattle.file_streaming.specs.declared.finishing.Behind.{Behind}
-use Rattle.file_streaming.specs.declared.shares.ShareSoFar.{ShareSoFar}
-use Rattle.file_streaming.proofs.OneByOne.{digest_in_order}
+use Rattle.share_gathering.specs.Finishing.{bytes_behind}
+use Rattle.share_gathering.specs.Gathered.{Gathered, IsGathered, behind_blocks}
+use Rattle.share_gathering.specs.Shares.{HoldShares}
+use Rattle.share_gathering.specs.declared.finishing.Behind.{Behind}
+use Rattle.share_gathering.specs.declared.shares.ShareSoFar.{ShareSoFar}
+use Rattle.share_gathering.proofs.OneByOne.{digest_in_order}
 
 module _ (g : Geometry) (text : List ℕ) (s : Gathered) (is : IsGathered g text s) where
   abbrev segments : List (List ℕ)

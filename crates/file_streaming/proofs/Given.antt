@@ -12,11 +12,12 @@ use Rattle.share_layout.specs.Pieces.{segments_of}
 use Rattle.share_verify.specs.Pieces.{block_hashes, joined}
 use Rattle.proved_parts.specs.FileOf.{segment_hashes}
 use Rattle.file_encoding.specs.Encoding.{Parameters, blocks_of, ciphertext_encoding, encoding_of, extension_block_contents, share_of}
-use Rattle.file_streaming.specs.Gathered.{behind_blocks}
+use Rattle.share_gathering.specs.Gathered.{behind_blocks}
 use Rattle.file_streaming.specs.Prepared.{PreparedFile, geometry_for, key_for, prepared_of}
-use Rattle.file_streaming.specs.Piece.{GivesPiece, HaveClash, blocks_for, leaves_of, piece_of, share_with}
-use Rattle.file_streaming.proofs.Blocks.{blocks_or_clash}
-use Rattle.file_streaming.proofs.OneByOne.{in_two}
+use Rattle.file_streaming.specs.Piece.{GivesPiece, blocks_for, leaves_of, piece_of, share_with}
+use Rattle.share_gathering.specs.Clash.{HaveClash}
+use Rattle.share_gathering.proofs.Blocks.{blocks_or_clash}
+use Rattle.share_gathering.proofs.OneByOne.{in_two}
 
 module _ (file secret : List ℕ) (q : Parameters) (share : ℕ) (there : share < q.total) where
   abbrev g : Geometry

@@ -1,34 +1,44 @@
 -- What is kept of a file that was read twice.
-use Rattle.std.proofs.Common.{◌≡◌, ℕ, ◌<◌, ◌≤◌, ◌^◌, List, length, map, slice_index_or, ap, sym, subst, ◌∙◌}
+use Rattle.std.proofs.Common.{◌≡◌, ℕ, ◌<◌, ◌≤◌, ◌^◌, List, length, map, slice_index_or, refl, ap, sym, subst, ◌∙◌, arith}
+use Rattle.std.specs.Prelude.{Some}
 use Rattle.std.specs.List.{range_with_len}
 use Rattle.std.proofs.lemmas.List.{length-map}
+use Rattle.std.proofs.lemmas.List.FromFn.{length-map-range_with_len}
 use Rattle.std.proofs.lemmas.Option.{slice_get-get_or}
 use Rattle.std.proofs.lemmas.Simd.{map-map}
 use Rattle.aes_ctr.specs.CounterMode.{xored}
 use Rattle.aes_ctr.proofs.StreamLemmas.{length-xored_from}
 use Rattle.tagged_hash.specs.TaggedHash.{share_digest, tagged_hash}
 use Rattle.tagged_hash.specs.declared.tag.Tag.TheVariants.{Block, CiphertextSegment, ExtensionBlock}
+use Rattle.merkle.specs.Tree.{tree_nodes}
+use Rattle.zfec_code.specs.Shares.{Parameters as Code}
 use Rattle.cap_text.specs.Cap.{ReadCapValue, read_cap_value}
 use Rattle.ueb.specs.Block.{ueb_text}
+use Rattle.ueb.specs.Limits.{max_length}
 use Rattle.ueb.specs.Shape.{IsShape}
 use Rattle.share_layout.specs.Geometry.{Geometry, IsGeometry, segment_count}
 use Rattle.share_layout.specs.Pieces.{segments_of}
+use Rattle.share_verify.specs.Pieces.{block_hashes, joined}
 use Rattle.share_verify.proofs.GeometryOfUeb.{is_geometry}
 use Rattle.proved_parts.proofs.Files.{length-pieces}
 use Rattle.file_encoding.specs.Encoding.{block_of, blocks_of, ciphertext_encoding, extension_block_contents, share_hashes, share_of}
 use Rattle.file_encoding.proofs.Making.{some_segments}
-use Rattle.file_encoding.proofs.OwnShares.{valid}
+use Rattle.file_encoding.proofs.OwnShares.{lengths, valid, written}
 use Rattle.file_encoding.proofs.Whole.{cap_is}
-use Rattle.file_streaming.specs.Finishing.{HaveLeaves, IsFinished}
-use Rattle.file_streaming.specs.Gathered.{IsGathered}
-use Rattle.file_streaming.specs.Kept.{IsKept}
+use Rattle.share_gathering.specs.Finishing.{HaveLeaves}
+use Rattle.file_streaming.specs.Finishing.{IsFinished}
+use Rattle.share_gathering.specs.Gathered.{IsGathered}
+use Rattle.block_making.specs.Making.{ciphertext_from}
+use Rattle.block_making.specs.declared.encoder.Encoder.{Encoder}
+use Rattle.share_gathering.specs.Kept.{IsKept}
+use Rattle.share_gathering.specs.KeptFile.{kept_with}
 use Rattle.file_streaming.specs.Passes.{IsPassOf, gathered_of}
 use Rattle.file_streaming.specs.Prepared.{PreparedFile, prepared_by, prepared_with}
-use Rattle.file_streaming.specs.declared.finishing.Finished.{Finished}
+use Rattle.share_gathering.specs.declared.finishing.Finished.{Finished}
 use Rattle.file_streaming.specs.declared.passes.Passes.{Passes}
-use Rattle.file_streaming.specs.declared.shares.ShareSoFar.{ShareSoFar}
+use Rattle.share_gathering.specs.declared.shares.ShareSoFar.{ShareSoFar}
 use Rattle.file_streaming.proofs.Digests.{roots_are}
-use Rattle.file_streaming.proofs.OneByOne.{one_by_one}
+use Rattle.share_gathering.proofs.OneByOne.{one_by_one}
 
 -- the digests of finished shares are those of the encoding's
 digests_are : (g : Geometry) (key text : List ℕ) (f : Finished) → IsFinished g text f → f.digests.items ≡ map share_digest (ciphertext_encoding g key text).shares
@@ -52,6 +62,9 @@ module _ (g : Geometry) (file : List ℕ) (p : Passes) (pass : IsPassOf g file p
 
   geometry_is : IsGeometry g
   geometry_is = is_geometry _ (valid g text shape long)
+
+  shape_some : 0 < g.total
+  shape_some = omega (arith, shape.file.some_needed, shape.file.enough)
 
   pub gathered_is : IsGathered g text (gathered_of g p.key file)
   gathered_is = one_by_one g p.key file geometry_is pass.long
@@ -95,17 +108,34 @@ module _ (g : Geometry) (file : List ℕ) (p : Passes) (pass : IsPassOf g file p
       digests = digests_are g p.key text f is i;
     }
 
-    -- what is hidden belongs to it
-    pub kept_too : IsKept (kept_of g cap f) (map (λ (h : _). h.items) f.behind.share_hashes.items) p.encoder p.buffers
-    kept_too = record {
-      file = file;
-      long = pass.long;
-      shape = shape;
-      is = kept_is ∙ ap (λ (key : List ℕ). prepared_by g key (xored key file)) (sym pass.cipher);
-      hashes_are =
-          is.hashes
-          ∙ ap (λ (l : List (List ℕ)). map (share_hashes l) (range_with_len 0 g.total)) (sym (roots_are g text (gathered_of g p.key file) gathered_is f.behind.block_trees.items is.block_leaves));
-      needed = pass.needed;
-      total = pass.total;
-      buffers = pass.buffers;
-    }
+    -- the same without the cap belongs to the file, and what is hidden to it
+    module _ (e : Encoder) (code_is : e.code ≡ p.encoder.code) (cipher_is : e.cipher ≡ Some p.encoder.cipher) where
+      key_is : e.cipher ≡ Some p.key
+      key_is = cipher_is ∙ ap (λ (k : List ℕ). Some k) pass.cipher
+
+      pub kept_key : e.cipher ≡ Some cap.key
+      kept_key = key_is ∙ ap (λ (k : List ℕ). Some k) (sym (ap (λ (c : ReadCapValue). c.key) made))
+
+      pub kept_too : IsKept (kept_with g e.cipher f.behind.extension_block.items f.behind.ciphertext_tree f.behind.block_trees.items f.digests.items)
+          (map (λ (h : _). h.items) f.behind.share_hashes.items) e p.buffers
+      kept_too =
+          let own = lengths g text shape long 0 shape_some (ueb_text (extension_block_contents g text (segments_of g text))) (written g text shape long).short in
+          record {
+            bytes = file;
+            of = record {
+              long = pass.long;
+              block_leaves = is.block_leaves
+                  ∙ λ i. map (λ j. block_hashes (blocks_of g.needed j (segments_of g (ciphertext_from (sym key_is i) 0 file)))) (range_with_len 0 g.total);
+            };
+            shape = shape;
+            tree = ap (λ (l : List (List ℕ)). length (joined (tree_nodes l))) is.leaves ∙ own.ciphertext_tree;
+            short = subst (λ (b : List ℕ). length b ≤ max_length) (sym is.extension_block) (written g text shape long).short;
+            digests = ap length is.digests ∙ length-map-range_with_len (λ i. share_digest (share_of g (segments_of g text) f.behind.extension_block.items i)) 0 g.total;
+            hashes_are =
+                is.hashes
+                ∙ ap (λ (l : List (List ℕ)). map (share_hashes l) (range_with_len 0 g.total)) (sym (roots_are g text (gathered_of g p.key file) gathered_is f.behind.block_trees.items is.block_leaves));
+            cipher = refl;
+            needed = ap (λ (c : Code). c.k) code_is ∙ pass.needed;
+            total = ap (λ (c : Code). c.n) code_is ∙ pass.total;
+            buffers = pass.buffers;
+          }

@@ -1,13 +1,7 @@
-pub mod OneByOne
-pub mod Blocks
 pub mod Given
 pub mod KeyReading
-pub mod GroupSteps
-pub mod Rows
-pub mod ShareBlocks
-pub mod GivenBytes
 pub mod SecondPass
 pub mod TwoPasses
 pub mod Digests
 pub mod Keeping
-pub mod Sections
+pub mod OfFiles

@@ -1,6 +1,5 @@
 -- How much of a file is gathered.
-use Rattle.std.proofs.Common.{◌≡◌, ℕ, ◌+◌, ◌*◌, ◌/◌, ◌<◌, ◌≤◌, List, [], ◌++◌, length, min, Result, Err, refl, ap, sym, subst, ◌∙◌, arith}
-use Rattle.std.proofs.Math.Nat.{mul-div_cancel}
+use Rattle.std.proofs.Common.{◌≡◌, ℕ, ◌+◌, ◌*◌, ◌≤◌, List, [], ◌++◌, length, min, Result, Err, refl, ap, sym, subst, ◌∙◌, arith}
 use Rattle.std.specs.Int.{div_ceil}
 use Rattle.std.specs.Prelude.{IsErrOf}
 use Rattle.std.specs.Result.{IsErrAnd}
@@ -15,31 +14,22 @@ use Rattle.std.proofs.lemmas.Grind.{div_ceil_times}
 use Rattle.aes_ctr.specs.CounterMode.{xored}
 use Rattle.tagged_hash.specs.TaggedHasher.{Holds, HoldsFile}
 use Rattle.tagged_hash.specs.declared.tag.Tag.TheVariants.{Ciphertext}
-use Rattle.zfec_code.specs.ShareValue.{share_block}
-use Rattle.file_encoding.specs.Encoding.{block_of, padded_segment}
 use Rattle.tagged_hash.specs.declared.convergence.KeyHasher.{KeyHasher}
 use Rattle.share_layout.specs.Geometry.{Geometry, IsGeometry, segment_count}
 use Rattle.share_layout.specs.Pieces.{pieces}
 use Rattle.sources.specs.Source.{IsRead}
-use Rattle.file_streaming.specs.Gathered.{Gathered, gathered_none, gathered_segments}
-use Rattle.file_streaming.specs.Gathering.{HasGathered, IsGatheredFrom, IsGroup, IsGroupGathered, gathered_group}
+use Rattle.share_gathering.specs.Gathered.{Gathered, gathered_none, gathered_segments}
+use Rattle.file_streaming.specs.Gathering.{HasGathered, IsGatheredFrom, IsGroupGathered}
+use Rattle.share_gathering.specs.Groups.{IsGroup, gathered_group}
 use Rattle.file_streaming.specs.declared.gathering.Gathering.{Gathering}
 use Rattle.block_making.proofs.ReadRuns.{is_read-append}
-use Rattle.file_streaming.proofs.GroupSteps.{group-end, segments-group}
-use Rattle.file_streaming.proofs.OneByOne.{ciphertext-all, gathered-encrypted, joined-pieces, leaves-all}
-use Rattle.file_streaming.specs.Shares.{HoldShares}
-use Rattle.file_streaming.specs.Wholes.{AreGiven}
-use Rattle.file_streaming.specs.declared.groups.Group.{Group}
+use Rattle.share_gathering.proofs.GroupSteps.{group-end, segments-group}
+use Rattle.share_gathering.proofs.OneByOne.{ciphertext-all, gathered-encrypted, joined-pieces, leaves-all}
+use Rattle.share_gathering.specs.Shares.{HoldShares}
+use Rattle.share_gathering.specs.Wholes.{AreGiven}
+use Rattle.share_gathering.specs.declared.groups.Group.{Group}
 use Rattle.proved_parts.specs.FileOf.{segment_hashes}
 use Rattle.block_making.proofs.MadeBlocks.{begins-before}
-
--- the blocks that are made of a padded segment are those of the segment
-pub block-is : (k i size : ℕ) (segment padded : List ℕ) → 0 < k → padded ≡ padded_segment k segment → length padded ≡ k * size
-    → share_block k i size padded ≡ block_of k i segment
-block-is k i size segment padded some is long =
-    let whole : length (padded_segment k segment) ≡ size * k = omega (arith, ap length is, long) in
-    let one : size ≡ length (padded_segment k segment) / k = sym (ap (λ n. n / k) whole ∙ mul-div_cancel size some) in
-    λ p. share_block k i (one p) (is p)
 
 -- a part that ended is a changed source
 pub ended_fault : {T U : Type 0} (r : Result T PrepareError) (f : PartFault) → IsErrAnd r (λ e. e ≡ error_of f) → IsErrOf r SourceChanged → IsErrOf {T = U} (Err f) Ended

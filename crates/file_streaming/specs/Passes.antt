@@ -8,10 +8,10 @@ use Rattle.share_layout.specs.Geometry.{Geometry}
 use Rattle.share_layout.specs.Pieces.{segments_of}
 use Rattle.sources.specs.Change.{HasEndedEarly}
 use Rattle.sources.specs.Source.{IsPass}
-use Rattle.file_streaming.specs.Gathered.{Gathered, gathered, gathered_none}
-use Rattle.file_streaming.specs.Gathering.{AreBuffers}
-use Rattle.file_streaming.specs.Shares.{HoldShares}
-use Rattle.file_streaming.specs.Wholes.{AreGiven}
+use Rattle.share_gathering.specs.Gathered.{Gathered, gathered, gathered_none}
+use Rattle.share_gathering.specs.Buffers.{AreBuffers}
+use Rattle.share_gathering.specs.Shares.{HoldShares}
+use Rattle.share_gathering.specs.Wholes.{AreGiven}
 use Rattle.file_streaming.specs.declared.passes.Passes.{Passes}
 
 -- what is gathered of a whole file under a key

@@ -3,8 +3,10 @@ use Rattle.std.specs.Prelude.{ℕ}
 use Rattle.sources.specs.declared.error.PartFault.{PartFault}
 use Rattle.sources.specs.declared.error.PartFault.TheVariants.{Ended, Unreadable}
 use Rattle.file_streaming.specs.declared.error.PrepareError.{PrepareError}
-use Rattle.file_streaming.specs.declared.error.PrepareError.TheVariants.{OutOfMemory, SourceChanged}
-use Rattle.file_streaming.specs.declared.error.PrepareError.TheVariants.{SourceFault, TooLarge}
+use Rattle.file_streaming.specs.declared.error.PrepareError.TheVariants.{OutOfMemory}
+use Rattle.file_streaming.specs.declared.error.PrepareError.TheVariants.{SourceChanged}
+use Rattle.file_streaming.specs.declared.error.PrepareError.TheVariants.{SourceFault}
+use Rattle.file_streaming.specs.declared.error.PrepareError.TheVariants.{TooLarge}
 use Rattle.file_streaming.specs.declared.error.PrepareError.TheVariants.{TooManySegments}
 
 abbrev pub refusal_number : PrepareError → ℕ

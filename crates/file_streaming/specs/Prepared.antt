@@ -1,5 +1,5 @@
 -- A file that was made ready for its upload, of which only hashes are kept.
-use Rattle.std.specs.Prelude.{◌≡◌, ◌≢◌, ◌⊎◌, ℕ, ◌+◌, List, length, map}
+use Rattle.std.specs.Prelude.{◌≡◌, ◌≢◌, ◌⊎◌, ℕ, Some, List, length, map}
 use Rattle.std.specs.List.{range_with_len}
 use Rattle.aes_ctr.specs.CounterMode.{xored}
 use Rattle.tagged_hash.specs.ConvergentKey.{convergent_key_of}
@@ -7,7 +7,6 @@ use Rattle.tagged_hash.specs.TaggedHash.{share_digest}
 use Rattle.cap_text.specs.Cap.{ReadCapValue}
 use Rattle.ueb.specs.Block.{ueb_text}
 use Rattle.share_layout.specs.Geometry.{Geometry, geometry_of}
-use Rattle.share_layout.specs.Layout.{offsets_of, width}
 use Rattle.share_layout.specs.Pieces.{segments_of}
 use Rattle.share_verify.specs.Pieces.{block_hashes}
 use Rattle.proved_parts.specs.FileOf.{segment_hashes}
@@ -15,6 +14,7 @@ use Rattle.file_encoding.specs.Encoding.{Parameters, blocks_of, ciphertext_encod
 use Rattle.file_encoding.specs.Encoding.{extension_block_contents}
 use Rattle.sources.specs.Change.{HasEndedEarly}
 use Rattle.sources.specs.Source.{IsReadTwice}
+use Rattle.share_gathering.specs.KeptFile.{KeptFile, kept_length}
 
 -- the geometry, the cap, the extension block, the leaves of the ciphertext tree and of each share's
 -- block tree, and the digest of each share
@@ -36,6 +36,17 @@ prepared_with geometry cap extension_block leaves block_leaves digests = record 
   leaves = leaves;
   block_leaves = block_leaves;
   digests = digests;
+}
+
+-- the same without the cap, but for its key
+abbrev pub kept_in : PreparedFile → KeptFile
+kept_in p = record {
+  geometry = p.geometry;
+  key = Some p.cap.key;
+  extension_block = p.extension_block;
+  leaves = p.leaves;
+  block_leaves = p.block_leaves;
+  digests = p.digests;
 }
 
 -- what is kept of a ciphertext and its key: the cap and the digests are those of its encoding
@@ -68,8 +79,7 @@ prepared_of file secret p =
 
 -- the length of each share
 abbrev pub share_length : PreparedFile → ℕ
-share_length p = let offsets = offsets_of p.geometry in
-    offsets.extension_block + width offsets.layout + length p.extension_block
+share_length p = kept_length (kept_in p)
 
 -- A source of so many bytes was read twice, and both times it had the same key. What is kept is of
 -- what the second pass brought.

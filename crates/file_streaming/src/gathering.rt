@@ -1,30 +1,32 @@
 // The second pass over a source: its segments are encrypted, encoded and hashed, some at a time,
 // and let go before the next.
 
-ghost use Rattle.std.specs.Prelude.{◌≡◌, ◌⊎◌, ◌+◌, ◌*◌, ◌/◌, ◌%◌, ◌<◌, ◌≤◌, ◌^◌, ◌++◌, ℕ, List, []};
-ghost use Rattle.std.specs.Prelude.{length, take, drop, IfErr, IfOk, IsErrOf, OnOk};
+ghost use Rattle.std.specs.Prelude.{◌≡◌, ◌⊎◌, ◌+◌, ◌*◌, ◌<◌, ◌++◌, ℕ, List, []};
+ghost use Rattle.std.specs.Prelude.{length, take, IfErr, IfOk, IsErrOf, OnOk, Some};
 ghost use Rattle.std.specs.Int.{div_ceil};
 ghost use Rattle.aes_ctr.specs.CounterMode.{xored_from};
 ghost use Rattle.tagged_hash.specs.TaggedHasher.{HoldsFile};
 ghost use Rattle.share_layout.specs.Geometry.{block_size};
 ghost use Rattle.sources.specs.Change.{HasEndedEarly};
 ghost use Rattle.sources.specs.Source.{HasFailedMore};
-ghost use Rattle.file_streaming.specs.Gathered.{Gathered, gathered_none};
-ghost use Rattle.file_streaming.specs.Gathering.{AreBuffers, HasGathered, IsGatheredFrom};
-ghost use Rattle.file_streaming.specs.Gathering.{IsGroup, IsGroupGathered, at_once};
-ghost use Rattle.file_streaming.specs.Gathering.{gathered_group};
+ghost use Rattle.share_gathering.specs.Gathered.{Gathered, gathered_none};
+ghost use Rattle.file_streaming.specs.Gathering.{HasGathered, IsGatheredFrom};
+ghost use Rattle.share_gathering.specs.Groups.{IsGroup, at_once};
+ghost use Rattle.file_streaming.specs.Gathering.{IsGroupGathered};
+ghost use Rattle.share_gathering.specs.Groups.{gathered_group};
 
 use crate::error::PrepareError;
-use crate::geometry::file_code;
-use crate::groups::{Group, segments_at_once};
-use crate::shares::{ShareSoFar, add_leaves, add_segments, begin_shares};
-use crate::wholes::{WholeHashers, begin_wholes};
 use aes_ctr::Aes128;
 use block_making::Encoder;
+use share_gathering::{
+    Group, ShareSoFar, WholeHashers, add_leaves, add_segments, begin_shares, begin_wholes,
+    file_code, segments_at_once,
+};
 use share_layout::Geometry;
 use sources::{Source, read_part};
 use std::alloc::{AllocError, Global};
 use tagged_hash::{KeyHasher, Tag, TaggedHasher};
+use zfec_code::Code;
 
 /// What is gathered of a file: its key, the hash of its ciphertext, the leaves of the ciphertext
 /// tree, and its shares by number with the hashers of their bytes.
@@ -37,17 +39,37 @@ pub(crate) struct Gathering {
     pub wholes: Vec<WholeHashers>,
 }
 
+/// What the segments of a file are encrypted and encoded by.
+#[derive(Drop)]
+pub(crate) struct FileEncoder {
+    pub code: Code,
+    pub cipher: Aes128,
+}
+
+impl FileEncoder {
+    /// The same for blocks that are made again.
+    pub(crate) fn into_encoder(self) -> Encoder
+        ensures needed { result.code ≡ self.code }
+        ensures cipher { result.cipher ≡ Some self.cipher }
+    {
+        Encoder {
+            code: self.code,
+            cipher: Some(self.cipher),
+        }
+    }
+}
+
 /// The encoder of a file with this key.
 pub(crate) fn file_encoder(
     alloc: Global,
     geometry: &Geometry,
     key: &[u8; 16],
-) -> Result<Encoder, AllocError>
+) -> Result<FileEncoder, AllocError>
     ensures needed { IfOk result (λ encoder. encoder.code.k ≡ geometry.now.needed) }
     ensures total { IfOk result (λ encoder. encoder.code.n ≡ geometry.now.total) }
     ensures cipher { IfOk result (λ encoder. encoder.cipher ≡ key.now) }
 {
-    Ok(Encoder {
+    Ok(FileEncoder {
         code: file_code(alloc, geometry)?,
         cipher: Aes128::new(key),
     })
@@ -77,7 +99,7 @@ impl Gathering {
     // are lost. The other buffer has room for the blocks of eight shares.
     fn add(
         &mut self,
-        encoder: &Encoder,
+        encoder: &FileEncoder,
         geometry: &Geometry,
         group: Group,
         segments: &mut [u8],
@@ -121,33 +143,12 @@ impl Gathering {
     }
 }
 
-/// Room for eight segments with their padding, and for the blocks of eight shares that are made at
-/// once.
-#[derive(Drop)]
-pub(crate) struct Buffers {
-    pub segments: Vec<u8>,
-    pub lanes: Vec<u8>,
-}
-
-impl Buffers {
-    /// Buffers for the segments and blocks of a file.
-    pub(crate) fn of(alloc: Global, geometry: &Geometry) -> Result<Buffers, AllocError>
-        ensures { IfOk result (AreBuffers geometry.now) }
-    {
-        let blocks = segments_at_once(geometry) * geometry.block_size();
-        Ok(Buffers {
-            segments: vec![in alloc; 0u8; 8 * geometry.segment_size() as usize]?,
-            lanes: vec![in alloc; 0u8; 8 * blocks as usize]?,
-        })
-    }
-}
-
 // Reads a group of segments and gathers them.
 fn gather_group<S: Source>(
     source: &mut S,
     geometry: &Geometry,
     group: Group,
-    encoder: &Encoder,
+    encoder: &FileEncoder,
     segments: &mut [u8],
     lanes: &mut [u8],
     gathering: &mut Gathering,
@@ -183,7 +184,7 @@ pub(crate) fn gather<S: Source>(
     alloc: Global,
     source: &mut S,
     geometry: &Geometry,
-    encoder: &Encoder,
+    encoder: &FileEncoder,
     hasher: KeyHasher,
     segments: &mut [u8],
     lanes: &mut [u8],

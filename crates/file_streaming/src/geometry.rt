@@ -1,6 +1,6 @@
 // How a file is cut, and what is written of it.
 
-ghost use Rattle.std.specs.Prelude.{◌≡◌, ◌⊎◌, ◌<◌, ◌≤◌, ◌^◌, length, IfOk, IfErr, IsErrOf};
+ghost use Rattle.std.specs.Prelude.{◌≡◌, ◌⊎◌, ◌<◌, ◌≤◌, length, IfOk, IfErr, IsErrOf};
 ghost use Rattle.cap_text.specs.Cap.{read_cap_value};
 ghost use Rattle.ueb.specs.Limits.{max_file_size, max_length, min_file_size};
 ghost use Rattle.ueb.specs.Shape.{IsFile, IsSegmentSize};
@@ -14,7 +14,6 @@ use file_encoding::Params;
 use share_layout::Geometry;
 use std::alloc::{AllocError, Global};
 use ueb::{Expect, MAX_FILE_SIZE, Ueb};
-use zfec_code::{Code, CodeError};
 
 /// The geometry of a file of this size.
 pub(crate) fn file_geometry(size: u64, params: &Params) -> Result<Geometry, PrepareError>
@@ -36,20 +35,6 @@ pub(crate) fn file_geometry(size: u64, params: &Params) -> Result<Geometry, Prep
     Geometry::of(size, params.needed(), params.total(), params.max_segment()).map_err(
         |_| PrepareError::TooManySegments,
     )
-}
-
-/// The code of a file.
-pub(crate) fn file_code(alloc: Global, geometry: &Geometry) -> Result<Code, AllocError>
-    ensures { IfOk result (λ code. code ≡ record {
-      k = geometry.now.needed;
-      n = geometry.now.total;
-    }) }
-{
-    match Code::new(alloc, geometry.needed(), geometry.total()) {
-        Ok(code) => Ok(code),
-        Err(CodeError::OutOfMemory) => Err(AllocError),
-        Err(_) => unreachable!(),
-    }
 }
 
 /// The extension block of a file.

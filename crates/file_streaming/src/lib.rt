@@ -7,15 +7,11 @@ mod finishing;
 mod first_pass;
 mod gathering;
 mod geometry;
-mod groups;
 mod laws;
 mod passes;
-mod pieces;
 mod prepared;
-mod shares;
-mod wholes;
 
 pub use block_making::PieceError;
 pub use error::PrepareError;
-pub use laws::{blocks_or_clash, digests_in_order, one_by_one, pieces_are_right};
+pub use laws::pieces_are_right;
 pub use prepared::{Prepared, prepare};

@@ -4,16 +4,14 @@ ghost use Rattle.std.specs.Prelude.{◌≡◌, ◌⊎◌, [], IfErr, IfOk, IsErr
 ghost use Rattle.tagged_hash.specs.ConvergentKey.{IsSecret};
 ghost use Rattle.tagged_hash.specs.TaggedHasher.{HoldsFile};
 ghost use Rattle.sources.specs.Source.{HasFailedMore};
-ghost use Rattle.file_streaming.specs.Gathering.{AreBuffers};
+ghost use Rattle.share_gathering.specs.Buffers.{AreBuffers};
 ghost use Rattle.file_streaming.specs.Passes.{AreTwoPasses, IsOtherPass, IsSecondPass, key_by};
 ghost use Rattle.file_streaming.specs.Prepared.{PassesDiffer};
 
 use crate::error::PrepareError;
 use crate::first_pass::read_key;
-use crate::gathering::{Buffers, Gathering, file_encoder, gather};
-use crate::shares::ShareSoFar;
-use crate::wholes::WholeHashers;
-use block_making::Encoder;
+use crate::gathering::{FileEncoder, Gathering, file_encoder, gather};
+use share_gathering::{Buffers, ShareSoFar, WholeHashers};
 use share_layout::Geometry;
 use sources::Source;
 use std::alloc::Global;
@@ -37,7 +35,7 @@ fn key_hasher(geometry: &Geometry, secret: &[u8]) -> KeyHasher
 #[derive(Drop)]
 pub(crate) struct Passes {
     pub key: [u8; 16],
-    pub encoder: Encoder,
+    pub encoder: FileEncoder,
     pub buffers: Buffers,
     pub ciphertext: TaggedHasher,
     pub leaves: Vec<[u8; 32]>,

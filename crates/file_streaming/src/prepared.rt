@@ -1,29 +1,28 @@
 //! A file that was made ready for its upload.
 
-ghost use Rattle.std.specs.Prelude.{◌≡◌, ◌⊎◌, ◌<◌, ◌≤◌, ◌^◌, ℕ, List, length, IfErr, IfOk};
-ghost use Rattle.std.specs.Prelude.{IsErrOf};
+ghost use Rattle.std.specs.Prelude.{◌≡◌, ◌⊎◌, ◌+◌, ◌<◌, ◌≤◌, ◌^◌, ℕ, List, length, IfErr, IfOk};
+ghost use Rattle.std.specs.Prelude.{IsErrOf, OnOk};
 ghost use Rattle.aes_ctr.specs.CounterMode.{xored};
 ghost use Rattle.tagged_hash.specs.ConvergentKey.{IsSecret};
 ghost use Rattle.ueb.specs.Limits.{max_file_size, min_file_size};
 ghost use Rattle.ueb.specs.Shape.{IsFile, IsSegmentSize};
 ghost use Rattle.file_encoding.specs.Params.{HasTooManySegments, IsEncodable, parameters_of};
 ghost use Rattle.sources.specs.Source.{HasFailedMore};
-ghost use Rattle.block_making.specs.Making.{AreSlots};
+ghost use Rattle.block_making.specs.Making.{WereRead};
 ghost use Rattle.file_streaming.specs.Passes.{IsPassOf};
+ghost use Rattle.file_streaming.specs.Piece.{GivesPiece, IsOfNoFile};
 ghost use Rattle.file_streaming.specs.Prepared.{IsPreparedFrom, PassesDiffer, key_for};
 ghost use Rattle.file_streaming.specs.Prepared.{prepared_by, share_length};
 
 use crate::error::PrepareError;
-use crate::finishing::{Finished, finish};
-use crate::gathering::Buffers;
+use crate::finishing::finish;
 use crate::geometry::{file_cap, file_geometry};
 use crate::passes::{Passes, read_twice};
-use block_making::Encoder;
-use block_slots::{BlockSlots, window_for};
+use block_making::PieceError;
 use cap_text::ReadCap;
 use file_encoding::Params;
-use merkle::Tree;
-use share_layout::{Geometry, Offsets};
+use share_gathering::{Finished, Kept, file_slots};
+use share_layout::Geometry;
 use sources::Source;
 use std::alloc::{AllocError, Global};
 use std::marker::Model;
@@ -33,32 +32,20 @@ use tagged_hash::{Tag, tagged};
 /// file's bytes it holds those of eight segments and of some blocks at most.
 #[derive(Drop)]
 pub struct Prepared {
-    pub(crate) geometry: Geometry,
     cap: ReadCap,
-    pub(crate) extension_block: Vec<u8>,
-    pub(crate) ciphertext_tree: Tree,
-    pub(crate) block_trees: Vec<Tree>,
-    pub(crate) share_hashes: Vec<Vec<u8>>,
-    digests: Vec<[u8; 32]>,
-    pub(crate) encoder: Encoder,
-    pub(crate) buffers: Buffers,
-    pub(crate) slots: BlockSlots,
+    kept: Kept,
 }
 
 impl Model for Prepared {
-    ghost use Rattle.std.specs.Prelude.{map};
-    ghost use Rattle.file_streaming.specs.Kept.{IsHeld};
+    ghost use Rattle.std.specs.Prelude.{◌≡◌, Some};
     ghost use Rattle.file_streaming.specs.Prepared.{PreparedFile, prepared_with};
 
     ghost Value = { PreparedFile };
 
-    ghost view = { λ p. prepared_with p.geometry p.cap p.extension_block.items p.ciphertext_tree
-        p.block_trees.items p.digests.items };
+    ghost view = { λ p. prepared_with p.kept.geometry p.cap p.kept.extension_block p.kept.leaves
+        p.kept.block_leaves p.kept.digests };
 
-    // It is of a file, and what is hidden belongs to it.
-    ghost invariant = { λ p. IsHeld (prepared_with p.geometry p.cap p.extension_block.items
-        p.ciphertext_tree p.block_trees.items p.digests.items)
-        (map (λ h. h.items) p.share_hashes.items) p.encoder p.buffers p.slots };
+    ghost invariant = { λ p. p.kept.key ≡ Some p.cap.key };
 }
 
 impl Prepared {
@@ -74,7 +61,7 @@ impl Prepared {
         ensures digests { result.now ≡ self.now.digests }
         ensures few { length self.now.digests ≤ 256 }
     {
-        &self.digests
+        self.kept.digests()
     }
 
     /// The length of each share in bytes.
@@ -83,8 +70,37 @@ impl Prepared {
         ensures some { 1 ≤ result }
         ensures short { result ≤ 2 ^ 41 }
     {
-        let offsets = Offsets::of(&self.geometry);
-        offsets.extension_block + (offsets.layout.width() + self.extension_block.len()) as u64
+        self.kept.share_length()
+    }
+
+    /// Fills `out` with the bytes of a share from an offset on. They lie in the share.
+    ///
+    /// Its blocks come from their slots, or else their segments are read and encoded again, each
+    /// once, with the blocks of other shares that go on with them. Each block has to have the hash
+    /// of the second pass. Refuses `SourceChanged` where the source brought other bytes than then,
+    /// or ended early, and `SourceFault` where a read failed. `out` then holds any bytes. Takes no
+    /// memory.
+    pub fn piece<S: Source>(
+        &mut self,
+        source: &mut S,
+        share: u8,
+        offset: u64,
+        out: &mut [u8],
+    ) -> Result<(), PieceError>
+        requires number { share < length self.old.digests }
+        requires inside { offset + length out.old ≤ share_length self.old }
+        ensures gives { OnOk result (GivesPiece self.old share offset out.new) }
+        ensures read { OnOk result (WereRead S.gives source.old self.old.geometry offset
+            (length out.old) source.new) }
+        ensures changed { IsErrOf result PieceError.SourceChanged
+            → IsOfNoFile S.gives self.old source.old source.new }
+        ensures fault { IsErrOf result PieceError.SourceFault
+            → HasFailedMore (S.failures source.old) (S.failures source.new) }
+        ensures size { S.size source.new ≡ S.size source.old }
+        ensures failures { OnOk result (S.failures source.new ≡ S.failures source.old) }
+        ensures same { self.new ≡ self.old }
+    {
+        self.kept.piece(source, share, offset, out)
     }
 }
 
@@ -108,27 +124,19 @@ fn keep(alloc: Global, geometry: Geometry, passes: Passes) -> Result<Prepared, A
     let finished = finish(alloc, &geometry, ciphertext, &leaves, shares, wholes)?;
     let Finished { behind, digests } = finished;
     let ueb_hash = tagged(Tag::ExtensionBlock, &behind.extension_block);
-    Ok(Prepared {
-        cap: file_cap(&geometry, key, ueb_hash),
+    let cap = file_cap(&geometry, key, ueb_hash);
+    let kept = Kept {
         geometry,
         extension_block: behind.extension_block,
         ciphertext_tree: behind.ciphertext_tree,
         block_trees: behind.block_trees,
         share_hashes: behind.share_hashes,
         digests,
-        encoder,
+        encoder: encoder.into_encoder(),
         buffers,
         slots: file_slots(alloc, &geometry)?,
-    })
-}
-
-// Slots for the blocks of a file. They are free.
-fn file_slots(alloc: Global, geometry: &Geometry) -> Result<BlockSlots, AllocError>
-    ensures { (leaves : List (List (List ℕ))) → IfOk result (AreSlots geometry.now leaves) }
-{
-    let size = geometry.block_size();
-    let window = window_for(size, geometry.segment_count());
-    Ok(BlockSlots::new(alloc, geometry.total(), size, window)?)
+    };
+    Ok(Prepared { cap, kept })
 }
 
 /// Reads a source twice, each byte once from offset 0 up: for the key, and for the key again and

@@ -12,9 +12,9 @@ use Rattle.share_layout.specs.Pieces.{segments_of}
 use Rattle.share_verify.specs.Pieces.{block_hashes}
 use Rattle.proved_parts.specs.FileOf.{segment_hashes}
 use Rattle.file_encoding.specs.Encoding.{blocks_of, share_hashes, share_leaves}
-use Rattle.file_streaming.specs.declared.finishing.Behind.{Behind}
-use Rattle.file_streaming.specs.declared.finishing.Trees.{Trees}
-use Rattle.file_streaming.specs.declared.shares.ShareSoFar.{ShareSoFar}
+use Rattle.share_gathering.specs.declared.finishing.Behind.{Behind}
+use Rattle.share_gathering.specs.declared.finishing.Trees.{Trees}
+use Rattle.share_gathering.specs.declared.shares.ShareSoFar.{ShareSoFar}
 use Rattle.file_streaming.proofs.Digests.{block_leaves_are, digests_are, roots_are}
 use Rattle.file_streaming.proofs.finishing.finish.Goals as goal
 

@@ -3,13 +3,13 @@ use Rattle.std.proofs.Math.Nat.{add-mul, mul_comm, mul-le-mul_right}
 use Rattle.std.specs.Int.{div_ceil}
 use Rattle.std.proofs.lemmas.Grind.{div_ceil_times}
 use Rattle.share_layout.proofs.CutLemmas.{whole_segments}
-use Rattle.file_streaming.specs.Gathering.{at_once}
-use Rattle.file_streaming.proofs.GroupSteps.{few_at_once}
+use Rattle.share_gathering.specs.Groups.{at_once}
+use Rattle.share_gathering.proofs.GroupSteps.{few_at_once}
 use Rattle.share_layout.specs.Geometry.{Geometry, segment_count}
 use Rattle.sources.specs.Source.{HasFailedMore}
 use Rattle.block_making.proofs.ReadRuns.{ended-later}
 use Rattle.file_streaming.proofs.SecondPass.{IsGatheredTo, gathered-all, gathered-begin, gathered-more, told-again}
-use Rattle.file_streaming.specs.declared.groups.Group.{Group}
+use Rattle.share_gathering.specs.declared.groups.Group.{Group}
 use Rattle.file_streaming.proofs.gathering.gather.Goals as goal
 
 -- the end of a group, and where the next begins

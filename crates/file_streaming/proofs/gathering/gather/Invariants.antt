@@ -1,7 +1,7 @@
 use Rattle.std.proofs.Common.{◌≡◌, ◌*◌, length, min}
 use Rattle.std.specs.Int.{div_ceil}
 use Rattle.share_layout.specs.Geometry.{segment_count}
-use Rattle.file_streaming.specs.Gathering.{at_once}
+use Rattle.share_gathering.specs.Groups.{at_once}
 use Rattle.file_streaming.proofs.SecondPass.{IsGatheredTo}
 use Rattle.file_streaming.proofs.gathering.gather.Given as goal
 

@@ -1,9 +1,10 @@
 use Rattle.std.proofs.Common.{◌≡◌, ℕ, ◌+◌, List, ◌++◌, length, drop, take, subst, sym, ◌∙◌, arith}
 use Rattle.std.proofs.lemmas.List.{length-take, length-take-le, take_at}
 use Rattle.aes_ctr.specs.CounterMode.{xored_from}
-use Rattle.file_streaming.specs.Gathering.{HasGathered, gathered_group}
+use Rattle.file_streaming.specs.Gathering.{HasGathered}
+use Rattle.share_gathering.specs.Groups.{gathered_group}
 use Rattle.block_making.proofs.ReadRuns.{ended-wider}
-use Rattle.file_streaming.proofs.GroupSteps.{has_first, has_offset}
+use Rattle.share_gathering.proofs.GroupSteps.{has_first, has_offset}
 use Rattle.file_streaming.proofs.SecondPass.{ended_fault}
 use Rattle.file_streaming.proofs.gathering.gather_group.Goals as goal
 

@@ -3,7 +3,7 @@ use Rattle.std.specs.Vec.{with_items}
 use Rattle.std.proofs.lemmas.List.{with_items_is}
 use Rattle.share_layout.specs.Geometry.{Geometry}
 use Rattle.share_layout.specs.Pieces.{segments_of}
-use Rattle.file_streaming.specs.Gathered.{gathered, gathered_none}
+use Rattle.share_gathering.specs.Gathered.{gathered, gathered_none}
 use Rattle.file_streaming.specs.Gathering.{HasGathered}
 use Rattle.file_streaming.specs.Passes.{gathered_of}
 use Rattle.file_streaming.specs.declared.gathering.Gathering.{Gathering}

@@ -4,9 +4,10 @@ use Rattle.tagged_hash.specs.TaggedHash.{tagged_hash}
 use Rattle.tagged_hash.specs.declared.tag.Tag.TheVariants.{ExtensionBlock}
 use Rattle.ueb.specs.Shape.{IsShape}
 use Rattle.share_layout.specs.Geometry.{Geometry}
-use Rattle.file_streaming.specs.Finishing.{HaveLeaves, IsFinished}
+use Rattle.share_gathering.specs.Finishing.{HaveLeaves}
+use Rattle.file_streaming.specs.Finishing.{IsFinished}
 use Rattle.file_streaming.specs.Passes.{IsPassOf, gathered_of}
-use Rattle.file_streaming.specs.declared.finishing.Finished.{Finished}
+use Rattle.share_gathering.specs.declared.finishing.Finished.{Finished}
 use Rattle.file_streaming.specs.declared.passes.Passes.{Passes}
 use Rattle.file_streaming.proofs.Keeping.{all_alike, all_fit, gathered_is, kept_is, kept_too, leaves_fit}
 use Rattle.file_streaming.proofs.prepared.keep.Goals as goal
@@ -28,8 +29,8 @@ finish-requires-clause-alike c =
     subst (λ (leaves : List (List ℕ)). All (λ share. length share.leaves.items ≡ length leaves) p.shares.items) (sym c.deref.ensures.value)
     (all_alike c.args.geometry c.requires.some.0 p c.requires.some.1 shape)
 
-pub invariant_of-result : goal.invariant_of-result
-invariant_of-result c =
+pub invariant_of-kept : goal.invariant_of-kept
+invariant_of-kept c =
     let g : Geometry = c.args.geometry in
     let p : Passes = c.args.passes in
     let file : List ℕ = c.requires.some.0 in
@@ -39,7 +40,8 @@ invariant_of-result c =
     let is : IsFinished g (xored p.key file) f =
     c.in_ok-finished.ensures (xored p.key file) (gathered_of g p.key file) (gathered_is g file p pass shape) pass.ciphertext (c.deref.ensures.value ∙ pass.leaves) pass.shares pass.wholes in
     record {
-      kept = kept_too g file p pass shape f is c.tagged-ueb_hash.result c.file_cap.result (c.tagged-ueb_hash.ensures ∙ ap (tagged_hash ExtensionBlock) c.deref-2.ensures.value) c.file_cap.ensures;
+      kept = kept_too g file p pass shape f is c.tagged-ueb_hash.result c.file_cap-cap.result (c.tagged-ueb_hash.ensures ∙ ap (tagged_hash ExtensionBlock) c.deref-2.ensures.value) c.file_cap-cap.ensures
+          c.into_encoder.result c.into_encoder.ensures.needed c.into_encoder.ensures.cipher;
       verified = c.in_ok-file_slots.ensures f.behind.block_trees.items;
     }
 
@@ -51,4 +53,4 @@ returns c = λ file pass.
     let f : Finished = c.in_ok-finished.finished in
     let is : IsFinished g (xored p.key file) f =
     c.in_ok-finished.ensures (xored p.key file) (gathered_of g p.key file) (gathered_is g file p pass shape) pass.ciphertext (c.deref.ensures.value ∙ pass.leaves) pass.shares pass.wholes in
-    kept_is g file p pass shape f is c.tagged-ueb_hash.result c.file_cap.result (c.tagged-ueb_hash.ensures ∙ ap (tagged_hash ExtensionBlock) c.deref-2.ensures.value) c.file_cap.ensures
+    kept_is g file p pass shape f is c.tagged-ueb_hash.result c.file_cap-cap.result (c.tagged-ueb_hash.ensures ∙ ap (tagged_hash ExtensionBlock) c.deref-2.ensures.value) c.file_cap-cap.ensures

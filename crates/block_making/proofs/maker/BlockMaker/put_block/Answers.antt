@@ -1,7 +1,6 @@
 use Rattle.std.proofs.Common.{rules, ◌≡◌, ◌*◌, take, inr, refl, ap, sym, subst, ◌∙◌}
-use Rattle.aes_ctr.specs.CounterMode.{xored_from}
 use Rattle.share_layout.specs.Pieces.{block_length}
-use Rattle.block_making.specs.Making.{IsBlock, IsMaking, Making, for_share}
+use Rattle.block_making.specs.Making.{IsBlock, IsMaking, ciphertext_from, Making, for_share}
 use Rattle.block_making.proofs.MadeBlocks.{block_differs, has_block, same_error}
 use Rattle.block_making.proofs.OtherBytes.{ended-differs}
 use Rattle.block_making.proofs.maker.BlockMaker.put_block.Goals as goal
@@ -17,7 +16,7 @@ pub returns-then-not-make_blocks-clause-changed : goal.returns-then-not-make_blo
 returns-then-not-make_blocks-clause-changed g c = λ _ file is.
     let m : Making = c.args.self.now in
     let read = c.in_ok-read_segment.ensures.read in
-    let other = c.if-not-make_blocks.ensures.other refl (xored_from m.key (c.args.number * m.geometry.segment_size) read.was.segment) read.padded_is in
+    let other = c.if-not-make_blocks.ensures.other refl (ciphertext_from m.key (c.args.number * m.geometry.segment_size) read.was.segment) read.padded_is in
     block_differs g.S.Source.gives (for_share m other.share) c.args.number c.args.source.now c.read_segment.new.source read.was.segment file read.was.long read.was.read
     other.other (has_block (for_share m other.share) file c.args.number c.requires.number (is other.share other.low))
 

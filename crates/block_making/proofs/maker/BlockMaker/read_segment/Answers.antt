@@ -1,9 +1,8 @@
 use Rattle.std.proofs.Common.{◌≡◌, ℕ, ◌+◌, ◌-◌, ◌*◌, List, ◌++◌, length, take, drop, replicate, ap, subst, sym, ◌∙◌, arith}
 use Rattle.std.proofs.lemmas.List.{length-append, length-drop, length-take}
-use Rattle.aes_ctr.specs.CounterMode.{xored_from}
 use Rattle.share_layout.specs.Geometry.{IsGeometry}
 use Rattle.share_layout.specs.Pieces.{segment_length}
-use Rattle.block_making.specs.Making.{IsSegmentRead, Making}
+use Rattle.block_making.specs.Making.{IsSegmentRead, Making, ciphertext_from}
 use Rattle.block_making.proofs.ReadRuns.{ended-wider}
 use Rattle.block_making.proofs.MadeBlocks.{ended_fault, is_room, segment_read}
 use Rattle.block_making.proofs.MadeBlocks.{ends-within}
@@ -59,7 +58,7 @@ returns-clause-read g c =
     λ p. c.from.ensures p * (c.from-2.ensures ∙ c.segment_size.ensures.value ∙ ap (λ (m : Making). m.geometry.segment_size) c.self.view_is) p in
     let padded : List ℕ = c.read_part.new.out ++ drop c.segment_length-len.result c.args.padded.now in
     let written = c.encrypt.ensures
-    ∙ ap (λ (m : Making). xored_from m.key (c.from.result * c.from-2.result) (take c.segment_length-len.result padded) ++ replicate (length padded - c.segment_length-len.result) 0) c.self.view_is in
+    ∙ ap (λ (m : Making). ciphertext_from m.key (c.from.result * c.from-2.result) (take c.segment_length-len.result padded) ++ replicate (length padded - c.segment_length-len.result) 0) c.self.view_is in
     subst (λ (p : List ℕ). IsSegmentRead g.S.Source.gives c.args.source.now c.args.self.now c.args.number p c.read_part.new.source) (sym written)
     (segment_read g.S.Source.gives c.args.source.now c.read_part.new.source c.args.self.now c.args.number (c.from.result * c.from-2.result) c.segment_length-len.result
     c.args.padded.now c.read_part.new.out c.requires.number

@@ -10,14 +10,14 @@ use Rattle.tagged_hash.specs.declared.tag.Tag.TheVariants.{Ciphertext}
 use Rattle.proved_parts.specs.FileOf.{segment_hashes}
 use Rattle.share_layout.specs.Geometry.{Geometry}
 use Rattle.share_layout.specs.Pieces.{pieces}
-use Rattle.file_streaming.specs.Gathering.{gathered_group}
-use Rattle.file_streaming.specs.Shares.{HoldShares}
-use Rattle.file_streaming.specs.Wholes.{AreGiven}
-use Rattle.file_streaming.specs.declared.groups.Group.{Group}
-use Rattle.file_streaming.specs.declared.shares.ShareSoFar.{ShareSoFar}
-use Rattle.file_streaming.specs.declared.wholes.WholeHashers.{WholeHashers}
-use Rattle.file_streaming.proofs.GroupSteps.{has_first, has_offset}
-use Rattle.file_streaming.proofs.Rows.{row-room}
+use Rattle.share_gathering.specs.Groups.{gathered_group}
+use Rattle.share_gathering.specs.Shares.{HoldShares}
+use Rattle.share_gathering.specs.Wholes.{AreGiven}
+use Rattle.share_gathering.specs.declared.groups.Group.{Group}
+use Rattle.share_gathering.specs.declared.shares.ShareSoFar.{ShareSoFar}
+use Rattle.share_gathering.specs.declared.wholes.WholeHashers.{WholeHashers}
+use Rattle.share_gathering.proofs.GroupSteps.{has_first, has_offset}
+use Rattle.share_gathering.proofs.Rows.{row-room}
 use Rattle.file_streaming.proofs.SecondPass.{gathered-parts}
 use Rattle.file_streaming.proofs.gathering.Gathering.add.Goals as goal
 

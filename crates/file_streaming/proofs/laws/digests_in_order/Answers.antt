@@ -1,5 +1,0 @@
-use Rattle.file_streaming.proofs.OneByOne.{digest_in_order}
-use Rattle.file_streaming.proofs.laws.digests_in_order.Goals as goal
-
-pub returns : goal.returns
-returns c = digest_in_order

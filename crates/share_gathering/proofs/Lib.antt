@@ -1,0 +1,7 @@
+pub mod OneByOne
+pub mod Blocks
+pub mod GroupSteps
+pub mod Rows
+pub mod ShareBlocks
+pub mod GivenBytes
+pub mod Sections
