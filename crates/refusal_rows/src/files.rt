@@ -4,6 +4,7 @@ use crate::rows::Rows;
 use block_making::PieceError;
 use download_parts::TreeFault;
 use file_encoding::{EncodeError, ReadError, RegenerateError};
+use file_remaking::RemakeError;
 use file_streaming::PrepareError;
 use share_layout::{LayoutError, Section};
 use share_reading::OpeningError;
@@ -18,7 +19,8 @@ pub(crate) fn tell_all(rows: &mut Rows) -> Result<(), AllocError> {
     tell_parts(rows)?;
     tell_encoding(rows)?;
     tell_reading(rows)?;
-    tell_preparing(rows)
+    tell_preparing(rows)?;
+    tell_remaking(rows)
 }
 
 fn tell_layout(rows: &mut Rows) -> Result<(), AllocError> {
@@ -131,6 +133,19 @@ fn tell_preparing(rows: &mut Rows) -> Result<(), AllocError> {
         PrepareError::SourceFault,
     ] {
         rows.name("file_streaming::PrepareError", error.number(), &error)?;
+    }
+    Ok(())
+}
+
+fn tell_remaking(rows: &mut Rows) -> Result<(), AllocError> {
+    for error in [
+        RemakeError::OutOfMemory,
+        RemakeError::TooLarge,
+        RemakeError::Inconsistent,
+        RemakeError::SourceChanged,
+        RemakeError::SourceFault,
+    ] {
+        rows.name("file_remaking::RemakeError", error.number(), &error)?;
     }
     Ok(())
 }

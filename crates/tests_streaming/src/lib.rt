@@ -1,6 +1,6 @@
 //! The tests of sources and of files that are read from them for their uploads: odd readers, files
-//! that change while they are read, whole encodings, the pieces of shares that are made again, and
-//! uploads over sources.
+//! that change while they are read, whole encodings, the pieces of shares that are made again or
+//! anew, and uploads over sources.
 #![tactic(auto)]
 
 #[cfg(test)]
@@ -11,6 +11,8 @@ mod piece_tests;
 mod prepare_tests;
 #[cfg(test)]
 mod readers_tests;
+#[cfg(test)]
+mod remade_tests;
 #[cfg(test)]
 mod texts_tests;
 #[cfg(test)]

@@ -1,0 +1,7 @@
+pub mod CutTexts
+pub mod PaddedPassing
+pub mod PaddedTexts
+pub mod RemadeLaws
+pub mod RemakePass
+pub mod RemadeEnd
+pub mod RemadeKept
