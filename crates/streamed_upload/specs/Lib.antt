@@ -2,3 +2,4 @@
 pub mod Streamed
 pub mod Ready
 pub mod Laws
+pub mod RemadeStream

@@ -4,4 +4,5 @@
 
 pub mod laws;
 pub mod prepared;
+pub mod remade;
 pub mod streamed;

@@ -52,8 +52,8 @@ impl<S: Source + Drop> Pieces for Streamed<S> {
     }
 }
 
-// What an upload calls the fault.
-fn fault_of(error: PieceError) -> PieceFault
+/// What an upload calls the fault.
+pub(crate) fn fault_of(error: PieceError) -> PieceFault
     ensures { result ≡ fault_of error }
 {
     match error {
