@@ -221,12 +221,7 @@ where
 
     /// Whether the bytes of a file that was read before have this digest. Nothing is done where
     /// they have another.
-    pub fn recall(
-        &mut self,
-        file: &ShareFile,
-        digest: &Digest,
-        seen: &SeenWhole<R::File>,
-    ) -> bool
+    pub fn recall(&mut self, file: &ShareFile, digest: &Digest, seen: &SeenWhole<R::File>) -> bool
         ensures read { OnTrue result (IsReadAs R.File.remaining digest.now Whole) }
         ensures judged { OnTrue result
             (self.new ≡ Judged file.now digest.now Whole ∷ self.old) }

@@ -213,11 +213,7 @@ fn read_waiting<F: Read>(
 }
 
 // Reads files to their ends, as far as they can be read.
-fn read_all<F: Read + Drop, W: Watch>(
-    readings: &mut [Reading<F>],
-    buffer: &mut [u8],
-    watch: &mut W,
-)
+fn read_all<F: Read + Drop, W: Watch>(readings: &mut [Reading<F>], buffer: &mut [u8], watch: &mut W)
     requires room { 0 < length buffer.old }
     requires begun { All (IsReading F.remaining) readings.old }
     ensures { All (IsReading F.remaining) readings.new }

@@ -6,7 +6,7 @@ use Rattle.share_files.specs.declared.name.FileKind.TheVariants.{Closed, Open, H
 use Rattle.share_files.specs.declared.name.ShareFile.{ShareFile}
 use Rattle.share_files.specs.Acts.{Was}
 use Rattle.share_scrub.specs.declared.folder.State.{State}
-use Rattle.share_scrub.specs.Seen.{IsSeen, IsSeenAs, IsSeenAside, IsSeenClosed, IsSeenHalf, IsSeenOpen, StoodThere}
+use Rattle.share_scrub.specs.Seen.{IsReadSo, IsSeen, IsSeenAs, IsSeenAside, IsSeenClosed, IsSeenHalf, IsSeenOpen, StoodThere}
 
 -- a file that stood there stood there then
 pub stood_still : (file other : ShareFile) (bytes : ℕ) (old new : List Act) → file ≡ other → ((act : Act) → Was act old → Was act new) → StoodThere file bytes old → StoodThere other bytes new
@@ -34,3 +34,24 @@ pub seen_by : {E : Type 0} (file : ShareFile) (P : State → Type 0) (r : Result
 seen_by file P (Ok None) each p = tt
 seen_by file P (Ok (Some state)) each p = each state p
 seen_by file P (Err e) each p = tt
+
+-- ---- what is told of its bytes
+
+pub read_by : {F E : Type 0} (remaining : F → Option (List ℕ)) (kind other : FileKind) (r : Result (Option State) E) → kind ≡ other → IfOk r (λ found. IfSome found (IsReadSo remaining other))
+    → IfOk r (λ found. IfSome found (IsReadSo remaining kind))
+read_by remaining kind other r is read = subst (λ (k : FileKind). IfOk r (λ found. IfSome found (IsReadSo remaining k))) (sym is) read
+
+-- nothing is told of the bytes of other files than those of closed shares
+abbrev pub IsOther : FileKind → Type 0
+IsOther (Closed digest) = ⊥
+IsOther (Open own) = Unit
+IsOther (HalfAside digest own) = Unit
+IsOther (Aside digest number) = Unit
+
+pub other_read : {F E : Type 0} (remaining : F → Option (List ℕ)) (kind : FileKind) (r : Result (Option State) E) → IsOther kind → IfOk r (λ found. IfSome found (IsReadSo remaining kind))
+other_read remaining kind (Err e) other = tt
+other_read remaining kind (Ok None) other = tt
+other_read remaining (Closed digest) (Ok (Some state)) other = absurd other
+other_read remaining (Open own) (Ok (Some state)) other = tt
+other_read remaining (HalfAside digest own) (Ok (Some state)) other = tt
+other_read remaining (Aside digest number) (Ok (Some state)) other = tt

@@ -1,5 +1,5 @@
 -- What was seen of a file that a scrub finds, by what was done.
-use Rattle.std.specs.Prelude.{ℕ, List, Bool, true}
+use Rattle.std.specs.Prelude.{ℕ, List, Bool, true, Option}
 use Rattle.share_files.specs.declared.acts.Act.{Act}
 use Rattle.share_files.specs.declared.acts.Act.TheVariants as acts
 use Rattle.share_files.specs.declared.acts.Standing.TheVariants as standings
@@ -8,6 +8,7 @@ use Rattle.share_files.specs.declared.name.FileKind.{FileKind}
 use Rattle.share_files.specs.declared.name.FileKind.TheVariants as kinds
 use Rattle.share_files.specs.declared.name.ShareFile.{ShareFile}
 use Rattle.share_files.specs.Acts.{Was}
+use Rattle.share_files.specs.Verdict.{IsReadAs}
 use Rattle.share_scrub.specs.declared.folder.Finding.{Finding}
 use Rattle.share_scrub.specs.declared.folder.State.{State}
 use Rattle.share_scrub.specs.declared.folder.State.TheVariants as states
@@ -58,3 +59,11 @@ IsSeen file state = (done : List Act) × IsSeenAs file file.kind done state
 -- a file is told as it was seen
 abbrev pub WasSeen : Finding → Type 0
 WasSeen finding = IsSeen finding.file finding.state
+
+-- what is told of the bytes of a closed share's file, as whole or as damaged, is true of those of a
+-- file that was opened
+abbrev pub IsReadSo : {F : Type 0} → (F → Option (List ℕ)) → FileKind → State → Type 0
+IsReadSo remaining (kinds.Closed digest) states.Whole = IsReadAs remaining digest verdicts.Whole
+IsReadSo remaining (kinds.Closed digest) (states.Damaged action) =
+    IsReadAs remaining digest verdicts.Damaged
+IsReadSo remaining _ _ = Unit

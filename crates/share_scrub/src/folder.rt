@@ -11,15 +11,18 @@ ghost use Rattle.share_files.specs.declared.name.ShareFile.{ShareFile};
 ghost use Rattle.share_files.specs.declared.acts.Act.{Act};
 ghost use Rattle.share_files.specs.declared.acts.Act.TheVariants.{Judged};
 ghost use Rattle.share_files.specs.declared.bytes.Verdict.TheVariants.{Damaged};
+ghost use Rattle.share_files.specs.declared.name.FileKind.TheVariants.{Closed};
 ghost use Rattle.share_files.specs.Acts.{IsNone, Was};
 ghost use Rattle.share_files.specs.Name.{closed_file, half_file};
+ghost use Rattle.share_files.specs.Verdict.{IsReadAs};
 ghost use Rattle.share_scrub.specs.declared.folder.State.TheVariants.{Unreadable};
 ghost use Rattle.share_scrub.specs.Scrub.{IsKeptUnless, whole_after};
 ghost use Rattle.share_scrub.specs.Seen.{IsSeen, IsSeenAside, IsSeenClosed, IsSeenHalf, IsSeenOpen};
-ghost use Rattle.share_scrub.specs.Seen.{StoodThere, WasSeen};
+ghost use Rattle.share_scrub.specs.Seen.{IsReadSo, StoodThere, WasSeen};
 
+use crate::ahead::{Ahead, Unread};
 use share_files::{
-    FileKind, FolderFiles, ShareFile, Standing, Verdict, Watch, Went, set_aside, settle,
+    FileKind, FolderFiles, SeenWhole, ShareFile, Standing, Verdict, Watch, Went, set_aside, settle,
 };
 use share_folders::names::{ClosedName, OwnToken};
 use share_store::error::StoreError;
@@ -30,6 +33,7 @@ use std::marker::Model;
 use std::random::RandomSource;
 use std::rt::Files;
 use std::time::SystemTime;
+use wire::message::Digest;
 
 /// What is done about the files that are found.
 #[derive(Clone, Copy)]
@@ -94,6 +98,7 @@ pub struct Scrub<R: Files> {
     folder: String,
     // the next one stands last
     left: Vec<ShareFile>,
+    ahead: Ahead<R::File>,
     // the share of the last closed file that was whole
     whole: Option<ShareKey>,
     total: u64,
@@ -120,6 +125,7 @@ impl<R: Files + RandomSource + AllocGlobal + Clone + Drop> Scrub<R> {
             rt: rt.clone()?,
             folder: String::from_str(rt.alloc(), folder)?,
             left: listing.files,
+            ahead: Ahead::new(rt.alloc()),
             whole: None,
             total: listing.total,
         })
@@ -129,6 +135,48 @@ impl<R: Files + RandomSource + AllocGlobal + Clone + Drop> Scrub<R> {
     /// on their way.
     pub fn total(&self) -> u64 {
         self.total
+    }
+
+    // The system.
+    pub(crate) fn rt(&self) -> &R {
+        &self.rt
+    }
+
+    // Is the next file a closed share that was not read yet?
+    pub(crate) fn is_next_unread(&self) -> bool {
+        match self.left.last() {
+            Some(file) => self.unread_digest(file).is_some(),
+            None => false,
+        }
+    }
+
+    // Adds the next closed shares that were not read yet, until there are enough.
+    pub(crate) fn find_unread(&self, folder: usize, unread: &mut Unread) -> Result<(), StoreError> {
+        for file in self.left.iter().rev() {
+            if unread.is_full() {
+                return Ok(());
+            }
+            if let Some(digest) = self.unread_digest(file) {
+                let path = file.path(self.rt.alloc(), self.folder.as_str())?;
+                unread.add(folder, file, path, &digest)?;
+            }
+        }
+        Ok(())
+    }
+
+    // The digest in the name of a closed share, unless it was read.
+    fn unread_digest(&self, file: &ShareFile) -> Option<Digest> {
+        match &file.kind {
+            FileKind::Closed(digest) if !self.ahead.has(file) => Some(*digest),
+            _ => None,
+        }
+    }
+
+    // Takes note of what was seen of a file before its turn.
+    pub(crate) fn note(&mut self, file: ShareFile, seen: Option<SeenWhole<R::File>>)
+        ensures { self.new ≡ self.old }
+    {
+        self.ahead.note(file, seen);
     }
 
     /// Looks at the next files, until there is something to tell of one: of each closed share, of
@@ -152,10 +200,13 @@ impl<R: Files + RandomSource + AllocGlobal + Clone + Drop> Scrub<R> {
         ensures kept { IfOk result (λ found. IfSome found (λ finding.
             IsKeptUnless self.old.whole finding.file.key finding.state)) }
         ensures seen { IfOk result (λ found. IfSome found WasSeen) }
+        ensures read { IfOk result (λ found. IfSome found
+            (λ finding. IsReadSo R.File.remaining finding.file.kind finding.state)) }
         ensures memory { IsOkUnless result StoreError.OutOfMemory }
     {
         while let Some(file) = self.left.pop() {
-            if let Some(state) = self.state_of(&file, handling, watch)? {
+            let seen = self.ahead.take(&file);
+            if let Some(state) = self.state_of(&file, seen.as_ref(), handling, watch)? {
                 if matches!(state, State::Whole) {
                     self.whole = Some(file.key);
                 }
@@ -169,12 +220,15 @@ impl<R: Files + RandomSource + AllocGlobal + Clone + Drop> Scrub<R> {
     fn state_of<W: Watch>(
         &self,
         file: &ShareFile,
+        seen: Option<&SeenWhole<R::File>>,
         handling: &Handling,
         watch: &mut W,
     ) -> Result<Option<State>, StoreError>
         ensures kept { IfOk result (λ found. IfSome found (λ state.
             IsKeptUnless self.now.whole file.now.key state)) }
         ensures seen { IfOk result (λ found. IfSome found (IsSeen file.now)) }
+        ensures read { IfOk result (λ found. IfSome found
+            (IsReadSo R.File.remaining file.now.kind)) }
         ensures memory { IsOkUnless result StoreError.OutOfMemory }
     {
         let mut files = FolderFiles::new(&self.rt, self.folder.as_str(), handling.now);
@@ -182,7 +236,8 @@ impl<R: Files + RandomSource + AllocGlobal + Clone + Drop> Scrub<R> {
         match &file.kind {
             FileKind::Closed(digest) => {
                 let digest = *digest;
-                closed_state(&mut files, &ClosedName { key, digest }, handling, watch)
+                let name = ClosedName { key, digest };
+                closed_state(&mut files, &name, seen, handling, watch)
             }
             FileKind::Open(_) => open_state(&mut files, file, handling),
             FileKind::HalfAside(digest, own) => {
@@ -213,8 +268,37 @@ impl<R: Files + RandomSource + AllocGlobal + Clone + Drop> Scrub<R> {
     }
 }
 
-// How the file of a closed share is found: by its bytes, where it is a regular file.
+// How the file of a closed share is found: by its bytes, where it is a regular file, unless it was
+// seen whole before.
 fn closed_state<R, W>(
+    files: &mut FolderFiles<'_, R>,
+    name: &ClosedName,
+    seen: Option<&SeenWhole<R::File>>,
+    handling: &Handling,
+    watch: &mut W,
+) -> Result<Option<State>, StoreError>
+where
+    R: Files + RandomSource + AllocGlobal + Clone + Drop,
+    W: Watch,
+    ensures kept { (whole : Option ShareKey) (key : ShareKey) → IfOk result
+        (λ found. IfSome found (λ state. IsKeptUnless whole key state)) }
+    ensures seen { IfOk result (λ found. IfSome found
+        (IsSeenClosed (closed_file name.now) name.now.digest files.new)) }
+    ensures read { IfOk result (λ found. IfSome found
+        (IsReadSo R.File.remaining (Closed name.now.digest))) }
+    ensures memory { IsOkUnless result StoreError.OutOfMemory }
+{
+    let file = ShareFile::closed(name);
+    if let Some(seen) = seen {
+        if files.recall(&file, &name.digest, seen) {
+            return Ok(Some(State::Whole));
+        }
+    }
+    read_state(files, name, handling, watch)
+}
+
+// The same of one that is read now.
+fn read_state<R, W>(
     files: &mut FolderFiles<'_, R>,
     name: &ClosedName,
     handling: &Handling,
@@ -227,6 +311,8 @@ where
         (λ found. IfSome found (λ state. IsKeptUnless whole key state)) }
     ensures seen { IfOk result (λ found. IfSome found
         (IsSeenClosed (closed_file name.now) name.now.digest files.new)) }
+    ensures read { IfOk result (λ found. IfSome found
+        (IsReadSo R.File.remaining (Closed name.now.digest))) }
     ensures memory { IsOkUnless result StoreError.OutOfMemory }
 {
     let file = ShareFile::closed(name);
@@ -256,6 +342,9 @@ where
         → Was (Judged (closed_file name.now) name.now.digest Damaged) files.old
         → IfOk result (λ found. IfSome found
         (IsSeenClosed (closed_file name.now) name.now.digest files.new)) }
+    ensures read { IsReadAs R.File.remaining name.now.digest Damaged
+        → IfOk result (λ found. IfSome found
+        (IsReadSo R.File.remaining (Closed name.now.digest))) }
     ensures memory { IsOkUnless result StoreError.OutOfMemory }
 {
     if !handling.set_aside {

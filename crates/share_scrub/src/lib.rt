@@ -2,8 +2,10 @@
 //! each is compared with the digest in its name. And what stands in the way of shares that are put.
 #![tactic(auto)]
 
+mod ahead;
 mod folder;
 mod mending;
 
+pub use ahead::read_ahead;
 pub use folder::{Action, Finding, Handling, Scrub, State};
 pub use mending::{Cleared, LeftShare, Outcome, clear_way};
