@@ -3,7 +3,7 @@
 use crate::prepare_tests::counted;
 use cap_text::{Cap, VerifyCap};
 use file_encoding::{Encoded, Params, Share, encode_all};
-use file_remaking::{RemadeFile, RemakeError, padded_size, prepare_remade};
+use file_remaking::{PieceError, RemadeFile, RemakeError, padded_size, prepare_remade};
 use share_verify::{read_share, read_ueb};
 use sources::{SliceSource, Source};
 use std::alloc::{AllocError, Global};
@@ -65,6 +65,45 @@ fn remade_of(
     Ok(Some(prepare_remade(alloc, source, cap, &ueb, block)))
 }
 
+// A piece of a share, or none where it does not lie in the share.
+fn piece_of(
+    remade: &mut RemadeFile,
+    source: &mut SliceSource<'_>,
+    number: usize,
+    offset: u64,
+    out: &mut [u8],
+) -> Option<Result<(), PieceError>> {
+    if number > 255 || number >= remade.digests().len() {
+        return None;
+    }
+    let length = remade.share_length();
+    if offset > length || out.len() as u64 > length - offset {
+        return None;
+    }
+    Some(remade.piece(source, number as u8, offset, out))
+}
+
+// Whether a piece from an offset on is that of the whole share.
+fn has_piece(
+    remade: &mut RemadeFile,
+    source: &mut SliceSource<'_>,
+    number: usize,
+    share: &[u8],
+    offset: u64,
+    out: &mut [u8],
+) -> bool {
+    let end = offset
+        .saturating_add(out.len() as u64)
+        .min(share.len() as u64);
+    let Some(part) = share.get(offset as usize..end as usize) else {
+        return false;
+    };
+    let Some(room) = out.get_mut(..part.len()) else {
+        return false;
+    };
+    matches!(piece_of(remade, source, number, offset, room), Some(Ok(()))) && *room == *part
+}
+
 // Whether all pieces are those of the whole shares.
 fn has_pieces(
     remade: &mut RemadeFile,
@@ -75,22 +114,12 @@ fn has_pieces(
     if out.is_empty() || shares.len() != remade.digests().len() {
         return false;
     }
-    let length = remade.share_length();
-    let pieces = length.div_ceil(out.len() as u64);
-    for piece in 0..pieces {
+    let size = out.len() as u64;
+    for piece in 0..remade.share_length().div_ceil(size) {
+        let offset = piece.saturating_mul(size);
         for number in 0..shares.len() {
-            let offset = piece.saturating_mul(out.len() as u64);
-            let end = offset.saturating_add(out.len() as u64).min(length);
-            let Some(part) = shares[number].as_slice().get(offset as usize..end as usize) else {
-                return false;
-            };
-            let Some(room) = out.get_mut(..part.len()) else {
-                return false;
-            };
-            if number > 255 {
-                return false;
-            }
-            if remade.piece(source, number as u8, offset, room) != Ok(()) || *room != *part {
+            let share = shares[number].as_slice();
+            if !has_piece(remade, source, number, share, offset, out) {
                 return false;
             }
         }
@@ -98,49 +127,71 @@ fn has_pieces(
     true
 }
 
-// Whether a file is made anew: its size, shares needed and in all, bytes a segment, bytes a piece;
-// and refused where a byte of the text is another.
+// A file's verify cap, its shares, and its padded ciphertext.
+#[derive(Drop)]
+struct Whole {
+    cap: VerifyCap,
+    shares: Vec<Share>,
+    text: Vec<u8>,
+}
+
+// A file: its size, shares needed and in all, and bytes a segment.
+fn whole_file(alloc: Global, numbers: (usize, u64, u64, u64)) -> Result<Option<Whole>, AllocError> {
+    let (size, needed, total, segment) = numbers;
+    let file = counted(alloc, size)?;
+    let Ok(params) = Params::new(needed, 1, total, segment) else {
+        return Ok(None);
+    };
+    let Ok(Encoded { cap, shares }) = encode_all(alloc, &file, b"", &params) else {
+        return Ok(None);
+    };
+    let Cap::Chk(cap) = cap else {
+        return Ok(None);
+    };
+    let cap = cap.to_verify();
+    match padded_text(alloc, &cap, &shares)? {
+        Some(text) => Ok(Some(Whole { cap, shares, text })),
+        None => Ok(None),
+    }
+}
+
+// Whether the shares of a file are made anew of its padded ciphertext, in pieces of so many bytes.
+fn is_given(alloc: Global, whole: &Whole, piece: usize) -> Result<bool, AllocError> {
+    let mut source = SliceSource::new(&whole.text);
+    let made = remade_of(alloc, &whole.cap, &whole.shares, &mut source)?;
+    let Some(Ok(mut remade)) = made else {
+        return Ok(false);
+    };
+    let mut out = vec![in alloc; 7u8; piece]?;
+    Ok(has_pieces(&mut remade, &mut source, &whole.shares, &mut out))
+}
+
+// Whether they are refused once the byte at a place is another.
+fn is_refused(alloc: Global, whole: &mut Whole, place: usize) -> Result<bool, AllocError> {
+    if let Some(byte) = whole.text.get_mut(place) {
+        *byte ^= 1;
+    }
+    let mut source = SliceSource::new(&whole.text);
+    let made = remade_of(alloc, &whole.cap, &whole.shares, &mut source)?;
+    Ok(matches!(made, Some(Err(RemakeError::Inconsistent))))
+}
+
+// Whether a file is made anew, in pieces of so many bytes; and refused where the last byte of its
+// padded ciphertext, padding or not, or one in the middle is another.
 fn is_remade(
     alloc: Global,
     numbers: (usize, u64, u64, u64),
     piece: usize,
 ) -> Result<bool, AllocError> {
-    let (size, needed, total, segment) = numbers;
-    let file = counted(alloc, size)?;
-    let Ok(params) = Params::new(needed, 1, total, segment) else {
+    let Some(mut whole) = whole_file(alloc, numbers)? else {
         return Ok(false);
     };
-    let Ok(Encoded { cap, shares }) = encode_all(alloc, &file, b"", &params) else {
-        return Ok(false);
-    };
-    let Cap::Chk(cap) = cap else {
-        return Ok(false);
-    };
-    let cap = cap.to_verify();
-    let Some(mut text) = padded_text(alloc, &cap, &shares)? else {
-        return Ok(false);
-    };
-    let mut source = SliceSource::new(&text);
-    let Some(Ok(mut remade)) = remade_of(alloc, &cap, &shares, &mut source)? else {
-        return Ok(false);
-    };
-    let mut out = vec![in alloc; 7u8; piece]?;
-    if !has_pieces(&mut remade, &mut source, &shares, &mut out) {
+    if !is_given(alloc, &whole, piece)? {
         return Ok(false);
     }
-    drop(source);
-    // The last byte, padding or not, and one in the middle.
-    for place in [text.len().saturating_sub(1), text.len() / 2] {
-        if let Some(byte) = text.get_mut(place) {
-            *byte ^= 1;
-        }
-        let mut other = SliceSource::new(&text);
-        let made = remade_of(alloc, &cap, &shares, &mut other)?;
-        if !matches!(made, Some(Err(RemakeError::Inconsistent))) {
-            return Ok(false);
-        }
-    }
-    Ok(true)
+    let last = whole.text.len().saturating_sub(1);
+    let middle = whole.text.len() / 2;
+    Ok(is_refused(alloc, &mut whole, last)? && is_refused(alloc, &mut whole, middle)?)
 }
 
 #[test]
