@@ -5,6 +5,7 @@ use crate::share_store_tests::{Call, INDEX, SEVENS, file, gives, path, remove};
 use share_folders::disk::make_folder;
 use share_folders::folder::{Durability, FolderStore, Purpose};
 use share_store::error::StoreError;
+use share_store::store::Store;
 use std::alloc::{Allocator, Global};
 use std::cell::{Cell, RefCell};
 use std::fs::{File, Metadata, OpenFile, OpenOptions};
@@ -21,6 +22,8 @@ pub(crate) enum Step {
     SyncFolder,
     Rename,
     Link,
+    // Not noted, only counted.
+    Look,
 }
 
 // The calls so far, and the one that fails.
@@ -108,6 +111,9 @@ impl<'a> Files for NotedFiles<'a> {
         self.steps
             .looks
             .set(self.steps.looks.get().saturating_add(1));
+        if self.steps.failing.get() == Some(Step::Look) {
+            return Err(io::Error::from(io::ErrorKind::BrokenPipe));
+        }
         self.rt.symlink_metadata(path)
     }
 
@@ -394,6 +400,35 @@ fn other_shares_are_not_looked_at(rt: HostRuntime) -> Result<(), Fail> {
     assert_eq!(rt; steps.looks.get(), 0);
     assert!(rt; closes_one(&rt, &mut store, 3)?);
     assert_eq!(rt; steps.looks.get(), 1);
+    remove(&rt)?;
+    Ok(())
+}
+
+static NO_LOOKS: [Call; 3] = [
+    Call::List(INDEX, b"\x03", 7),
+    Call::Read(INDEX, 3, 0, 9, b"\x01\x02\x03"),
+    Call::List(INDEX, b"\x03", 7),
+];
+
+// A look that fails is a fault, after which the share is there as before: it is listed and read once
+// looks go well.
+#[test]
+fn failed_looks(rt: HostRuntime) -> Result<(), Fail> {
+    remove(&rt)?;
+    let steps = Steps::new(rt.alloc());
+    let mut store = open_noted(&rt, &steps, Purpose::Writing(Durability::Synced))?;
+    assert!(rt; closes_one(&rt, &mut store, 3)?);
+    let mut store = open_noted(&rt, &steps, Purpose::Reading)?;
+    steps.failing.set(Some(Step::Look));
+    for (i, call) in NO_LOOKS.iter().enumerate() {
+        assert!(rt; gives(rt.alloc(), &mut store, *call) == Err(StoreError::StoreFault));
+        assert_eq!(rt; store.failures(), i as u64 + 1);
+        assert!(rt; gives(rt.alloc(), &mut store, Call::Closed(INDEX, 3, 7))?);
+    }
+    steps.failing.set(None);
+    for call in NO_LOOKS {
+        assert!(rt; gives(rt.alloc(), &mut store, call)?);
+    }
     remove(&rt)?;
     Ok(())
 }
