@@ -12,11 +12,13 @@ cd "$(dirname "$0")/.." || exit 2
 
 # Lines that may: a sum or an offset that does not fit 64 bits counts as one too many for the
 # memory, a machine or a world that ended without memory is told so, and so is an error of the
-# command line.
+# command line, and the name of a share's file that could not be made, which wants memory alone.
 allowed=$(cat <<'END'
 share_store/src/memory.rt:return Err(StoreError::OutOfMemory);
 request_record/src/entries.rt:return Err(AllocError);
 download_file/src/reader.rt:return Err(AllocError);
+share_files/src/changes.rt:_ => Err(DiskError::OutOfMemory),
+share_files/src/changes.rt:return Err(DiskError::OutOfMemory);
 grid_rules/src/ending.rt:DownloadStatus::Failed => Err(Fault::OutOfMemory),
 grid_faults/src/fault.rt:return Fault::OutOfMemory;
 grid_shares/src/checking.rt:check.report(rt.alloc())?.ok_or(Fault::OutOfMemory)
