@@ -27,8 +27,8 @@
 # With `all` the stops of both are all of their calls, which takes some hours.
 #
 # It needs gcc and python3, and takes three minutes with TMPDIR in memory, and up to twenty on a
-# busy disk. Each scene has a line, behind its first faults, and one that counts how the first and the
-# second ended. The last line is `runs N faults N`; the status is 0 where there are no faults, 1
+# busy disk. Each scene has a line, behind its first faults, and one that counts how the first and
+# the second ended. The last line is `runs N faults N`; the status is 0 where there are no faults, 1
 # where there are, and 2 where nothing could be run.
 
 here=$(cd "$(dirname "$0")/.." && pwd) || exit 2
