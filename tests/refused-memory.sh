@@ -81,7 +81,7 @@ run() {
     wait $!
     status=$?
     grep -v '^made ' all > err
-    rm -rf ./*-tests-$!*
+    rm -rf /tmp/*-tests-$!*
 }
 
 is_as_without() {

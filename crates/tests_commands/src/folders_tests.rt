@@ -11,7 +11,7 @@ const WRITING: Purpose = Purpose::Writing(Durability::Synced);
 // The folder of a test, with a name of its own.
 fn grid(rt: &HostRuntime, name: &str) -> io::Result<String> {
     let process = std::process::id(rt.process());
-    Ok(format!(in rt.alloc(); "folder-tests-{process}-{name}")?)
+    Ok(format!(in rt.alloc(); "/tmp/folder-tests-{process}-{name}")?)
 }
 
 // Why server 7 cannot serve.

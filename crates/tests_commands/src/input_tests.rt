@@ -126,7 +126,7 @@ fn opened<F: Read + Drop>(fed: &Fed<'_>, mut file: F, size: u64) -> Came {
 }
 
 fn read_of(fed: &Fed<'_>, path: &str, told: &str) -> Came {
-    match open_input(fed, path, ".", 10) {
+    match open_input(fed, path, "/tmp", 10) {
         Ok(Input::Held(bytes)) => Came::Bytes(bytes.len()),
         Ok(Input::Opened(file, size)) => opened(fed, file, size),
         Err(Fault::File(path, _)) => Came::Fault(path.as_str() == told),
@@ -137,7 +137,7 @@ fn read_of(fed: &Fed<'_>, path: &str, told: &str) -> Came {
 // A path of a test's own.
 fn own_path(rt: &HostRuntime, name: &str) -> io::Result<String> {
     let process = std::process::id(rt.process());
-    Ok(format!(in rt.alloc(); "input-tests-{process}-{name}")?)
+    Ok(format!(in rt.alloc(); "/tmp/input-tests-{process}-{name}")?)
 }
 
 // A regular file is held up to the limit, and open above. As standard input it is one where it
@@ -189,7 +189,7 @@ fn folders_and_devices(rt: HostRuntime) -> Result<(), Fail> {
         state: "",
         left: b"",
     };
-    assert!(rt; read_of(&fed, ".", ".") == Came::Fault(true));
+    assert!(rt; read_of(&fed, "/tmp", "/tmp") == Came::Fault(true));
     assert!(rt; read_of(&fed, "/dev/null", "") == Came::Bytes(0));
     Ok(())
 }

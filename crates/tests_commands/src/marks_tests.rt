@@ -12,7 +12,7 @@ use std::{fs, io};
 // The folder of a test, with a name of its own.
 fn grid(rt: &HostRuntime, name: &str) -> io::Result<String> {
     let process = std::process::id(rt.process());
-    Ok(format!(in rt.alloc(); "marks-tests-{process}-{name}")?)
+    Ok(format!(in rt.alloc(); "/tmp/marks-tests-{process}-{name}")?)
 }
 
 // The number of a fault; 0 of what went well.

@@ -14,13 +14,13 @@ pub(crate) const CAP_131074: &str = "URI:CHK:x45opozjlsd45uhibsv2apw46e:\
 // The environment of these commands: no variable is set.
 pub(crate) const HERE: Environment<'static> = Environment {
     known: false,
-    temporary: ".",
+    temporary: "/tmp",
 };
 
 // A path in that folder.
 pub(crate) fn path(rt: &HostRuntime, rest: &str) -> Result<String, AllocError> {
     let process = std::process::id(rt.process());
-    format!(in rt.alloc(); "grid-net-tests-{process}{rest}")
+    format!(in rt.alloc(); "/tmp/grid-net-tests-{process}{rest}")
 }
 
 // Removes the folder, where it is there.

@@ -300,7 +300,7 @@ static FOUND: [Row; 4] = [
 #[test]
 fn one_bucket_in_folder(rt: HostRuntime) -> Result<(), Fail> {
     let process = std::process::id(rt.process());
-    let folder = format!(in rt.alloc(); "server-core-tests-{process}")?;
+    let folder = format!(in rt.alloc(); "/tmp/server-core-tests-{process}")?;
     let written = right_rows_in_folder(&rt, folder.as_str(), &ONE_BUCKET);
     let found = right_rows_in_folder(&rt, folder.as_str(), &FOUND);
     fs::remove_dir_all(&rt, folder.as_str())?;

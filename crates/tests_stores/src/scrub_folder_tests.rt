@@ -19,7 +19,7 @@ const OTHER_INDEX: StorageIndex = [2; 16];
 // A path in a folder that is this process's own.
 fn path(rt: &HostRuntime, rest: &str) -> Result<String, AllocError> {
     let process = std::process::id(rt.process());
-    format!(in rt.alloc(); "scrub-tests-{process}{rest}")
+    format!(in rt.alloc(); "/tmp/scrub-tests-{process}{rest}")
 }
 
 fn file(index: StorageIndex, number: u8, kind: FileKind) -> ShareFile {

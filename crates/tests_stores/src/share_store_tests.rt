@@ -265,7 +265,7 @@ fn memory_fails(rt: HostRuntime) {
 // A path in a folder that is this process's own.
 pub(crate) fn path(rt: &HostRuntime, rest: &str) -> Result<String, AllocError> {
     let process = std::process::id(rt.process());
-    format!(in rt.alloc(); "share-store-tests-{process}{rest}")
+    format!(in rt.alloc(); "/tmp/share-store-tests-{process}{rest}")
 }
 
 // The path of a file in that folder: an index, what comes after it, and an end.

@@ -8,7 +8,7 @@ use std::{fs, io};
 // The path of a test's file, with a name of its own.
 fn path(rt: &HostRuntime, name: &str) -> io::Result<String> {
     let process = std::process::id(rt.process());
-    Ok(format!(in rt.alloc(); "source-tests-{process}-{name}")?)
+    Ok(format!(in rt.alloc(); "/tmp/source-tests-{process}-{name}")?)
 }
 
 // A source over a file of eleven bytes.
@@ -89,7 +89,7 @@ fn a_file_is_written_over(rt: HostRuntime) -> Result<(), Fail> {
 // A folder can be opened, and no byte of it be read.
 #[test]
 fn a_folder_is_no_source(rt: HostRuntime) -> Result<(), Fail> {
-    let mut source = FileSource::new(File::open(&rt, ".")?, 11);
+    let mut source = FileSource::new(File::open(&rt, "/tmp")?, 11);
     let mut out = [0u8; 11];
     assert!(rt; read_part(&mut source, 0, &mut out) == Err(PartFault::Unreadable));
     assert_eq!(rt; source.failures(), 1);
