@@ -6,7 +6,7 @@ ghost use Rattle.merkle.specs.Nodes.{ArePairs, AreTreeNodes, IsPadded};
 ghost use Rattle.merkle.specs.Tree.{max_leaves, node_count};
 ghost use Rattle.tagged_hash.specs.TaggedHash.{empty_leaf_hash, node_hash};
 
-use crate::rows::parents_from;
+use crate::rows::{empty_leaves_from, parents_from};
 use tagged_hash::{empty_leaf, pair};
 
 /// Whether hashes are all nodes of a tree, row by row from the root, whose leaves are the first
@@ -68,8 +68,30 @@ fn is_padded(row: &[[u8; 32]], leaf_count: usize) -> bool
     requires { length row.now < 2 ^ 32 }
     ensures { IsTrue result ↔ IsPadded leaf_count row.now }
 {
-    for position in leaf_count..row.len() {
+    let groups = row.len().saturating_sub(leaf_count) / 8;
+    for group in 0..groups {
+        if !are_eight_empty(row, leaf_count + 8 * group) {
+            return false;
+        }
+    }
+    for position in leaf_count + 8 * groups..row.len() {
         if !is_empty_leaf(&row[position], position as u32) {
+            return false;
+        }
+    }
+    true
+}
+
+// Whether each of eight leaves from this one on is the empty leaf of its position.
+fn are_eight_empty(row: &[[u8; 32]], first: usize) -> bool
+    requires inside { first + 8 ≤ length row.now }
+    requires few { length row.now < 2 ^ 32 }
+    ensures { IsTrue result ↔ ((i : ℕ) → first ≤ i → i < first + 8
+        → slice_index_or row.now i [] ≡ empty_leaf_hash i) }
+{
+    let eight = empty_leaves_from(first as u32);
+    for k in 0..8 {
+        if row[first + k] != eight[k] {
             return false;
         }
     }

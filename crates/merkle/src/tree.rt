@@ -6,10 +6,10 @@ ghost use Rattle.std.specs.List.{range_with_len};
 ghost use Rattle.merkle.specs.Path.{LeadsBy, siblings_of};
 ghost use Rattle.merkle.specs.Tree.{height, leaves_among, max_leaves, needed_numbers, padded_to};
 ghost use Rattle.merkle.specs.Tree.{sibling_number, tree_nodes, tree_root};
-ghost use Rattle.tagged_hash.specs.TaggedHash.{node_hash};
+ghost use Rattle.tagged_hash.specs.TaggedHash.{empty_leaf_hash, node_hash};
 
 use crate::numbers::{height, needed_number, sibling_number};
-use crate::rows::parents_from;
+use crate::rows::{empty_leaves_from, parents_from};
 use std::alloc::{AllocError, Global};
 use std::marker::Model;
 use tagged_hash::{empty_leaf, pair};
@@ -128,14 +128,47 @@ fn pad(row: &mut [[u8; 32]], leaves: &[[u8; 32]])
     requires few { length row.old < 2 ^ 32 }
     ensures { row.new ≡ padded_to (length row.old) leaves.now }
 {
-    for i in 0..row.len() {
-        let leaf = if i < leaves.len() {
-            leaves[i]
+    let mut at = 0;
+    while at < row.len() {
+        if at >= leaves.len() && row.len() - at >= 8 {
+            put_eight(row, at);
+            at += 8;
         } else {
-            empty_leaf(i as u32)
-        };
-        row[i] = leaf;
+            put_leaf(row, leaves, at);
+            at += 1;
+        }
     }
+}
+
+// Writes eight empty leaves from this position on.
+fn put_eight(row: &mut [[u8; 32]], at: usize)
+    requires inside { at + 8 ≤ length row.old }
+    requires few { length row.old < 2 ^ 32 }
+    ensures long { length row.new ≡ length row.old }
+    ensures made { (k : ℕ) → at ≤ k → k < at + 8
+        → slice_index_or row.new k [] ≡ empty_leaf_hash k }
+    ensures before { (k : ℕ) → k < at → slice_index_or row.new k [] ≡ slice_index_or row.old k [] }
+{
+    let eight = empty_leaves_from(at as u32);
+    row[at..at + 8].copy_from_slice(&eight);
+}
+
+// Writes the leaf of this position, which may be an empty one.
+fn put_leaf(row: &mut [[u8; 32]], leaves: &[[u8; 32]], at: usize)
+    requires inside { at < length row.old }
+    requires few { length row.old < 2 ^ 32 }
+    requires room { length leaves.now ≤ length row.old }
+    ensures long { length row.new ≡ length row.old }
+    ensures made { slice_index_or row.new at []
+        ≡ slice_index_or (padded_to (length row.old) leaves.now) at [] }
+    ensures before { (k : ℕ) → k < at → slice_index_or row.new k [] ≡ slice_index_or row.old k [] }
+{
+    let leaf = if at < leaves.len() {
+        leaves[at]
+    } else {
+        empty_leaf(at as u32)
+    };
+    row[at] = leaf;
 }
 
 // The numbers of the nodes that lead from a leaf to the root of a tree of this height.
