@@ -1,7 +1,7 @@
 //! Where the bytes of an upload's shares come from.
 
-ghost use Rattle.std.specs.Prelude.{◌≡◌, ◌+◌, ◌<◌, ◌≤◌, ℕ, List, length, map, take, drop, OnOk};
-ghost use Rattle.std.specs.Prelude.{IfOk, IfErr};
+ghost use Rattle.std.specs.Prelude.{◌≡◌, ◌+◌, ◌-◌, ◌<◌, ◌≤◌, ◌++◌, ℕ, List, [], length, map, take};
+ghost use Rattle.std.specs.Prelude.{drop, slice_index_or, OnOk, IfOk, IfErr};
 ghost use Rattle.tagged_hash.specs.TaggedHash.{share_digest};
 ghost use Rattle.upload_core.specs.Pieces.{HaveOneLength, length_of, piece_of};
 ghost use Rattle.upload_core.specs.PieceFault.{fault_number};
@@ -11,6 +11,10 @@ use std::alloc::{AllocError, Global};
 use std::marker::Model;
 use tagged_hash::{Tag, share_digest, tagged_eight};
 use wire::message::Digest;
+
+// From so many shares on, eight lanes hash them faster than one share after the other, on each
+// processor: the lanes that are left over are filled up.
+const WORTH_LANES: usize = 5;
 
 /// Why a piece of a share could not be had.
 #[derive(Clone, Copy, Debug, PartialEq, Eq)]
@@ -127,30 +131,66 @@ fn digests_of(alloc: Global, shares: &[Vec<u8>]) -> Result<Vec<Digest>, AllocErr
         (λ digests. digests.items ≡ map (λ share. share_digest share.items) shares.now) }
 {
     let mut digests = Vec::with_capacity(alloc, shares.len())?;
-    for group in 0..shares.len() / 8 {
-        digests.extend_from_slice(&eight_digests(shares, 8 * group))?;
-    }
-    for number in shares.len() / 8 * 8..shares.len() {
-        digests.push(share_digest(&shares[number]))?;
+    for group in 0..shares.len().div_ceil(8) {
+        let first = 8 * group;
+        add_group(&mut digests, shares, first, shares.len().min(first + 8))?;
     }
     Ok(digests)
 }
 
-// The digests of eight shares, from number `first` on.
-fn eight_digests(shares: &[Vec<u8>], first: usize) -> [Digest; 8]
+// Adds the digests of up to eight shares, from number `first` to before `end`.
+fn add_group(
+    digests: &mut Vec<Digest>,
+    shares: &[Vec<u8>],
+    first: usize,
+    end: usize,
+) -> Result<(), AllocError>
     requires one_length { HaveOneLength (map (λ share. share.items) shares.now) }
-    requires within { first + 8 ≤ length shares.now }
-    ensures { result ≡ map (λ share. share_digest share.items) (take 8 (drop first shares.now)) }
+    requires some { first < end }
+    requires few { end ≤ first + 8 }
+    requires within { end ≤ length shares.now }
+    ensures { OnOk result (digests.new.items ≡ digests.old.items
+        ++ take (end - first) (drop first (map (λ share. share_digest share.items) shares.now))) }
+{
+    if end - first < WORTH_LANES {
+        for number in first..end {
+            digests.push(share_digest(&shares[number]))?;
+        }
+        return Ok(());
+    }
+    let all = eight_digests(shares, first, end - 1);
+    digests.extend_from_slice(&all[..end - first])?;
+    Ok(())
+}
+
+// The digests of eight shares from number `first` on: share `last` also stands for those after it.
+fn eight_digests(shares: &[Vec<u8>], first: usize, last: usize) -> [Digest; 8]
+    requires one_length { HaveOneLength (map (λ share. share.items) shares.now) }
+    requires some { first ≤ last }
+    requires within { last < length shares.now }
+    ensures { (j : ℕ) → j < 8 → first + j ≤ last → slice_index_or result j []
+        ≡ slice_index_or (map (λ share. share_digest share.items) shares.now) (first + j) [] }
 {
     let messages = [
-        shares[first].as_slice(),
-        shares[first + 1].as_slice(),
-        shares[first + 2].as_slice(),
-        shares[first + 3].as_slice(),
-        shares[first + 4].as_slice(),
-        shares[first + 5].as_slice(),
-        shares[first + 6].as_slice(),
-        shares[first + 7].as_slice(),
+        share_at(shares, first),
+        share_at(shares, last.min(first + 1)),
+        share_at(shares, last.min(first + 2)),
+        share_at(shares, last.min(first + 3)),
+        share_at(shares, last.min(first + 4)),
+        share_at(shares, last.min(first + 5)),
+        share_at(shares, last.min(first + 6)),
+        share_at(shares, last.min(first + 7)),
     ];
     tagged_eight(Tag::WholeShare, &messages, messages[0].len())
+}
+
+// The share of this number.
+fn share_at(shares: &[Vec<u8>], number: usize) -> &[u8]
+    requires one_length { HaveOneLength (map (λ share. share.items) shares.now) }
+    requires within { number < length shares.now }
+    ensures long { length result.now ≡ length_of (map (λ share. share.items) shares.now) }
+    ensures digest { share_digest result.now
+        ≡ slice_index_or (map (λ share. share_digest share.items) shares.now) number [] }
+{
+    &shares[number]
 }
