@@ -30,7 +30,7 @@ cut_again m n text =
     ]
 
 -- a segment of the cut text
-plain_segment : (g : Geometry) (number : ℕ) (text : List ℕ) → number * g.segment_size ≤ g.size
+pub plain_segment : (g : Geometry) (number : ℕ) (text : List ℕ) → number * g.segment_size ≤ g.size
     → segment_at g number (take g.size text) ≡ take (segment_length g number) (segment_at g number text)
 plain_segment g number text begins =
     let start : ℕ = number * g.segment_size in

@@ -33,8 +33,8 @@ use Rattle.file_encoding.specs.Encoding.{share_hashes}
 use Rattle.file_encoding.proofs.Drafting.{length-padded_blocks, padded_blocks-again}
 use Rattle.file_encoding.proofs.OwnHashes.{entries_carry, length-entries, needed_hashes, own_hashes_lead}
 use Rattle.file_encoding.proofs.OwnShares.{length-tree_root, length-tree_section}
-use Rattle.file_encoding.specs.RemadeLaws.{RegeneratedPass}
-use Rattle.file_encoding.specs.Padded.{padded_leaves, padded_sections, padded_share, plain_segments}
+use Rattle.file_encoding.specs.RemadeLaws.{ArePassing, RegeneratedPass}
+use Rattle.file_encoding.specs.Padded.{padded_leaves, padded_sections, padded_share, padded_shares, plain_segments}
 
 module _ (g : Geometry) (text block : List ℕ) (valid : IsGeometry g) (size : length text ≡ rounded_up g.size g.needed) (short : length block ≤ max_length) where
   abbrev plain : List (List ℕ)
@@ -186,36 +186,42 @@ not_long g s is are =
       omega (arith, all, first, h.1, n, are.blocks, are.unused, are.ciphertext_tree, are.block_tree, are.share_hashes, are.extension_block, b.few_blocks, b.few_nodes, b.few_hashes),
     )
 
-pub regenerated_pass : RegeneratedPass
-regenerated_pass cap numbers strings shares r =
-    let u = r.u in
+-- all such shares pass, and have one length
+pub padded_pass : (cap : VerifyCapValue) (block : List ℕ) (u : Contents) (text : List ℕ) (shares : List (List ℕ)) → IsUebFor cap block u
+    → length text ≡ rounded_up u.size u.needed_shares
+    → tree_root (segment_hashes (plain_segments (geometry_by u) text)) ≡ u.crypttext_root_hash
+    → tree_root (padded_leaves (geometry_by u) text) ≡ u.share_root_hash
+    → shares ≡ padded_shares (geometry_by u) text block → ArePassing cap shares
+padded_pass cap block u text shares ueb size ciphertext_root share_root are =
     let g = geometry_by u in
-    let ueb = r.give.ueb in
-    let size : length r.text ≡ rounded_up u.size u.needed_shares = r.give.decoded.size in
     let total : u.total_shares ≡ cap.total = ueb.total in
     let valid = is_geometry u ueb.grammar.contents in
-    let at : (i : ℕ) → i < cap.total → get_or shares i [] ≡ padded_share g r.text r.extension_block i =
+    let at : (i : ℕ) → i < cap.total → get_or shares i [] ≡ padded_share g text block i =
     λ i low.
-    ap (λ (l : List (List ℕ)). get_or l i []) r.are
-    ∙ get_or-map-range_with_len (padded_share g r.text r.extension_block) 0 g.total i i [] (omega (arith, low, total)) (zero-add i) in
+    ap (λ (l : List (List ℕ)). get_or l i []) are
+    ∙ get_or-map-range_with_len (padded_share g text block) 0 g.total i i [] (omega (arith, low, total)) (zero-add i) in
     record {
-      count = ap length r.are ∙ length-map-range_with_len (padded_share g r.text r.extension_block) 0 g.total ∙ total;
+      count = ap length are ∙ length-map-range_with_len (padded_share g text block) 0 g.total ∙ total;
       sound = λ i low. (
         u,
-        padded_sections g r.text r.extension_block i,
-        subst (λ (b : List ℕ). IsSound cap i b u (padded_sections g r.text r.extension_block i)) (sym (at i low))
-            (padded_passes cap r.extension_block u r.text ueb size r.ciphertext_root r.share_root i (omega (arith, low, total))),
+        padded_sections g text block i,
+        subst (λ (b : List ℕ). IsSound cap i b u (padded_sections g text block i)) (sym (at i low))
+            (padded_passes cap block u text ueb size ciphertext_root share_root i (omega (arith, low, total))),
       );
       one_length = λ i j low other.
           ap length (at i low)
-          ∙ same_length g (padded_sections g r.text r.extension_block i) (padded_sections g r.text r.extension_block j)
-          (lengths g r.text r.extension_block valid size ueb.grammar.short i (omega (arith, low, total)))
-          (lengths g r.text r.extension_block valid size ueb.grammar.short j (omega (arith, other, total))) refl
+          ∙ same_length g (padded_sections g text block i) (padded_sections g text block j)
+          (lengths g text block valid size ueb.grammar.short i (omega (arith, low, total)))
+          (lengths g text block valid size ueb.grammar.short j (omega (arith, other, total))) refl
           ∙ sym (ap length (at j other));
       some = λ i low.
           subst (λ (b : List ℕ). 1 ≤ length b) (sym (at i low))
-          (not_long g (padded_sections g r.text r.extension_block i) valid (lengths g r.text r.extension_block valid size ueb.grammar.short i (omega (arith, low, total)))).0;
+          (not_long g (padded_sections g text block i) valid (lengths g text block valid size ueb.grammar.short i (omega (arith, low, total)))).0;
       short = λ i low.
           subst (λ (b : List ℕ). length b ≤ 2 ^ 41) (sym (at i low))
-          (not_long g (padded_sections g r.text r.extension_block i) valid (lengths g r.text r.extension_block valid size ueb.grammar.short i (omega (arith, low, total)))).1;
+          (not_long g (padded_sections g text block i) valid (lengths g text block valid size ueb.grammar.short i (omega (arith, low, total)))).1;
     }
+
+pub regenerated_pass : RegeneratedPass
+regenerated_pass cap numbers strings shares r =
+    padded_pass cap r.extension_block r.u r.text shares r.give.ueb r.give.decoded.size r.ciphertext_root r.share_root r.are

@@ -1,5 +1,3 @@
-pub mod CutTexts
-pub mod PaddedPassing
 pub mod PaddedTexts
 pub mod RemadeLaws
 pub mod RemakePass

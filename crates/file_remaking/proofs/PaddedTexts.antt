@@ -27,7 +27,7 @@ use Rattle.file_encoding.specs.Blocks.{padded_block, padded_blocks}
 use Rattle.file_encoding.specs.Encoding.{block_of, blocks_of, padded_segment, share_hashes}
 use Rattle.file_encoding.specs.Padded.{padded_leaves, padded_share, plain_segments}
 use Rattle.file_encoding.proofs.OwnBlocks.{div_ceil_within}
-use Rattle.file_remaking.proofs.CutTexts.{plain_segment}
+use Rattle.file_encoding.proofs.PlainText.{plain_segment}
 use Rattle.block_making.proofs.MadeBlocks.{begins-before, data_within}
 use Rattle.share_gathering.specs.Gathered.{behind_blocks}
 use Rattle.file_remaking.specs.Remade.{padded}

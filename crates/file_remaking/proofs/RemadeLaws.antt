@@ -14,7 +14,7 @@ use Rattle.share_verify.proofs.GeometryOfUeb.{is_geometry}
 use Rattle.proved_parts.specs.FileOf.{segment_hashes}
 use Rattle.file_encoding.specs.Blocks.{padded_blocks}
 use Rattle.file_encoding.specs.Padded.{padded_share, padded_shares, plain_segments}
-use Rattle.file_remaking.proofs.PaddedPassing.{padded_pass}
+use Rattle.file_encoding.proofs.RemadePassing.{padded_pass}
 use Rattle.share_gathering.specs.Gathered.{behind_blocks}
 use Rattle.share_gathering.specs.KeptFile.{GivesKept, IsKeptOf, KeptFile, kept_leaves, kept_share}
 use Rattle.share_gathering.specs.Clash.{HaveClash}
