@@ -1,7 +1,7 @@
 //! Shares are put on a disk that stops at each call in turn, and is found in each state that a
 //! crash may leave.
 
-use crate::crash_disk::{CrashDisk, Held};
+use crate::crash_disk::CrashDisk;
 use disks::own::{begin, discard};
 use share_folders::names::OpenName;
 use share_folders::outlasting::{PutShare, put_share, read_share};
@@ -9,6 +9,7 @@ use share_store::error::StoreError;
 use std::alloc::Global;
 use std::cell::RefCell;
 use std::test::Fail;
+use test_disks::Held;
 use wire::message::{ReadLength, ShareId};
 
 // A share's number, the byte of its digest, and its bytes. The first is put once more at last.
