@@ -1,15 +1,16 @@
 -- What becomes of closed shares that are looked at, and how long open shares are.
 use Rattle.std.proofs.Common.{rules, ◌≡◌, ℕ, true, false, cond, List, [], ◌∷◌, refl, sym, subst, ap, ◌∙◌, Result, Ok, Err, inl, inr}
-use Rattle.std.specs.Prelude.{Option, None, Some, is_some, option_map, unwrap_or, ◌⊎◌, IfSome, OnErr, OnOk}
+use Rattle.std.specs.Prelude.{Option, None, Some, is_some, option_map, unwrap_or, ◌⊎◌, IfSome, IsErrAnd, OnErr, OnOk}
 use Rattle.std.specs.Cmp.Lexicographic.{slice_cmp}
 use Rattle.std.specs.Ordering.{nat_cmp, ordering_then, is_eq}
 use Rattle.std.specs.declared.cmp.Ordering.TheVariants.{Less, Equal, Greater}
+use Rattle.std.proofs.lemmas.Cmp.{nat_list_cmp_total, tied_itself}
 use mathlib.Core.Bool.{true≢false}
 use Rattle.share_store.specs.declared.error.StoreError.{StoreError}
 use Rattle.share_folders.specs.declared.table.KeptShare.{KeptShare}
 use Rattle.share_folders.specs.declared.files.OpenShare.{OpenShare}
 use Rattle.share_store.specs.Shelf.{ShareKey, at, same_key}
-use Rattle.share_folders.specs.Table.{AreSeen, IsSeen, StayBeside, has_index}
+use Rattle.share_folders.specs.Table.{AreSeen, HasUnasked, IsSeen, IsUnasked, StayBeside, has_index}
 use Rattle.share_folders.specs.Folder.{IsOpenedAt, length_at, lengths_of}
 use Rattle.share_store.proofs.ShelfLaws.{same_is}
 
@@ -119,3 +120,26 @@ beside_noted (Err e) key old new others err = λ other apart. ap (at other) err
 pub on_err_lengths : {F : Type 0} (r : Result Unit StoreError) (old new : List (ShareKey × OpenShare F)) → OnErr r (new ≡ old) → OnErr r (lengths_of new ≡ lengths_of old)
 on_err_lengths (Ok u) old new same = tt
 on_err_lengths (Err e) old new same = ap lengths_of same
+
+-- ---- shares whose lengths were not asked
+
+pub unasked_at : (digest : List ℕ) (found : Option KeptShare) → found ≡ Some (record { length = None; digest = digest }) → IsUnasked found
+unasked_at digest found is = subst IsUnasked (sym is) refl
+
+-- a share whose length was not asked after a look was not asked before it
+unasked_was : (old mid : Option KeptShare) → IsSeen old mid → IsUnasked mid → IsUnasked old
+unasked_was None mid gone unasked = subst IsUnasked gone unasked
+unasked_was (Some k) mid (inl same) unasked = subst IsUnasked same unasked
+unasked_was (Some k) mid (inr looked) unasked = looked.0
+
+itself : (index : List ℕ) (n : ℕ) → has_index index (index, n) ≡ true
+itself index n = ap is_eq (tied_itself nat_list_cmp_total index)
+
+-- so a fault at one of the shares of a storage index has its cause there
+pub unasked_under : (index : List ℕ) (n : ℕ) (old mid : List (ShareKey × KeptShare)) → AreSeen old mid → IsUnasked (at (index, n) mid) → HasUnasked index old
+unasked_under index n old mid seen unasked = ((index, n), itself index n, unasked_was (at (index, n) old) (at (index, n) mid) (seen (index, n)) unasked)
+
+-- an error that was handed on
+pub same_error : (r q : Result Unit StoreError) (f x : StoreError) → IsErrAnd r (λ (e : StoreError). e ≡ f) → r ≡ Err x → q ≡ Err f → q ≡ Err x
+same_error (Ok u) q f x answered is was = absurd answered
+same_error (Err e) q f x answered is was = was ∙ ap Err (sym answered) ∙ is

@@ -1,6 +1,6 @@
 -- A call of a store over files, counted.
-use Rattle.std.proofs.Common.{◌≡◌, ℕ, ◌+◌, ◌^◌, ◌-◌, ◌==◌, List, length, sym, ap, subst}
-use Rattle.std.specs.Prelude.{Some, IsSome, Result, Ok, Err, IfOk, OnErr, OnOk, min, if◌then◌else◌}
+use Rattle.std.proofs.Common.{◌≡◌, ℕ, ◌+◌, ◌^◌, ◌-◌, ◌==◌, List, length, refl, sym, ap, subst}
+use Rattle.std.specs.Prelude.{Some, IsSome, Result, Ok, Err, IfOk, IsErrOf, OnErr, OnOk, min, if◌then◌else◌}
 use Rattle.std.specs.BTreeMap.{insert_entry}
 use Rattle.wire.specs.declared.message.HeldShare.{HeldShare}
 use Rattle.wire.specs.declared.message.ShareId.{ShareId}
@@ -9,7 +9,7 @@ use Rattle.share_store.specs.declared.error.StoreError.TheVariants.{OutOfMemory,
 use Rattle.share_store.specs.Shelf.{held_by, key_of, order}
 use Rattle.share_folders.specs.declared.table.KeptShare.{KeptShare}
 use Rattle.share_folders.specs.Folder.{FolderState, FolderCloses, FolderLists, FolderWrites, LooksAt, OthersStay, counted, faulted, length_at}
-use Rattle.share_folders.specs.Table.{has_index}
+use Rattle.share_folders.specs.Table.{HasUnasked, has_index}
 
 -- the state of a store after its call's outcome was counted
 abbrev pub after : {A : Type 0} → Result A StoreError → FolderState → FolderState
@@ -27,15 +27,17 @@ faulted_looks index s u looks = record {
 }
 
 lists_after : (q : Result (List HeldShare) StoreError) (index : List ℕ) (s u : FolderState) → IfOk q (λ (found : List HeldShare). found ≡ held_by (λ (k : KeptShare). k.digest) index u.closed)
-    → LooksAt (has_index index) s u → FolderLists s index q (after q u)
-lists_after (Ok found) index s u told looks = (told, looks)
-lists_after (Err OutOfMemory) index s u told looks = looks
-lists_after (Err StoreFault) index s u told looks = faulted_looks index s u looks
+    → (IsErrOf q StoreFault → HasUnasked index s.closed) → LooksAt (has_index index) s u → FolderLists s index q (after q u)
+lists_after (Ok found) index s u told cause looks = (told, looks)
+lists_after (Err OutOfMemory) index s u told cause looks = looks
+lists_after (Err StoreFault) index s u told cause looks = (cause refl, faulted_looks index s u looks)
 
 pub lists : (r q : Result (List HeldShare) StoreError) (index : List ℕ) (s u t : FolderState) → r ≡ q → t ≡ after q u
-    → IfOk q (λ (found : List HeldShare). found ≡ held_by (λ (k : KeptShare). k.digest) index u.closed) → LooksAt (has_index index) s u → FolderLists s index r t
-lists r q index s u t same is told looks =
-    subst (λ (p : Result (List HeldShare) StoreError). FolderLists s index p t) (sym same) (subst (λ (w : FolderState). FolderLists s index q w) (sym is) (lists_after q index s u told looks))
+    → IfOk q (λ (found : List HeldShare). found ≡ held_by (λ (k : KeptShare). k.digest) index u.closed) → (IsErrOf q StoreFault → HasUnasked index s.closed)
+    → LooksAt (has_index index) s u → FolderLists s index r t
+lists r q index s u t same is told cause looks =
+    subst (λ (p : Result (List HeldShare) StoreError). FolderLists s index p t) (sym same)
+    (subst (λ (w : FolderState). FolderLists s index q w) (sym is) (lists_after q index s u told cause looks))
 
 pub writes : (r q : Result Unit StoreError) (id : ShareId) (offset : ℕ) (bytes : List ℕ) (s u t : FolderState) → r ≡ q → t ≡ after q u
     → u.folder ≡ s.folder → u.own ≡ s.own → u.closed ≡ s.closed → u.failures ≡ s.failures → OthersStay id s.opened u.opened → OnOk q (IsSome s.own)

@@ -13,7 +13,7 @@ use Rattle.share_store.specs.Shelf.{ShareKey, key_of, order, same_key, at, held_
 use Rattle.share_store.specs.Calls.{Calls}
 use Rattle.share_folders.specs.declared.listing.Purpose.{Purpose}
 use Rattle.share_folders.specs.declared.listing.Purpose.TheVariants.{Reading, Writing}
-use Rattle.share_folders.specs.Table.{AreSeen, StayBeside, has_index, is_known}
+use Rattle.share_folders.specs.Table.{AreSeen, HasUnasked, StayBeside, has_index, is_known}
 use Rattle.share_folders.specs.declared.files.OpenShare.{OpenShare}
 
 -- the folder's path, what open shares' files are named by where shares are taken, the closed
@@ -117,13 +117,15 @@ FolderReads s id offset len (Err OutOfMemory) t = LooksAt (same_key (key_of id))
 FolderReads s id offset len (Err StoreFault) t = LooksAt (same_key (key_of id)) (faulted s) t
 
 -- All closed shares of a file. It is a fault where one of them could not be looked at: else one
--- that is there would count as gone.
+-- that is there would count as gone. Only one whose length was not asked is looked at, so where all
+-- are known a list is no fault.
 abbrev pub FolderLists : FolderState → List ℕ → Result (List HeldShare) StoreError
     → FolderState → Type 0
 FolderLists s index (Ok found) t =
     (found ≡ held_by (λ (k : KeptShare). k.digest) index t.closed) × LooksAt (has_index index) s t
 FolderLists s index (Err OutOfMemory) t = LooksAt (has_index index) s t
-FolderLists s index (Err StoreFault) t = LooksAt (has_index index) (faulted s) t
+FolderLists s index (Err StoreFault) t =
+    HasUnasked index s.closed × LooksAt (has_index index) (faulted s) t
 
 abbrev pub FolderRestarts : FolderState → FolderState → Type 0
 FolderRestarts s t =

@@ -1,5 +1,5 @@
 -- A folder's table of closed shares.
-use Rattle.std.specs.Prelude.{◌≡◌, ◌⊎◌, ℕ, List, Bool, false, Option, Some, None, is_some}
+use Rattle.std.specs.Prelude.{◌≡◌, ◌⊎◌, ℕ, List, Bool, false, true, Option, Some, None, is_some}
 use Rattle.std.specs.Prelude.{if◌then◌else◌}
 use Rattle.std.specs.Cmp.Lexicographic.{slice_cmp}
 use Rattle.std.specs.Ordering.{nat_cmp, is_eq, is_lt}
@@ -33,6 +33,16 @@ StayBeside asked old new = (key : ShareKey) → asked key ≡ false → at key n
 -- is the key one of a storage index?
 abbrev pub has_index : List ℕ → ShareKey → Bool
 has_index index key = is_eq (slice_cmp nat_cmp index key.0)
+
+-- a closed share whose length was not asked
+abbrev pub IsUnasked : Option KeptShare → Type 0
+IsUnasked None = ⊥
+IsUnasked (Some k) = k.length ≡ None
+
+-- A storage index has a closed share whose length was not asked.
+abbrev pub HasUnasked : List ℕ → List (ShareKey × KeptShare) → Type 0
+HasUnasked index closed =
+    (key : ShareKey) × (has_index index key ≡ true) × IsUnasked (at key closed)
 
 -- the text of one digest is below that of another
 abbrev pub has_lower_text : List ℕ → List ℕ → Bool

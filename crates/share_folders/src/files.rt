@@ -24,7 +24,7 @@ use std::cell::Cell;
 use wire::message::ReadData;
 
 /// What a store answers where its disk answers this.
-pub(crate) fn as_stored<T: Drop>(outcome: Result<T, DiskError>) -> Result<T, StoreError>
+pub fn as_stored<T: Drop>(outcome: Result<T, DiskError>) -> Result<T, StoreError>
     ensures { IsAs outcome result }
 {
     match outcome {
@@ -62,7 +62,7 @@ pub(crate) fn regular_length<D: Disk>(disk: &mut D, name: &str) -> Result<Option
 /// share is closed: another store, or another program, that begins the share too makes a file of
 /// its own.
 #[derive(Drop)]
-pub(crate) struct OpenShare<F> {
+pub struct OpenShare<F> {
     file: F,
     /// How many bytes were written to it.
     pub(crate) length: u64,
@@ -240,7 +240,7 @@ fn sync_share<D: Disk>(disk: &mut D, share: &OpenShare<D::File>) -> Result<(), S
 
 /// The file of a closed share that is read. It stays open while no other share is read.
 #[derive(Drop)]
-pub(crate) struct RecentFile<F> {
+pub struct RecentFile<F> {
     pub(crate) key: ShareKey,
     file: F,
 }

@@ -2,7 +2,7 @@
 
 ghost use Rattle.std.specs.Prelude.{◌≡◌, ◌+◌, ◌++◌, ◌-◌, ◌==◌, ◌≤◌, ℕ, List, [], None, Some, true};
 ghost use Rattle.std.specs.Prelude.{length, min, take, drop, if◌then◌else◌, IfOk, IsOkUnless};
-ghost use Rattle.std.specs.Prelude.{Contains, IsSome, OnErr, OnOk, ⊤};
+ghost use Rattle.std.specs.Prelude.{Contains, IsErrOf, IsSome, OnErr, OnOk, ⊤};
 ghost use Rattle.std.specs.BTreeMap.{insert_entry};
 ghost use Rattle.disks.specs.Folder.{HasBytes};
 ghost use Rattle.disks.specs.Laws.{OwnStay, OwnStayBeside, StaysHeld};
@@ -13,7 +13,7 @@ ghost use Rattle.share_folders.specs.Folder.{length_at, length_of, lengths_of};
 ghost use Rattle.share_folders.specs.Names.{closed_name, open_name};
 ghost use Rattle.share_folders.specs.Stored.{FileCloses, HasShare, RecentHas, StayHeld, StayOpen};
 ghost use Rattle.share_folders.specs.Stored.{IsLatest, IsReady, WasWritten};
-ghost use Rattle.share_folders.specs.Table.{AreSeen, StayBeside, has_index, is_known};
+ghost use Rattle.share_folders.specs.Table.{AreSeen, HasUnasked, StayBeside, has_index, is_known};
 ghost use Rattle.wire.specs.Limits.{most_data};
 
 use crate::disk::Durability;
@@ -33,21 +33,26 @@ use wire::message::{Digest, HeldList, ReadData, ReadLength, ShareId, StorageInde
 
 /// What a store keeps in a folder.
 #[derive(Drop)]
-pub(crate) struct DiskStore<D: Disk + Drop> {
-    pub(crate) alloc: Global,
-    pub(crate) disk: D,
+pub struct DiskStore<D: Disk + Drop> {
+    /// Where the names of files come from.
+    pub alloc: Global,
+    /// The folder.
+    pub disk: D,
     /// What open shares' files are named by: none where no shares are taken.
-    pub(crate) own: Option<OwnToken>,
-    pub(crate) closed: BTreeMap<ShareKey, KeptShare>,
-    pub(crate) opened: BTreeMap<ShareKey, OpenShare<D::File>>,
-    pub(crate) durability: Durability,
+    pub own: Option<OwnToken>,
+    /// The closed shares.
+    pub closed: BTreeMap<ShareKey, KeptShare>,
+    /// The open shares.
+    pub opened: BTreeMap<ShareKey, OpenShare<D::File>>,
+    /// Whether a share outlasts a power failure once it is closed.
+    pub durability: Durability,
     /// The file that was read last: a share is read part by part.
-    pub(crate) recent: Option<RecentFile<D::File>>,
+    pub recent: Option<RecentFile<D::File>>,
 }
 
 impl<D: Disk + Drop> DiskStore<D> {
     /// A store over a disk, with these closed shares.
-    pub(crate) fn new(
+    pub fn new(
         alloc: Global,
         disk: D,
         own: Option<OwnToken>,
@@ -145,12 +150,7 @@ impl<D: Disk + Drop> DiskStore<D> {
     }
 
     /// Adds bytes at the end of an open share.
-    pub(crate) fn write_open(
-        &mut self,
-        id: &ShareId,
-        offset: u64,
-        bytes: &[u8],
-    ) -> Result<(), StoreError>
+    pub fn write_open(&mut self, id: &ShareId, offset: u64, bytes: &[u8]) -> Result<(), StoreError>
         ensures own { self.new.own ≡ self.old.own }
         ensures durability { self.new.durability ≡ self.old.durability }
         ensures closed { self.new.closed.entries ≡ self.old.closed.entries }
@@ -210,7 +210,7 @@ impl<D: Disk + Drop> DiskStore<D> {
     }
 
     /// Closes an open share under a digest.
-    pub(crate) fn close_open(&mut self, id: &ShareId, digest: &Digest) -> Result<(), StoreError>
+    pub fn close_open(&mut self, id: &ShareId, digest: &Digest) -> Result<(), StoreError>
         requires { at (key_of id.now) self.old.closed.entries ≡ None }
         ensures own { self.new.own ≡ self.old.own }
         ensures durability { self.new.durability ≡ self.old.durability }
@@ -264,7 +264,7 @@ impl<D: Disk + Drop> DiskStore<D> {
     }
 
     /// Bytes of a closed share from an offset on.
-    pub(crate) fn read_kept(
+    pub fn read_kept(
         &mut self,
         alloc: Global,
         id: &ShareId,
@@ -315,11 +315,7 @@ impl<D: Disk + Drop> DiskStore<D> {
     }
 
     /// The closed shares under a storage index with their digests, lowest number first.
-    pub(crate) fn list_kept(
-        &mut self,
-        alloc: Global,
-        index: &StorageIndex,
-    ) -> Result<HeldList, StoreError>
+    pub fn list_kept(&mut self, alloc: Global, index: &StorageIndex) -> Result<HeldList, StoreError>
         ensures own { self.new.own ≡ self.old.own }
         ensures durability { self.new.durability ≡ self.old.durability }
         ensures opened { self.new.opened.entries ≡ self.old.opened.entries }
@@ -328,6 +324,8 @@ impl<D: Disk + Drop> DiskStore<D> {
             self.new.closed.entries }
         ensures told { IfOk result (λ found. found
             ≡ held_by (λ (k : KeptShare). k.digest) index.now self.new.closed.entries) }
+        ensures cause { IsErrOf result StoreError.StoreFault
+            → HasUnasked index.now self.old.closed.entries }
         ensures each { D.honest self.new.disk → (key : ShareKey) (digest bytes : List ℕ)
             → HasShare D.inode (D.folder self.old.disk) self.old.closed.entries self.old.recent key
             digest bytes → is_under index.now key ≡ true → IfOk result

@@ -1,12 +1,12 @@
 //! The lengths of closed shares, which are asked when a share is asked for.
 
 ghost use Rattle.std.specs.Prelude.{◌≡◌, ℕ, List, None, Some, false, true, is_some, IfNone, IfSome};
-ghost use Rattle.std.specs.Prelude.{IsOkUnless, OnErr, OnOk, length};
+ghost use Rattle.std.specs.Prelude.{IsErrOf, IsOkUnless, OnErr, OnOk, length};
 ghost use Rattle.disks.specs.Laws.{OwnStay, StaysHeld};
 ghost use Rattle.share_store.specs.declared.error.StoreError.{StoreError};
 ghost use Rattle.share_store.specs.Shelf.{ShareKey, at, same_key};
 ghost use Rattle.share_folders.specs.Stored.{IsKept, StayKept};
-ghost use Rattle.share_folders.specs.Table.{AreSeen, StayBeside, has_index};
+ghost use Rattle.share_folders.specs.Table.{AreSeen, HasUnasked, IsUnasked, StayBeside, has_index};
 
 use crate::files::regular_length;
 use crate::names::ClosedName;
@@ -31,6 +31,8 @@ pub(crate) fn look_at<D: Disk>(
     ensures known { OnOk result (IfSome (at key.now closed.new.entries)
         (λ k. is_some k.length ≡ true)) }
     ensures err { OnErr result (closed.new.entries ≡ closed.old.entries) }
+    ensures cause { IsErrOf result StoreError.StoreFault
+        → IsUnasked (at key.now closed.old.entries) }
     ensures place { D.place disk.new ≡ D.place disk.old }
     ensures so_far { D.honest disk.new → D.honest disk.old }
     ensures right { D.honest disk.new → (digest bytes : List ℕ)
@@ -66,6 +68,8 @@ pub(crate) fn look_at_all<D: Disk>(
 ) -> Result<(), StoreError>
     ensures seen { AreSeen closed.old.entries closed.new.entries }
     ensures others { StayBeside (has_index index.now) closed.old.entries closed.new.entries }
+    ensures cause { IsErrOf result StoreError.StoreFault
+        → HasUnasked index.now closed.old.entries }
     ensures place { D.place disk.new ≡ D.place disk.old }
     ensures so_far { D.honest disk.new → D.honest disk.old }
     ensures kept { D.honest disk.new → StayKept (D.folder disk.old) closed.old.entries

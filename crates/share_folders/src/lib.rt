@@ -2,11 +2,11 @@
 #![tactic(auto)]
 
 pub mod disk;
-mod files;
+pub mod files;
 pub mod folder;
-mod kept;
+pub mod kept;
 mod lengths;
-mod listing;
+pub mod listing;
 pub mod names;
 mod opened;
 pub mod outlasting;

@@ -136,10 +136,10 @@ fn is_readonly<R: Files + AllocGlobal + Clone + Drop>(
     is_file(fs::metadata(&disk.rt, path.as_str()))
 }
 
-// The closed shares of a folder with these names. Synced, their names are put on the disk: they
-// were left by a program that may have ended before it had put them there.
+/// The closed shares of a folder with these names. Synced, their names are put on the disk: they
+/// were left by a program that may have ended before it had put them there.
 #[tactic(auto, using(crate::proofs::Closings::held_on))]
-pub(crate) fn take_names<D: Disk>(
+pub fn take_names<D: Disk>(
     alloc: Global,
     disk: &mut D,
     durability: Durability,

@@ -15,5 +15,5 @@ returns-clause-gives g c =
     let same : s ≡ c.args.self.now = search rules in
     let is : c.count.new.self ≡ after q u = c.count.ensures.counts in
     subst (λ (v : FolderState). FolderLists v c.args.index.now c.count.result c.count.new.self) same
-    (lists c.count.result q c.args.index.now s u c.count.new.self c.count.ensures.same is e.told
+    (lists c.count.result q c.args.index.now s u c.count.new.self c.count.ensures.same is e.told e.cause
     (record { seen = e.seen; others = e.others; folder = e.place; own = e.own; opened = ap lengths_of e.opened; failures = refl }))
