@@ -1,0 +1,28 @@
+use Rattle.std.proofs.Common.{◌≡◌, List, ℕ, sym, subst}
+use Rattle.std.specs.Prelude.{Result, Ok, Err, IfOk, true, map, Contains, Vec, String}
+use Rattle.std.specs.String.{string_bytes}
+use Rattle.std.specs.declared.alloc.Global.{Global}
+use Rattle.disks.specs.declared.error.DiskError.{DiskError}
+use Rattle.disks.specs.Names.{Name, lasts}
+use Rattle.disks.specs.Folder.{Folder, IsDurable}
+use Rattle.disks.specs.Steps.{Lists}
+use Rattle.disks.specs.Calls.{Gives, Stays}
+use Rattle.share_store.specs.declared.error.StoreError.{StoreError}
+use Rattle.share_folders.specs.Stored.{IsAs}
+use Rattle.folder_keeping.proofs.SafeShares.{has_bytes}
+use Rattle.folder_keeping.proofs.opening.list_names.Goals as goal
+
+listed : (r : Result (Vec (String Global) Global) DiskError) (q : Result (Vec (String Global) Global) StoreError) (s t : Folder) → IsAs r q
+    → Gives (λ (names : Vec (String Global) Global). Lists (map string_bytes names.items)) Stays r s t
+    → IfOk q (λ (names : Vec (String Global) Global). (name : Name) (bytes : List ℕ) → lasts name ≡ true
+    → IsDurable s name bytes → Contains (map string_bytes names.items) name × IsDurable t name bytes)
+listed r (Err e) s t is gives = tt
+listed (Err e) (Ok names) s t is gives = absurd is
+listed (Ok names) (Ok found) s t is gives = λ name bytes lasting durable.
+    let before = gives.first.durable name bytes lasting durable in (
+      subst (λ (ns : Vec (String Global) Global). Contains (map string_bytes ns.items) name) (sym is) (gives.step.all name bytes lasting (has_bytes gives.before bytes _ before.now)),
+      gives.then.durable name bytes lasting (subst (λ (u : Folder). IsDurable u name bytes) (sym gives.step.same) before),
+    )
+
+pub returns-clause-found : goal.returns-clause-found
+returns-clause-found g c honest = listed c.list.result c.as_stored.result _ _ c.as_stored.ensures (c.list.ensures.gives honest)

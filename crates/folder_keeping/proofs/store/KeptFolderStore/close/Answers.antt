@@ -1,0 +1,32 @@
+use Rattle.std.proofs.Common.{◌≡◌, rules, refl, subst}
+use Rattle.std.specs.Prelude.{Result}
+use Rattle.share_store.specs.declared.error.StoreError.{StoreError}
+use Rattle.folder_keeping.specs.Store.{Facts, StoreState, DiskCloses}
+use Rattle.folder_keeping.proofs.Counted.{hand_on}
+use Rattle.folder_keeping.proofs.store.KeptFolderStore.close.Goals as goal
+
+pub returns-clause-gives : goal.returns-clause-gives
+returns-clause-gives g c =
+    let D = g.row.D.Denot in
+    let F = g.row.D-File.Denot in
+    let m = c.self.inside in
+    let n = c.close_open-outcome.new.self in
+    let e = c.close_open-outcome.ensures in
+    let d : Facts D F = record { folder = g.D.Disk.folder; honest = g.D.Disk.honest; inode = g.D.Disk.inode } in
+    let s : StoreState D F = record { disk = m.store.disk; own = m.store.own; durability = m.store.durability; closed = m.store.closed.entries; opened = m.store.opened.entries; recent = m.store.recent; failures = m.failures } in
+    let u : StoreState D F = record { disk = n.disk; own = n.own; durability = n.durability; closed = n.closed.entries; opened = n.opened.entries; recent = n.recent; failures = m.failures } in
+    let same : s ≡ c.args.self.now = search rules in
+    subst (λ (v : StoreState D F). DiskCloses d v c.args.id.now c.args.digest.now c.count.result c.count.new.self)
+    same
+    (hand_on (λ (r : Result (Unit {0}) StoreError) (t : StoreState D F). DiskCloses d s c.args.id.now c.args.digest.now r t)
+    c.close_open-outcome.result c.count.result u c.count.new.self c.count.ensures.same c.count.ensures.counts
+    (record {
+      goes = record { own = e.own; durability = e.durability; failures = refl; so_far = e.so_far };
+      closed = e.closed;
+      err_closed = e.err_closed;
+      recent = e.recent;
+      err_recent = e.err_recent;
+      others = e.others;
+      closes = e.closes;
+      beside = e.beside;
+    }))
