@@ -1,5 +1,5 @@
 -- One step after another.
-use Rattle.std.proofs.Common.{◌≡◌, ℕ, List, [], ◌∷◌, ◌++◌, sym, ap, ◌∙◌, subst}
+use Rattle.std.proofs.Common.{◌≡◌, ℕ, List, [], ◌∷◌, ◌++◌, refl, sym, ap, ◌∙◌, subst}
 use Rattle.std.specs.Prelude.{Some, Ok, Err, All, unwrap_or}
 use Rattle.std.proofs.lemmas.List.Elements.{All-cons, All-head, All-nil, All-tail}
 use Rattle.disks.specs.Laws.{DurableOutlasts}
@@ -102,3 +102,27 @@ closed_after outlasts d (step ∷ before) after id digest bytes s t known runs h
 pub confirmed_stay : {D F : Type 0} → DurableOutlasts → (d : Facts D F) → ConfirmedStay d
 confirmed_stay outlasts d before after id digest bytes s t runs honest synced orderly is alone =
     closed_after outlasts d before after id digest bytes s t nothing_known runs honest synced (none_open d s) orderly is alone
+
+-- ---- what a run leaves
+
+pub synced_run : {D F : Type 0} (d : Facts D F) (steps : List Step) (s t : StoreState D F) → Runs d steps s t → s.durability ≡ Synced → t.durability ≡ Synced
+synced_run d [] s t runs synced = ap (λ (w : StoreState _ _). w.durability) runs ∙ synced
+synced_run d (step ∷ steps) s t runs synced = synced_run d steps runs.0 t runs.2 (synced_after d step s runs.0 runs.1 synced)
+
+pub open_run : {D F : Type 0} (d : Facts D F) (steps : List Step) (s t : StoreState D F) (known : Contents) → Runs d steps s t → d.honest t.disk → AreOpen d s known → AreOrderly known steps
+    → AreOpen d t (contents_by steps known)
+open_run d [] s t known runs honest shares orderly = subst (λ (w : StoreState _ _). AreOpen d w known) (sym runs) shares
+open_run d (step ∷ steps) s t known runs honest shares orderly =
+    open_run d steps runs.0 t (contents_after known step) runs.2 honest (open_after d step s runs.0 known runs.1 (honest_first d steps runs.0 t runs.2 honest) shares orderly.0) orderly.1
+
+pub runs_on : {D F : Type 0} (d : Facts D F) (xs ys : List Step) (s m t : StoreState D F) → Runs d xs s m → Runs d ys m t → Runs d (xs ++ ys) s t
+runs_on d [] ys s m t first then = subst (λ (w : StoreState _ _). Runs d ys w t) first then
+runs_on d (x ∷ xs) ys s m t first then = (first.0, first.1, runs_on d xs ys first.0 m t first.2 then)
+
+pub orderly_on : (known : Contents) (xs ys : List Step) → AreOrderly known xs → AreOrderly (contents_by xs known) ys → AreOrderly known (xs ++ ys)
+orderly_on known [] ys first then = then
+orderly_on known (x ∷ xs) ys first then = (first.0, orderly_on (contents_after known x) xs ys first.1 then)
+
+pub contents_on : (known : Contents) (xs ys : List Step) → contents_by (xs ++ ys) known ≡ contents_by ys (contents_by xs known)
+contents_on known [] ys = refl
+contents_on known (x ∷ xs) ys = contents_on (contents_after known x) xs ys

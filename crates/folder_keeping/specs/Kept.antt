@@ -78,8 +78,8 @@ pub record IsSafe {D F : Type 0} (d : Facts D F) (s : StoreState D F) (key : Sha
   pub has : Has d s key digest bytes
   pub durable : IsDurable (d.folder s.disk) (closed_name key digest) bytes
 
--- What a step tells of the share is so: a read that goes well gives its bytes from the offset on, and
--- a list under its storage index that goes well names it with its digest.
+-- What a step tells of the share is so: a read that goes well gives its bytes from the offset on,
+-- and a list under its storage index that goes well names it with its digest.
 abbrev pub IsTold : ShareKey → List ℕ → List ℕ → Step → Type 0
 IsTold key digest bytes (Read id offset count r) =
     key_of id ≡ key → IfOk r (λ (got : List ℕ). got ≡ take count (drop offset bytes))

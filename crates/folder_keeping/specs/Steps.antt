@@ -33,8 +33,8 @@ pub record IsLeft (s t : Folder) : Type 0 where
 abbrev pub Ends : Folder → Folder → Type 0
 Ends s t = Crashes s t ⊎ IsLeft s t
 
--- A store was opened over a disk, and found these names. Each that was durable is among them, and is
--- so still.
+-- A store was opened over a disk, and found these names. Each that was durable is among them, and
+-- is so still.
 pub record IsOpened {D F : Type 0} (d : Facts D F) (disk : D) (names : List Name)
     (t : StoreState D F) : Type 0 where
   pub opened : t.opened ≡ []
@@ -45,7 +45,8 @@ pub record IsOpened {D F : Type 0} (d : Facts D F) (disk : D) (names : List Name
       → IsDurable (d.folder disk) name bytes
       → Contains names name × IsDurable (d.folder t.disk) name bytes
 
--- The disk of the store before was honest to its end, and the one that is opened holds what is left.
+-- The disk of the store before was honest to its end, and the one that is opened holds what is
+-- left.
 pub record Reopens {D F : Type 0} (d : Facts D F) (s : StoreState D F) (names : List Name)
     (t : StoreState D F) : Type 0 where
   pub honest : d.honest s.disk

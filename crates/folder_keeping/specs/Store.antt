@@ -19,16 +19,16 @@ use Rattle.share_folders.specs.Stored.{FileCloses, HasShare, IsReady, StayHeld, 
 use Rattle.share_folders.specs.Stored.{WasWritten}
 use Rattle.share_folders.specs.Table.{StayBeside}
 
--- What contracts know of the disks of one kind: what the folder of each holds, whether it was honest
--- so far, and the number of each open file.
+-- What contracts know of the disks of one kind: what the folder of each holds, whether it was
+-- honest so far, and the number of each open file.
 pub record Facts (D F : Type 0) : Type 1 where
   pub folder : D → Folder
   pub honest : D → Type 0
   pub inode : F → ℕ
 
 -- A store: its disk, what the files of its open shares are named by, whether a share outlasts a
--- power failure once it is closed, its closed shares and its open ones, the file that was read last,
--- and the faults so far.
+-- power failure once it is closed, its closed shares and its open ones, the file that was read
+-- last, and the faults so far.
 pub record StoreState (D F : Type 0) : Type 0 where
   pub disk : D
   pub own : Option (List ℕ)

@@ -14,8 +14,8 @@ use std::alloc::Global;
 use std::marker::Model;
 use wire::message::{Digest, HeldList, ReadData, ReadLength, ShareId, StorageIndex};
 
-/// A store over a disk. Each call is the one of `DiskStore`, as it is in `FolderStore`, which is over
-/// the folder of the system.
+/// A store over a disk. Each call is the one of `DiskStore`, as it is in `FolderStore`, which is
+/// over the folder of the system.
 #[derive(Drop)]
 pub struct KeptFolder<D: Disk + Drop> {
     pub(crate) store: DiskStore<D>,

@@ -1,0 +1,5 @@
+pub mod DigestBytes
+pub mod Feeding
+pub mod Asking
+pub mod Answering
+pub mod Going

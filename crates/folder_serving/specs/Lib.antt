@@ -1,0 +1,3 @@
+-- What public contracts rest on.
+pub mod Serving
+pub mod Served

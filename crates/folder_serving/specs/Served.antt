@@ -1,0 +1,73 @@
+-- What servers over one folder do.
+use Rattle.std.specs.Prelude.{◌≡◌, ℕ, Bool, List, [], take, drop, true, Some, None, Ok, All}
+use Rattle.std.specs.Prelude.{Contains, ⊤}
+use Rattle.wire.specs.declared.message.Body.{Body}
+use Rattle.wire.specs.declared.message.Body.TheVariants.{Ask, Have, Allocate, Already, Write, Close}
+use Rattle.wire.specs.declared.message.Body.TheVariants.{Closed, Read, Data}
+use Rattle.wire.specs.declared.message.HeldShare.{HeldShare}
+use Rattle.wire.specs.declared.message.Message.{Message}
+use Rattle.wire.specs.declared.message.ShareId.{ShareId}
+use Rattle.tagged_hash.specs.TaggedHash.{share_digest}
+use Rattle.share_store.specs.Shelf.{ShareKey, at, is_under, key_of}
+use Rattle.share_folders.specs.declared.disk.Durability.TheVariants.{Synced}
+use Rattle.share_folders.specs.Listed.{IsAlone}
+use Rattle.folder_keeping.specs.Store.{Facts}
+use Rattle.folder_keeping.specs.Steps.{Step, Runs}
+use Rattle.folder_keeping.specs.Kept.{AreOrderly, IsSafe, nothing_known}
+use Rattle.folder_serving.specs.Serving.{Event, FolderServer, Happens, HappenAll}
+use Rattle.folder_serving.specs.Serving.{Asked, Started}
+
+-- All that servers do to their stores are orderly calls, from one on that has no bucket.
+abbrev pub ServersAreOrderly : {D F : Type 0} → Facts D F → Type 0
+ServersAreOrderly {D} {F} d =
+    (events : List Event) (s t : FolderServer D F) → HappenAll d events s t → s.buckets ≡ []
+    → (steps : List Step) × Runs d steps s.store t.store × AreOrderly nothing_known steps
+
+-- a list names this share with this digest
+abbrev pub Names : ShareKey → List ℕ → Body → Type 0
+Names key digest answer =
+    (readonly : Bool) × ((found : List HeldShare) × (answer ≡ Have readonly found)
+    × Contains found (record { share = key.1; digest = digest }))
+
+-- the answer to a request, of a server that has a share under this digest with these bytes
+abbrev pub IsAnswerOf : ShareKey → List ℕ → List ℕ → Body → Body → Type 0
+IsAnswerOf key digest bytes (Ask index) answer =
+    is_under index key ≡ true → Names key digest answer
+IsAnswerOf key digest bytes (Allocate id len) answer = key_of id ≡ key → answer ≡ Already digest
+IsAnswerOf key digest bytes (Write id offset more) answer =
+    key_of id ≡ key → answer ≡ Already digest
+IsAnswerOf key digest bytes (Close id) answer = key_of id ≡ key → answer ≡ Closed digest
+IsAnswerOf key digest bytes (Read id offset len) answer =
+    key_of id ≡ key → answer ≡ Data (take len (drop offset bytes))
+IsAnswerOf key digest bytes _ answer = ⊤
+
+abbrev pub IsAnswered : ShareKey → List ℕ → List ℕ → Event → Type 0
+IsAnswered key digest bytes (Asked from m now (Ok (Some r))) =
+    IsAnswerOf key digest bytes m.body r.body
+IsAnswered key digest bytes _ = ⊤
+
+-- Where a server is started, no other closed name of the share is found.
+abbrev pub IsStartedAlone : ShareKey → List ℕ → Event → Type 0
+IsStartedAlone key digest (Started names) = IsAlone names key digest
+IsStartedAlone key digest _ = ⊤
+
+-- The share is safe after these events, and each answer since was that of a server that has it.
+pub record StaysServed {D F : Type 0} (d : Facts D F) (events : List Event) (t : FolderServer D F)
+    (key : ShareKey) (digest bytes : List ℕ) : Type 0 where
+  pub safe : IsSafe d t.store key digest bytes
+  pub answered : All (IsAnswered key digest bytes) events
+
+-- A share that a server closes is there after each crash: one that was closed nowhere before it
+-- answered Closed to a Close has bytes with that digest, which are safe from then on, and each
+-- answer since then is that of a server that has them.
+abbrev pub ClosedAreServed : {D F : Type 0} → Facts D F → Type 0
+ClosedAreServed {D} {F} d =
+    (before after : List Event) (from now : ℕ) (m r : Message) (id : ShareId) (digest : List ℕ)
+    (s u v t : FolderServer D F)
+    → HappenAll d before s u → Happens d (Asked from m now (Ok (Some r))) u v
+    → HappenAll d after v t
+    → d.honest t.store.disk → s.store.durability ≡ Synced → s.buckets ≡ []
+    → m.body ≡ Close id → r.body ≡ Closed digest → at (key_of id) u.store.closed ≡ None
+    → All (IsStartedAlone (key_of id) digest) after
+    → (bytes : List ℕ) × (digest ≡ share_digest bytes)
+    × StaysServed d after t (key_of id) digest bytes

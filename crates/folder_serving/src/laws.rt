@@ -1,0 +1,31 @@
+//! What holds of every server whose store is over a disk. Each law is a contract; its call does
+//! nothing.
+
+ghost use Rattle.folder_serving.specs.Served.{ClosedAreServed, ServersAreOrderly};
+
+use disks::disk::Disk;
+use disks::laws::durable_outlasts;
+use tagged_hash::hashes_have_32_bytes;
+
+/// All that servers do to their stores are orderly calls.
+pub fn servers_are_orderly<D: Disk>()
+    ensures { ServersAreOrderly (record {
+      folder = D.folder;
+      honest = D.honest;
+      inode = D.inode;
+    }) }
+{
+    hashes_have_32_bytes();
+}
+
+/// A share that a server closes is there after each crash.
+pub fn closed_are_served<D: Disk>()
+    ensures { ClosedAreServed (record {
+      folder = D.folder;
+      honest = D.honest;
+      inode = D.inode;
+    }) }
+{
+    durable_outlasts();
+    hashes_have_32_bytes();
+}

@@ -1,0 +1,4 @@
+//! What servers over one folder keep, whatever happens to them.
+#![tactic(auto)]
+
+pub mod laws;
