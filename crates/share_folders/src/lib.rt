@@ -9,5 +9,4 @@ mod lengths;
 pub mod listing;
 pub mod names;
 mod opened;
-pub mod outlasting;
 pub mod table;

@@ -3,9 +3,11 @@
 
 use crate::crash_disk::CrashDisk;
 use disks::own::{begin, discard};
+use folder_keeping::opening::open;
+use folder_keeping::store::KeptFolder;
+use share_folders::disk::Durability;
 use share_folders::names::OpenName;
-use share_folders::outlasting::{PutShare, put_share, read_share};
-use share_store::error::StoreError;
+use share_store::store::Store;
 use std::alloc::Global;
 use std::cell::RefCell;
 use std::test::Fail;
@@ -22,17 +24,26 @@ fn id_of(number: u8) -> ShareId {
     }
 }
 
-// Puts a share, and tells whether it was acknowledged.
-fn is_put(alloc: Global, held: &RefCell<Held>, share: (u8, u8, &[u8]), own: u8) -> bool {
-    let (number, digest, bytes) = share;
+// A store over a disk, whose open shares' files have this byte in their names.
+fn opened(alloc: Global, held: &RefCell<Held>, own: u8) -> Option<KeptFolder<CrashDisk<'_>>> {
     let disk = CrashDisk { alloc, held };
-    let put = PutShare {
-        own: [own; 16],
-        id: id_of(number),
-        digest: [digest; 32],
-        bytes,
-    };
-    put_share(alloc, disk, &put).is_ok()
+    match open(alloc, disk, Some([own; 16]), Durability::Synced) {
+        Ok(opening) => Some(opening.store),
+        Err(_) => None,
+    }
+}
+
+// Puts a share by a store, and tells whether it was acknowledged.
+fn is_put(store: &mut KeptFolder<CrashDisk<'_>>, share: (u8, u8, &[u8])) -> bool {
+    let (number, digest, bytes) = share;
+    let id = id_of(number);
+    if store.closed(&id).is_some() || store.write(&id, 0, bytes).is_err() {
+        return false;
+    }
+    match store.closed(&id) {
+        None => store.close(&id, &[digest; 32]).is_ok(),
+        Some(_) => false,
+    }
 }
 
 // Begins the file of an open share and removes it.
@@ -50,22 +61,23 @@ fn begin_and_remove(alloc: Global, held: &RefCell<Held>) {
     }
 }
 
-// Whether a share is read whole, or is not there where it was not acknowledged.
+// Whether a share is read whole and listed, or is not there where it was not acknowledged.
 fn is_kept(
     alloc: Global,
-    held: &RefCell<Held>,
+    store: &mut KeptFolder<CrashDisk<'_>>,
     share: (u8, u8, &[u8]),
     acknowledged: bool,
 ) -> bool {
-    let (number, _, bytes) = share;
-    let Some(count) = ReadLength::new(9) else {
+    let (number, digest, bytes) = share;
+    let (Some(count), Ok(listed)) = (ReadLength::new(9), store.list(alloc, &[1; 16])) else {
         return false;
     };
-    let disk = CrashDisk { alloc, held };
-    match read_share(alloc, disk, &id_of(number), 0, count) {
-        Ok(read) => read.bytes.as_slice() == bytes,
-        Err(StoreError::StoreFault) => !acknowledged,
-        Err(StoreError::OutOfMemory) => false,
+    let is_listed = listed.as_slice().iter().any(|held| {
+        held.share == number && held.digest == [digest; 32]
+    });
+    match store.read(alloc, &id_of(number), 0, count) {
+        Ok(read) => is_listed && read.as_slice() == bytes,
+        Err(_) => !is_listed && !acknowledged,
     }
 }
 
@@ -77,8 +89,9 @@ fn kept_states(alloc: Global, held: &Held, acknowledged: [bool; 2]) -> Option<u6
             return Some(choice);
         }
         let left = RefCell::new(left);
-        if !is_kept(alloc, &left, SHARES[0], acknowledged[0])
-            || !is_kept(alloc, &left, SHARES[1], acknowledged[1])
+        let mut store = opened(alloc, &left, 9)?;
+        if !is_kept(alloc, &mut store, SHARES[0], acknowledged[0])
+            || !is_kept(alloc, &mut store, SHARES[1], acknowledged[1])
         {
             return None;
         }
@@ -87,15 +100,21 @@ fn kept_states(alloc: Global, held: &Held, acknowledged: [bool; 2]) -> Option<u6
 }
 
 // What becomes of the shares where so many calls go well: in how many states they are kept, and
-// whether all calls went well.
+// whether all calls went well. Three stores are opened before the first share is put.
 fn crash_after(alloc: Global, stop: u64) -> Option<(u64, bool)> {
-    let held = RefCell::new(Held::new(alloc, stop));
-    let first = is_put(alloc, &held, SHARES[0], 1);
-    let second = is_put(alloc, &held, SHARES[1], 2);
+    let held = RefCell::new(Held::new(alloc, u64::MAX));
+    let mut first = opened(alloc, &held, 1)?;
+    let mut second = opened(alloc, &held, 2)?;
+    let mut third = opened(alloc, &held, 3)?;
+    held.try_borrow_mut().ok()?.stop_after(stop);
+    let acknowledged = [
+        is_put(&mut first, SHARES[0]),
+        is_put(&mut second, SHARES[1]),
+    ];
     begin_and_remove(alloc, &held);
-    is_put(alloc, &held, SHARES[0], 3);
+    is_put(&mut third, SHARES[0]);
     let held = held.try_borrow().ok()?;
-    let states = kept_states(alloc, &held, [first, second])?;
+    let states = kept_states(alloc, &held, acknowledged)?;
     Some((states, held.is_done()))
 }
 
