@@ -14,7 +14,7 @@ use grid_rules::Scrubbed;
 use grid_servers::asked_servers;
 use grid_telling::{Counting, Failure, Progress, Verb, print};
 use grid_words::ScrubWords;
-use share_scrub::{Finding, Handling, Scrub};
+use share_scrub::{Finding, Handling, Scrub, read_ahead};
 use share_store::error::StoreError;
 use std::io::{self, IsTerminal, Write};
 use std::random::RandomSource;
@@ -24,6 +24,19 @@ use wire::message::NodeId;
 
 /// The exit status where a folder could not be read.
 const INCOMPLETE: u8 = 5;
+
+// So many folders are listed at once, so that shares of several are read side by side.
+const FOLDERS: usize = 8;
+
+// The servers that come next, and what is done about their files.
+#[derive(Drop)]
+struct Coming<'a, R: Files> {
+    handling: Handling,
+    // those whose folders are not listed yet
+    servers: &'a [NodeId],
+    // the folders of those before them, the next one first
+    folders: Vec<io::Result<Scrub<R>>>,
+}
 
 /// Tells of each share of a grid that is damaged, cannot be read or is no regular file, and of each
 /// file that was left open or set aside. Gives the exit status: that of too few shares where not
@@ -79,13 +92,44 @@ where
     ensures { IfOk result (λ are_read. AreLooked words.now.json servers.now are_read counted.new
         (O.contents out.old) (O.contents out.new)) }
 {
-    let handling = handling_of(rt, words);
+    let mut coming = Coming {
+        handling: handling_of(rt, words),
+        servers,
+        folders: Vec::new(rt.alloc()),
+    };
     let mut are_read = true;
     for server in servers {
-        let is_read = scrub_server(rt, words, *server, &handling, counted, out, progress)?;
+        let is_read = scrub_server(rt, words, *server, &mut coming, counted, out, progress)?;
         are_read = are_read && is_read;
     }
     Ok(are_read)
+}
+
+// Lists the folder whose turn it is, unless that was done, and those of the servers after it.
+fn next_folder<R, E>(
+    rt: &R,
+    grid: &str,
+    coming: &mut Coming<'_, R>,
+    progress: &mut Progress<'_, R, E>,
+) -> Result<io::Result<Scrub<R>>, Fault>
+where
+    R: Files + Clock + RandomSource + AllocGlobal + Clone + Drop,
+    E: Write + IsTerminal,
+{
+    for _ in coming.folders.len()..FOLDERS {
+        if let Some((server, servers)) = coming.servers.split_first() {
+            coming.servers = servers;
+            let folder = begin_scrub(rt, grid, *server);
+            if let Ok(files) = &folder {
+                progress.expect(files.total());
+            }
+            coming.folders.push(folder)?;
+        }
+    }
+    if coming.folders.is_empty() {
+        return Ok(Err(io::Error::from(io::ErrorKind::NotFound)));
+    }
+    Ok(coming.folders.remove(0))
 }
 
 // What is done about the files.
@@ -104,7 +148,7 @@ fn scrub_server<R, O, E>(
     rt: &R,
     words: &ScrubWords<'_>,
     server: NodeId,
-    handling: &Handling,
+    coming: &mut Coming<'_, R>,
     counted: &mut Scrubbed,
     out: &mut O,
     progress: &mut Progress<'_, R, E>,
@@ -121,10 +165,12 @@ where
         json: words.json,
         server,
     };
-    match begin_scrub(rt, words.grid, server) {
+    match next_folder(rt, words.grid, coming, progress)? {
         Ok(mut files) => {
-            progress.expect(files.total());
-            scrub_files(&mut files, handling, &telling, counted, out, progress)?;
+            let (others, handling) = (&mut coming.folders, &coming.handling);
+            scrub_files(
+                &mut files, others, handling, &telling, counted, out, progress,
+            )?;
             Ok(true)
         }
         Err(error) => {
@@ -147,6 +193,7 @@ where
 // Looks at the files that are listed, and tells of those that are not as they should be.
 fn scrub_files<R, O, E>(
     files: &mut Scrub<R>,
+    others: &mut [io::Result<Scrub<R>>],
     handling: &Handling,
     telling: &Telling,
     counted: &mut Scrubbed,
@@ -160,16 +207,18 @@ where
     ensures { OnOk result (AreTold telling.now.json telling.now.server counted.old counted.new
         (O.contents out.old) (O.contents out.new)) }
 {
-    while let Some(found) = next_file(files, handling, progress)? {
+    while let Some(found) = next_file(files, others, handling, progress)? {
         counted.count(&found.state);
         tell_file(telling, &found, out, progress)?;
     }
     Ok(())
 }
 
-// The next file, of which there is something to tell.
+// The next file, of which there is something to tell. Shares are read before their turn, also those
+// of the folders that come next, where enough can be hashed side by side.
 fn next_file<R, E>(
     files: &mut Scrub<R>,
+    others: &mut [io::Result<Scrub<R>>],
     handling: &Handling,
     progress: &mut Progress<'_, R, E>,
 ) -> Result<Option<Finding>, Fault>
@@ -180,6 +229,7 @@ where
         (λ found. IfSome found (λ _. length files.new.left < length files.old.left)) }
     ensures seen { IfOk result (λ found. IfSome found WasSeen) }
 {
+    read_ahead(files, others, progress);
     match files.next(handling, progress) {
         Ok(found) => Ok(found),
         Err(StoreError::OutOfMemory | StoreError::StoreFault) => Err(Fault::OutOfMemory),
