@@ -1,12 +1,12 @@
 -- One step after another.
 use Rattle.std.proofs.Common.{◌≡◌, ℕ, List, [], ◌∷◌, ◌++◌, refl, sym, ap, ◌∙◌, subst}
-use Rattle.std.specs.Prelude.{Some, Ok, Err, All, unwrap_or}
+use Rattle.std.specs.Prelude.{Some, Ok, Err, All, unwrap_or, IsSome, Result}
 use Rattle.std.proofs.lemmas.List.Elements.{All-cons, All-head, All-nil, All-tail}
 use Rattle.disks.specs.Laws.{DurableOutlasts}
 use Rattle.wire.specs.declared.message.ShareId.{ShareId}
+use Rattle.share_store.specs.declared.error.StoreError.{StoreError}
 use Rattle.share_store.specs.Shelf.{ShareKey, key_of}
-use Rattle.share_folders.specs.declared.disk.Durability.TheVariants.{Synced}
-use Rattle.folder_keeping.specs.Store.{Facts, StoreState, Has}
+use Rattle.folder_keeping.specs.Store.{Facts, StoreState, Has, IsSyncing, Goes}
 use Rattle.folder_keeping.specs.Steps.{Step, Does, Runs}
 use Rattle.folder_keeping.specs.Steps.{Wrote, Closed, Read, Listed, Restarted, Opened}
 use Rattle.folder_keeping.specs.Kept.{AreOpen, AreOrderly, ConfirmedStay, Contents, IsFoundAlone, IsOrderly, IsSafe, IsTold, SafeStay, StaysSafe}
@@ -25,13 +25,16 @@ honest_before d (Listed index r) s t does honest = does.goes.so_far honest
 honest_before d Restarted s t does honest = subst d.honest (ap (λ (w : StoreState _ _). w.disk) does) honest
 honest_before d (Opened names) s t does honest = does.honest
 
-synced_after : {D F : Type 0} (d : Facts D F) (step : Step) (s t : StoreState D F) → Does d step s t → s.durability ≡ Synced → t.durability ≡ Synced
-synced_after d (Wrote id offset bytes r) s t does synced = does.goes.durability ∙ synced
-synced_after d (Closed id digest r) s t does synced = does.1.goes.durability ∙ synced
-synced_after d (Read id offset count r) s t does synced = does.goes.durability ∙ synced
-synced_after d (Listed index r) s t does synced = does.goes.durability ∙ synced
-synced_after d Restarted s t does synced = ap (λ (w : StoreState _ _). w.durability) does ∙ synced
-synced_after d (Opened names) s t does synced = does.synced
+going : {D F A : Type 0} (d : Facts D F) (s : StoreState D F) (r : Result A StoreError) (t : StoreState D F) → Goes d s r t → IsSyncing s → IsSyncing t
+going d s r t goes synced taking = goes.durability ∙ synced (subst IsSome goes.own taking)
+
+synced_after : {D F : Type 0} (d : Facts D F) (step : Step) (s t : StoreState D F) → Does d step s t → IsSyncing s → IsSyncing t
+synced_after d (Wrote id offset bytes r) s t does synced = going d s r t does.goes synced
+synced_after d (Closed id digest r) s t does synced = going d s r t does.1.goes synced
+synced_after d (Read id offset count r) s t does synced = going d s r t does.goes synced
+synced_after d (Listed index r) s t does synced = going d s r t does.goes synced
+synced_after {D} {F} d Restarted s t does synced = subst (λ (w : StoreState D F). IsSyncing w) (sym does) synced
+synced_after d (Opened names) s t does synced = does.syncing
 
 open_after : {D F : Type 0} (d : Facts D F) (step : Step) (s t : StoreState D F) (known : Contents) → Does d step s t → d.honest t.disk → AreOpen d s known → IsOrderly known step
     → AreOpen d t (contents_after known step)
@@ -86,7 +89,7 @@ safe_stay outlasts d (step ∷ steps) s t known runs honest synced shares orderl
 
 -- a share is closed after some steps
 closed_after : {D F : Type 0} → DurableOutlasts → (d : Facts D F) (before after : List Step) (id : ShareId) (digest bytes : List ℕ) (s t : StoreState D F) (known : Contents) → Runs d (before ++ Closed id digest (Ok tt) ∷ after) s t
-    → d.honest t.disk → s.durability ≡ Synced → AreOpen d s known → AreOrderly known (before ++ Closed id digest (Ok tt) ∷ after) → contents_by before known (key_of id) ≡ Some bytes
+    → d.honest t.disk → IsSyncing s → AreOpen d s known → AreOrderly known (before ++ Closed id digest (Ok tt) ∷ after) → contents_by before known (key_of id) ≡ Some bytes
     → All (IsFoundAlone (key_of id) digest) after → StaysSafe d after t (key_of id) digest bytes
 closed_after outlasts d [] after id digest bytes s t known runs honest synced shares orderly is alone =
     let m = runs.0 in
@@ -105,8 +108,8 @@ confirmed_stay outlasts d before after id digest bytes s t runs honest synced or
 
 -- ---- what a run leaves
 
-pub synced_run : {D F : Type 0} (d : Facts D F) (steps : List Step) (s t : StoreState D F) → Runs d steps s t → s.durability ≡ Synced → t.durability ≡ Synced
-synced_run d [] s t runs synced = ap (λ (w : StoreState _ _). w.durability) runs ∙ synced
+pub synced_run : {D F : Type 0} (d : Facts D F) (steps : List Step) (s t : StoreState D F) → Runs d steps s t → IsSyncing s → IsSyncing t
+synced_run d [] s t runs synced = subst (λ (w : StoreState _ _). IsSyncing w) (sym runs) synced
 synced_run d (step ∷ steps) s t runs synced = synced_run d steps runs.0 t runs.2 (synced_after d step s runs.0 runs.1 synced)
 
 pub open_run : {D F : Type 0} (d : Facts D F) (steps : List Step) (s t : StoreState D F) (known : Contents) → Runs d steps s t → d.honest t.disk → AreOpen d s known → AreOrderly known steps

@@ -10,7 +10,6 @@ use Rattle.disks.specs.Laws.{DurableOutlasts, FilesStay, StaysHeld}
 use Rattle.share_store.specs.declared.error.StoreError.{StoreError}
 use Rattle.share_store.specs.Shelf.{ShareKey, at, key_of, order, same_key}
 use Rattle.share_store.proofs.ShelfLaws.{at_with, same_is}
-use Rattle.share_folders.specs.declared.disk.Durability.TheVariants.{Synced}
 use Rattle.share_folders.specs.declared.files.OpenShare.{OpenShare}
 use Rattle.share_folders.specs.declared.files.RecentFile.{RecentFile}
 use Rattle.share_folders.specs.declared.table.KeptShare.{KeptShare}
@@ -22,7 +21,7 @@ use Rattle.share_folders.proofs.FolderLaws.{length_is}
 use Rattle.share_folders.proofs.Holding.{kept_same, recent_later}
 use Rattle.share_folders.proofs.Lasting.{closed_lasts}
 use Rattle.share_folders.proofs.Taking.{same_share_key}
-use Rattle.folder_keeping.specs.Store.{Facts, StoreState, HasWritten, DiskCloses, DiskStays}
+use Rattle.folder_keeping.specs.Store.{Facts, StoreState, HasWritten, DiskCloses, DiskStays, IsSyncing}
 use Rattle.folder_keeping.specs.Steps.{Ends, Reopens}
 use Rattle.folder_keeping.specs.Kept.{IsSafe}
 use Rattle.folder_keeping.proofs.Keys.{apart_back, apart_keys, none_some, same_itself}
@@ -114,7 +113,7 @@ length_written {D} {F} d s key bytes was = length_is s.opened key ∙ by (at key
     by (Some share) is = is.0
 
 pub safe_closed : {D F : Type 0} (d : Facts D F) (s t : StoreState D F) (id : ShareId) (digest bytes : List ℕ) (u : Unit)
-    → DiskCloses d s id digest (Ok u) t → d.honest t.disk → s.durability ≡ Synced → IsNamed (key_of id) digest → HasWritten d (key_of id) s bytes → IsSafe d t (key_of id) digest bytes
+    → DiskCloses d s id digest (Ok u) t → d.honest t.disk → IsSyncing s → IsNamed (key_of id) digest → HasWritten d (key_of id) s bytes → IsSafe d t (key_of id) digest bytes
 safe_closed {D} {F} d s t id digest bytes u closes honest synced named was =
     let key = key_of id in
     let share : KeptShare = record { length = Some (length_at key (lengths_of s.opened)); digest = digest } in
@@ -133,7 +132,7 @@ safe_closed {D} {F} d s t id digest bytes u closes honest synced named was =
         };
         last = subst (λ (r : Option (RecentFile F)). RecentHas d.inode (d.folder t.disk) key r bytes) (sym closes.recent) tt;
       };
-      durable = file.durable synced;
+      durable = file.durable (synced closes.takes);
     }
 
 -- ---- the end of a program

@@ -6,11 +6,10 @@ use Rattle.wire.specs.declared.message.ShareId.{ShareId}
 use Rattle.wire.specs.declared.message.HeldShare.{HeldShare}
 use Rattle.disks.specs.Folder.{IsDurable}
 use Rattle.share_store.specs.Shelf.{ShareKey, at, is_under, key_of, same_key}
-use Rattle.share_folders.specs.declared.disk.Durability.TheVariants.{Synced}
 use Rattle.share_folders.specs.Listed.{IsAlone}
 use Rattle.share_folders.specs.Names.{IsNamed, IsShareKey, closed_name}
 use Rattle.share_folders.specs.Stored.{AreTwo}
-use Rattle.folder_keeping.specs.Store.{Facts, StoreState, Has, HasWritten}
+use Rattle.folder_keeping.specs.Store.{Facts, StoreState, Has, HasWritten, IsSyncing}
 use Rattle.folder_keeping.specs.Steps.{Step, Runs}
 use Rattle.folder_keeping.specs.Steps.{Wrote, Closed, Read, Listed, Restarted, Opened}
 
@@ -101,11 +100,12 @@ pub record StaysSafe {D F : Type 0} (d : Facts D F) (steps : List Step) (t : Sto
 
 -- ---- the laws
 
--- What is safe stays so through each run of a synced store over a disk that is honest to its end.
+-- What is safe stays so through each run over a disk that is honest to its end, of stores that are
+-- synced where they take shares.
 abbrev pub SafeStay : {D F : Type 0} → Facts D F → Type 0
 SafeStay {D} {F} d =
     (steps : List Step) (s t : StoreState D F) (known : Contents) → Runs d steps s t
-    → d.honest t.disk → s.durability ≡ Synced → AreOpen d s known → AreOrderly known steps
+    → d.honest t.disk → IsSyncing s → AreOpen d s known → AreOrderly known steps
     → (key : ShareKey) (digest bytes : List ℕ) → IsSafe d s key digest bytes
     → All (IsFoundAlone key digest) steps → StaysSafe d steps t key digest bytes
 
@@ -115,7 +115,7 @@ abbrev pub ConfirmedStay : {D F : Type 0} → Facts D F → Type 0
 ConfirmedStay {D} {F} d =
     (before after : List Step) (id : ShareId) (digest bytes : List ℕ) (s t : StoreState D F)
     → Runs d (before ++ Closed id digest (Ok tt) ∷ after) s t
-    → d.honest t.disk → s.durability ≡ Synced
+    → d.honest t.disk → IsSyncing s
     → AreOrderly nothing_known (before ++ Closed id digest (Ok tt) ∷ after)
     → contents_by before nothing_known (key_of id) ≡ Some bytes
     → All (IsFoundAlone (key_of id) digest) after

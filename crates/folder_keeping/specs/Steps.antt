@@ -7,9 +7,8 @@ use Rattle.disks.specs.Folder.{Folder, Crashes, IsDurable}
 use Rattle.disks.specs.Steps.{SameFiles}
 use Rattle.share_store.specs.declared.error.StoreError.{StoreError}
 use Rattle.share_store.specs.Shelf.{at, key_of}
-use Rattle.share_folders.specs.declared.disk.Durability.TheVariants.{Synced}
 use Rattle.share_folders.specs.Listed.{AreTaken}
-use Rattle.folder_keeping.specs.Store.{Facts, StoreState, DiskWrites, DiskCloses, DiskReads}
+use Rattle.folder_keeping.specs.Store.{Facts, StoreState, DiskWrites, DiskCloses, DiskReads, IsSyncing}
 use Rattle.folder_keeping.specs.Store.{DiskLists, DiskRestarts}
 
 -- A call with what it answered, or the end of a store's program, after which a store is opened that
@@ -53,7 +52,7 @@ pub record Reopens {D F : Type 0} (d : Facts D F) (s : StoreState D F) (names : 
   pub disk : D
   pub ends : Ends (d.folder s.disk) (d.folder disk)
   pub is_opened : IsOpened d disk names t
-  pub synced : t.durability ≡ Synced
+  pub syncing : IsSyncing t
 
 -- What a step does. A share is closed only where none is closed at its key.
 abbrev pub Does : {D F : Type 0} → Facts D F → Step → StoreState D F → StoreState D F → Type 0

@@ -1,5 +1,5 @@
 -- What the calls of a store over a disk do, as far as its disk is honest.
-use Rattle.std.specs.Prelude.{◌≡◌, ◌==◌, ◌++◌, ℕ, List, [], take, drop, true, Option, Some, None}
+use Rattle.std.specs.Prelude.{◌≡◌, ◌==◌, ◌++◌, ℕ, List, [], take, drop, true, Option, Some, None, IsSome}
 use Rattle.std.specs.Prelude.{Result, IfOk, OnErr, OnOk, Contains, if◌then◌else◌, option_map}
 use Rattle.std.specs.BTreeMap.{insert_entry}
 use Rattle.wire.specs.declared.message.ShareId.{ShareId}
@@ -10,6 +10,7 @@ use Rattle.share_store.specs.declared.error.StoreError.{StoreError}
 use Rattle.share_store.specs.Calls.{Calls}
 use Rattle.share_store.specs.Shelf.{ShareKey, at, is_under, key_of, order, same_key}
 use Rattle.share_folders.specs.declared.disk.Durability.{Durability}
+use Rattle.share_folders.specs.declared.disk.Durability.TheVariants.{Synced}
 use Rattle.share_folders.specs.declared.files.OpenShare.{OpenShare}
 use Rattle.share_folders.specs.declared.files.RecentFile.{RecentFile}
 use Rattle.share_folders.specs.declared.table.KeptShare.{KeptShare}
@@ -37,6 +38,10 @@ pub record StoreState (D F : Type 0) : Type 0 where
   pub opened : List (ShareKey × OpenShare F)
   pub recent : Option (RecentFile F)
   pub failures : ℕ
+
+-- A store that takes shares is synced. One that is opened for reading takes none.
+abbrev pub IsSyncing : {D F : Type 0} → StoreState D F → Type 0
+IsSyncing s = IsSome s.own → s.durability ≡ Synced
 
 -- What every call leaves. A fault is counted.
 pub record Goes {D F A : Type 0} (d : Facts D F) (s : StoreState D F) (r : Result A StoreError)
@@ -84,6 +89,7 @@ pub record DiskCloses {D F : Type 0} (d : Facts D F) (s : StoreState D F) (id : 
     length = Some (length_at (key_of id) (lengths_of s.opened));
     digest = digest;
   }))
+  pub takes : OnOk r (IsSome s.own)
   pub err_closed : OnErr r (t.closed ≡ s.closed)
   pub recent : OnOk r (t.recent ≡ None)
   pub err_recent : OnErr r (t.recent ≡ s.recent)

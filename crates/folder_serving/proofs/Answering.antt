@@ -8,7 +8,6 @@ use Rattle.wire.specs.declared.message.Message.{Message}
 use Rattle.wire.specs.declared.message.ShareId.{ShareId}
 use Rattle.tagged_hash.specs.TaggedHash.{HashesHave32Bytes, share_digest}
 use Rattle.share_store.specs.Shelf.{ShareKey, at, key_of}
-use Rattle.share_folders.specs.declared.disk.Durability.TheVariants.{Synced}
 use Rattle.share_folders.specs.declared.table.KeptShare.{KeptShare}
 use Rattle.share_folders.specs.Names.{IsShareKey}
 use Rattle.cap_text.specs.Base32.{IsBytes}
@@ -19,7 +18,7 @@ use Rattle.server_core.specs.Buckets.{bucket_at, is_owned}
 use Rattle.server_core.specs.ServerState as server
 use Rattle.server_core.specs.ServerState.{Line, Outcome, allocate_line, write_line, close_line, close_gathered, read_line, line_of}
 use Rattle.server_core.specs.ServerState.{Silent, Says, Touches, Opens, Ends, ListsHoldings, WritesBytes, ClosesShare, ReadsShare}
-use Rattle.folder_keeping.specs.Store.{Facts, Has, disk_calls}
+use Rattle.folder_keeping.specs.Store.{Facts, Has, disk_calls, IsSyncing}
 use Rattle.folder_keeping.specs.Kept.{AreOpen, Contents, IsSafe}
 use Rattle.folder_keeping.proofs.Keys.{some_one}
 use Rattle.folder_keeping.proofs.SafeShares.{safe_closed}
@@ -100,7 +99,7 @@ abbrev is_closed : Body → Bool
 is_closed (Closed digest) = true
 is_closed _ = false
 
-module _ {D F : Type 0} (long : HashesHave32Bytes) (d : Facts D F) (s t : FolderServer D F) (time : ℕ) (m r : Message) (honest : d.honest t.store.disk) (synced : s.store.durability ≡ Synced) (known : Contents)
+module _ {D F : Type 0} (long : HashesHave32Bytes) (d : Facts D F) (s t : FolderServer D F) (time : ℕ) (m r : Message) (honest : d.honest t.store.disk) (synced : IsSyncing s.store) (known : Contents)
     (shares : AreOpen d s.store known) (fed : AreFed s.buckets known) (digest : List ℕ) (answer : r.body ≡ Closed digest) where
   abbrev Gives' : Line → Type 0
   Gives' line = server.Does (disk_calls d) line time s m (Ok (Some r)) t

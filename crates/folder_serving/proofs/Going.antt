@@ -7,11 +7,10 @@ use Rattle.disks.specs.Laws.{DurableOutlasts}
 use Rattle.disks.specs.Names.{Name}
 use Rattle.tagged_hash.specs.TaggedHash.{HashesHave32Bytes}
 use Rattle.share_store.specs.Shelf.{ShareKey, key_of}
-use Rattle.share_folders.specs.declared.disk.Durability.TheVariants.{Synced}
 use Rattle.server_core.specs.declared.error.ServerFault.TheVariants.{OutOfMemory}
 use Rattle.server_core.specs.ServerState as server
 use Rattle.server_core.specs.ServerState.{is_fresh_at, line_of}
-use Rattle.folder_keeping.specs.Store.{Facts, disk_calls}
+use Rattle.folder_keeping.specs.Store.{Facts, disk_calls, IsSyncing}
 use Rattle.folder_keeping.specs.Steps as keeping
 use Rattle.folder_keeping.specs.Steps.{Reopens, Runs, Step}
 use Rattle.folder_keeping.specs.Kept.{AreOpen, Contents, IsFoundAlone, IsSafe, contents_by, nothing_known}
@@ -90,7 +89,7 @@ servers_are_orderly long d events s t happen none =
 
 -- a share that is safe is so after each event
 served : {D F : Type 0} (outlasts : DurableOutlasts) (long : HashesHave32Bytes) (d : Facts D F) (events : List Event) (s t : FolderServer D F) (known : Contents) (key : ShareKey) (digest bytes : List ℕ)
-    → HappenAll d events s t → d.honest t.store.disk → s.store.durability ≡ Synced → AreOpen d s.store known → AreFed s.buckets known → IsSafe d s.store key digest bytes
+    → HappenAll d events s t → d.honest t.store.disk → IsSyncing s.store → AreOpen d s.store known → AreFed s.buckets known → IsSafe d s.store key digest bytes
     → All (IsStartedAlone key digest) events → StaysServed d events t key digest bytes
 served {D} {F} outlasts long d [] s t known key digest bytes happen honest synced shares fed safe alone =
     record { safe = subst (λ (w : FolderServer D F). IsSafe d w.store key digest bytes) (sym happen) safe; answered = All-nil (IsAnswered key digest bytes) }

@@ -9,9 +9,8 @@ use Rattle.wire.specs.declared.message.Message.{Message}
 use Rattle.wire.specs.declared.message.ShareId.{ShareId}
 use Rattle.tagged_hash.specs.TaggedHash.{share_digest}
 use Rattle.share_store.specs.Shelf.{ShareKey, at, is_under, key_of}
-use Rattle.share_folders.specs.declared.disk.Durability.TheVariants.{Synced}
 use Rattle.share_folders.specs.Listed.{IsAlone}
-use Rattle.folder_keeping.specs.Store.{Facts}
+use Rattle.folder_keeping.specs.Store.{Facts, IsSyncing}
 use Rattle.folder_keeping.specs.Steps.{Step, Runs}
 use Rattle.folder_keeping.specs.Kept.{AreOrderly, IsSafe, nothing_known}
 use Rattle.folder_serving.specs.Serving.{Event, FolderServer, Happens, HappenAll}
@@ -66,7 +65,7 @@ ClosedAreServed {D} {F} d =
     (s u v t : FolderServer D F)
     → HappenAll d before s u → Happens d (Asked from m now (Ok (Some r))) u v
     → HappenAll d after v t
-    → d.honest t.store.disk → s.store.durability ≡ Synced → s.buckets ≡ []
+    → d.honest t.store.disk → IsSyncing s.store → s.buckets ≡ []
     → m.body ≡ Close id → r.body ≡ Closed digest → at (key_of id) u.store.closed ≡ None
     → All (IsStartedAlone (key_of id) digest) after
     → (bytes : List ℕ) × (digest ≡ share_digest bytes)

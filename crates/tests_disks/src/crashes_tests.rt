@@ -24,10 +24,18 @@ fn id_of(number: u8) -> ShareId {
     }
 }
 
-// A store over a disk, whose open shares' files have this byte in their names.
-fn opened(alloc: Global, held: &RefCell<Held>, own: u8) -> Option<KeptFolder<CrashDisk<'_>>> {
+// A store over a disk. One that takes shares has this byte in the names of the open ones' files.
+fn opened(
+    alloc: Global,
+    held: &RefCell<Held>,
+    own: Option<u8>,
+) -> Option<KeptFolder<CrashDisk<'_>>> {
     let disk = CrashDisk { alloc, held };
-    match open(alloc, disk, Some([own; 16]), Durability::Synced) {
+    let opening = match own {
+        Some(byte) => open(alloc, disk, Some([byte; 16]), Durability::Synced),
+        None => open(alloc, disk, None, Durability::Unsynced),
+    };
+    match opening {
         Ok(opening) => Some(opening.store),
         Err(_) => None,
     }
@@ -89,7 +97,7 @@ fn kept_states(alloc: Global, held: &Held, acknowledged: [bool; 2]) -> Option<u6
             return Some(choice);
         }
         let left = RefCell::new(left);
-        let mut store = opened(alloc, &left, 9)?;
+        let mut store = opened(alloc, &left, None)?;
         if !is_kept(alloc, &mut store, SHARES[0], acknowledged[0])
             || !is_kept(alloc, &mut store, SHARES[1], acknowledged[1])
         {
@@ -103,9 +111,9 @@ fn kept_states(alloc: Global, held: &Held, acknowledged: [bool; 2]) -> Option<u6
 // whether all calls went well. Three stores are opened before the first share is put.
 fn crash_after(alloc: Global, stop: u64) -> Option<(u64, bool)> {
     let held = RefCell::new(Held::new(alloc, u64::MAX));
-    let mut first = opened(alloc, &held, 1)?;
-    let mut second = opened(alloc, &held, 2)?;
-    let mut third = opened(alloc, &held, 3)?;
+    let mut first = opened(alloc, &held, Some(1))?;
+    let mut second = opened(alloc, &held, Some(2))?;
+    let mut third = opened(alloc, &held, Some(3))?;
     held.try_borrow_mut().ok()?.stop_after(stop);
     let acknowledged = [
         is_put(&mut first, SHARES[0]),

@@ -23,9 +23,14 @@ const ID: ShareId = ShareId {
     share: 3,
 };
 
-// A store over a disk, and how many names it found there.
-fn opened(alloc: Global, disk: MemoryDisk) -> Option<(KeptFolder<MemoryDisk>, usize)> {
-    match open(alloc, disk, Some([9; 16]), Durability::Synced) {
+// A store over an empty folder, and how many names it found there.
+fn opened(alloc: Global) -> Option<(KeptFolder<MemoryDisk>, usize)> {
+    match open(
+        alloc,
+        MemoryDisk::new(alloc),
+        Some([9; 16]),
+        Durability::Synced,
+    ) {
         Ok(opening) => Some((opening.store, opening.names.len())),
         Err(_) => None,
     }
@@ -33,7 +38,7 @@ fn opened(alloc: Global, disk: MemoryDisk) -> Option<(KeptFolder<MemoryDisk>, us
 
 // A store that has closed a share.
 fn written(alloc: Global) -> Option<KeptFolder<MemoryDisk>> {
-    let (mut store, names) = opened(alloc, MemoryDisk::new(alloc))?;
+    let (mut store, names) = opened(alloc)?;
     if names != 0 || store.closed(&ID).is_some() {
         return None;
     }
@@ -74,7 +79,7 @@ fn stores_keep(rt: HostRuntime) -> Result<(), Fail> {
 
 #[test]
 fn faults_are_counted(rt: HostRuntime) -> Result<(), Fail> {
-    let Some((mut store, _)) = opened(rt.alloc(), MemoryDisk::new(rt.alloc())) else {
+    let Some((mut store, _)) = opened(rt.alloc()) else {
         assert!(rt; false);
         return Ok(());
     };
@@ -103,7 +108,7 @@ fn said(server: &mut Server<KeptFolder<MemoryDisk>>, body: Body) -> Option<Body>
 
 // Whether a server takes a share, and gives its bytes.
 fn is_served(alloc: Global) -> Option<bool> {
-    let (store, _) = opened(alloc, MemoryDisk::new(alloc))?;
+    let (store, _) = opened(alloc)?;
     let mut server = Server::start(alloc, store, CAPACITY, false);
     let bytes = WriteData::from_vec(Vec::from_slice(alloc, b"0123456789").ok()?)?;
     let granted = said(&mut server, Body::Allocate(ID, ShareLength::new(10)?))?;

@@ -23,6 +23,7 @@ returns-clause-gives g c =
     (record {
       goes = record { own = e.own; durability = e.durability; failures = refl; so_far = e.so_far };
       closed = e.closed;
+      takes = e.takes;
       err_closed = e.err_closed;
       recent = e.recent;
       err_recent = e.err_recent;
