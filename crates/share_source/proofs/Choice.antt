@@ -1,0 +1,98 @@
+-- Which shares are taken.
+use Rattle.std.proofs.Common.{◌≡◌, ◌≢◌, ℕ, suc, ◌+◌, ◌-◌, ◌<◌, All, Bool, true, false, cond, not, Contains, List, ◌++◌, Some, length, take, drop, get_or, set, inl, inr, ap, sym, subst, ◌∙◌, arith}
+use Rattle.std.specs.Prelude.{remove, slice_get}
+use Rattle.std.proofs.lemmas.Bool.{cases_eq, cases_lt}
+use Rattle.std.proofs.lemmas.List.{get_or-drop, get_or-map, get_or-set_other, get_or-set_same, get_or-take, length-drop, length-map, length-set, length-take-le, map-append}
+use Rattle.std.proofs.lemmas.List.Elements.{All-map, Contains-append_cases, Contains-append_left, Contains-append_right}
+use Rattle.std.proofs.lemmas.List.Sums.{sum_by-set}
+use Rattle.std.proofs.lemmas.Option.{get_or_from_slice_get, slice_get_within}
+use Rattle.zfec_code.specs.Rows.{AreDistinct}
+use Rattle.share_source.specs.Candidates.{Candidate, number_at, numbers_at}
+use Rattle.share_source.specs.Reading.{left_count}
+
+-- the number of a share that stands at one of these positions
+pub number_among : (shares : List Candidate) (positions : List ℕ) (i : ℕ) → i < length positions → Contains (numbers_at shares positions) (number_at shares (get_or positions i 0))
+number_among shares positions i low =
+    (i, omega (arith, low, length-map positions (number_at shares)), get_or-map (number_at shares) positions i 0 (number_at shares (get_or positions i 0)) low)
+
+-- one share more is struck out
+pub left_fewer : (struck : List Bool) (p : ℕ) → slice_get struck p ≡ Some false → left_count (set struck p true) < left_count struck
+left_fewer struck p e =
+    let left : Bool → ℕ = λ b. cond (not b) 1 0 in
+    let sums = sum_by-set left struck p true true (slice_get_within struck p false e) in
+    let was : left (get_or struck p true) ≡ left false = ap left (get_or_from_slice_get struck p false true e) in
+    omega (arith, sums, was)
+
+-- the numbers of shares of the file
+pub number_low : (shares : List Candidate) (total p : ℕ) → All (λ (c : Candidate). c.number < total) shares → p < length shares → number_at shares p < total
+number_low shares total p range low =
+    All-map (λ n. n < total) (λ (c : Candidate). c.number) shares range p 0 (omega (arith, low, length-map shares (λ (c : Candidate). c.number)))
+
+-- a number that none of these shares has is none of theirs
+pub none_is : (shares : List Candidate) (positions : List ℕ) (number : ℕ) → ¬ Contains (numbers_at shares positions) number → (j : ℕ) → j < length positions
+    → get_or (numbers_at shares positions) j 0 ≢ number
+none_is shares positions number none j low = λ is.
+    none (subst (Contains (numbers_at shares positions)) (sym (get_or-map (number_at shares) positions j 0 0 low) ∙ is) (number_among shares positions j low))
+
+-- a number that none of the others has is none of theirs
+pub unlike_others : (shares : List Candidate) (positions : List ℕ) (index number : ℕ) → index < length positions → ¬ Contains (numbers_at shares (remove positions index)) number
+    → (j : ℕ) → j < length positions → j ≢ index → get_or (numbers_at shares positions) j 0 ≢ number
+unlike_others shares positions index number within none j low apart = λ is.
+    let front : List ℕ = take index positions in
+    let back : List ℕ = drop (suc index) positions in
+    let own : number_at shares (get_or positions j 0) ≡ number = sym (get_or-map (number_at shares) positions j 0 0 low) ∙ is in
+    let joined : numbers_at shares (front ++ back) ≡ numbers_at shares front ++ numbers_at shares back = map-append (number_at shares) front back in
+    none (subst (λ (l : List ℕ). Contains l number) (sym joined) (elim (cases_lt j index) [
+      | inl before ↦ Contains-append_left (numbers_at shares front) (numbers_at shares back) number
+          (subst (Contains (numbers_at shares front)) (ap (number_at shares) (get_or-take index positions j 0 before) ∙ own)
+          (number_among shares front j (omega (arith, before, within, length-take-le index positions (omega (arith, within))))))
+      | inr after ↦ (let k : ℕ = j - (index + 1) in
+          let at : suc index + k ≡ j = omega (arith, after, apart) in
+          Contains-append_right (numbers_at shares front) (numbers_at shares back) number
+          (subst (Contains (numbers_at shares back)) (ap (number_at shares) (get_or-drop (suc index) positions k 0 ∙ ap (λ n. get_or positions n 0) at) ∙ own)
+          (number_among shares back k (omega (arith, at, low, length-drop (suc index) positions)))))
+    ]))
+
+-- different numbers stay so where one of them becomes one that none of the others is
+pub distinct_set : (numbers : List ℕ) (index number : ℕ) → index < length numbers → AreDistinct numbers → ((j : ℕ) → j < length numbers → j ≢ index → get_or numbers j 0 ≢ number)
+    → AreDistinct (set numbers index number)
+distinct_set numbers index number within distinct unlike i j low_i low_j same =
+    let long = length-set numbers index number in
+    let now : List ℕ = set numbers index number in
+    let own : get_or now index 0 ≡ number = get_or-set_same numbers index number 0 within in
+    elim (cases_eq i index) [
+      | inl e ↦ elim (cases_eq j index) [
+        | inl f ↦ e ∙ sym f
+        | inr apart ↦ absurd (unlike j (omega (arith, low_j, long)) apart
+            (sym (get_or-set_other numbers index j number 0 apart) ∙ sym same ∙ ap (λ n. get_or now n 0) e ∙ own))
+      ]
+      | inr apart ↦ elim (cases_eq j index) [
+        | inl f ↦ absurd (unlike i (omega (arith, low_i, long)) apart
+            (sym (get_or-set_other numbers index i number 0 apart) ∙ same ∙ ap (λ n. get_or now n 0) f ∙ own))
+        | inr other ↦ distinct i j (omega (arith, low_i, long)) (omega (arith, low_j, long))
+            (sym (get_or-set_other numbers index i number 0 apart) ∙ same ∙ get_or-set_other numbers index j number 0 other)
+      ]
+    ]
+
+-- a number that shares have or have not, and others
+module _ (shares : List Candidate) (front back : List ℕ) (number : ℕ) where
+  both_parts : numbers_at shares (front ++ back) ≡ numbers_at shares front ++ numbers_at shares back
+  both_parts = map-append (number_at shares) front back
+
+  pub among_front : Contains (numbers_at shares front) number → Contains (numbers_at shares (front ++ back)) number
+  among_front has = subst (λ (l : List ℕ). Contains l number) (sym both_parts) (Contains-append_left (numbers_at shares front) (numbers_at shares back) number has)
+
+  pub among_back : Contains (numbers_at shares back) number → Contains (numbers_at shares (front ++ back)) number
+  among_back has = subst (λ (l : List ℕ). Contains l number) (sym both_parts) (Contains-append_right (numbers_at shares front) (numbers_at shares back) number has)
+
+  pub among_none : ¬ Contains (numbers_at shares front) number → ¬ Contains (numbers_at shares back) number → ¬ Contains (numbers_at shares (front ++ back)) number
+  among_none none_front none_back = λ has.
+      elim (Contains-append_cases (numbers_at shares front) (numbers_at shares back) number (subst (λ (l : List ℕ). Contains l number) both_parts has)) [
+        | inl there ↦ none_front there
+        | inr there ↦ none_back there
+      ]
+
+-- what holds of the number at each position, holds of each share's
+pub all_shares : (shares : List Candidate) (numbers : List ℕ) → ((p : ℕ) → p < length shares → Contains numbers (number_at shares p))
+    → All (λ (share : Candidate). Contains numbers share.number) shares
+all_shares shares numbers each k d low = subst (Contains numbers) (get_or-map (λ (c : Candidate). c.number) shares k d 0 low) (each k low)

@@ -1,0 +1,7 @@
+pub mod Offsets
+pub mod Staying
+pub mod Asking
+pub mod Choice
+pub mod Chosen
+pub mod Blocks
+pub mod Decodings

@@ -1,0 +1,32 @@
+use Rattle.std.proofs.Common.{◌≡◌, ℕ, ◌<◌, List, length, sym, subst, ◌∙◌, arith}
+use Rattle.std.proofs.lemmas.List.{length-map}
+use Rattle.std.proofs.lemmas.List.Elements.{All-map, All-weaker}
+use Rattle.share_source.specs.Candidates.{AreFirst, Candidate, number_at, numbers_at}
+use Rattle.share_source.proofs.Choice.{all_shares, number_low}
+use Rattle.share_source.proofs.reading.Reading.new.Goals as goal
+
+pub returns-then-len-needed-clause-few : goal.returns-then-len-needed-clause-few
+returns-then-len-needed-clause-few c = λ _.
+    let shares : List Candidate = c.args.shares.now in
+    let positions : List ℕ = c.in_ok-positions.positions.items in
+    let few : length positions < c.from-needed.result = omega (arith, c.if-len-needed.true, c.len.ensures, c.in_ok-positions.positions.ok.0) in
+    let needed : c.from-needed.result ≡ c.args.geometry.needed = c.from-needed.ensures ∙ c.needed.ensures.value in (
+      numbers_at shares positions,
+      omega (arith, few, needed, length-map positions (number_at shares)),
+      all_shares shares (numbers_at shares positions) (c.in_ok-positions.ensures.all few),
+    )
+
+pub with_room-requires-clause-numbers : goal.with_room-requires-clause-numbers
+with_room-requires-clause-numbers c =
+    let shares : List Candidate = c.args.shares.now in
+    let positions : List ℕ = c.in_ok-positions.positions.items in
+    let needed : c.from-needed.result ≡ c.args.geometry.needed = c.from-needed.ensures ∙ c.needed.ensures.value in
+    record {
+      enough = length-map positions (number_at shares) ∙ omega (arith, c.in_ok-positions.ensures.count, c.if-len-needed.false, c.len.ensures, c.in_ok-positions.positions.ok.0, needed);
+      below = All-map (λ n. n < c.args.geometry.total) (number_at shares) positions
+          (All-weaker (λ p. p < length shares) (λ p. number_at shares p < c.args.geometry.total) (λ p low. number_low shares c.args.geometry.total p c.requires low) positions c.in_ok-positions.ensures.there);
+      distinct = c.in_ok-positions.ensures.distinct;
+    }
+
+pub returns-clause-first : goal.returns-clause-first
+returns-clause-first c = subst (AreFirst c.args.shares.now) (sym c.in_ok-with_room.ensures.positions) c.in_ok-positions.ensures.first

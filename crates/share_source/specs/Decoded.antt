@@ -1,0 +1,82 @@
+-- What a source brings that is decoded from shares.
+use Rattle.std.specs.Prelude.{◌≡◌, ◌⊎◌, ℕ, ◌+◌, ◌*◌, ◌/◌, ◌%◌, ◌<◌, ◌≤◌, Bool, false, List, []}
+use Rattle.std.specs.Prelude.{◌++◌, All, length, map, drop, take, Some}
+use Rattle.std.specs.List.{zip}
+use Rattle.zfec_code.specs.Shares.{AreSharesOf}
+use Rattle.ueb.specs.Shape.{rounded_up}
+use Rattle.share_layout.specs.Geometry.{Geometry, block_size}
+use Rattle.share_layout.specs.Layout.{header_size, layout_of}
+use Rattle.share_layout.specs.Pieces.{block_length}
+use Rattle.download_segments.specs.Decoding.{AreShareNumbers}
+use Rattle.share_source.specs.Candidates.{AreAsked, BlockRead, Candidates, HaveLeaves, HaveTooFew}
+use Rattle.share_source.specs.Candidates.{numbers_at}
+use Rattle.share_source.specs.declared.place.Place.{Place}
+
+-- The shares of a file, the positions of those that are read now, whether the last read that failed
+-- did so for want of memory, and how many reads failed.
+pub record Decoding (B : Type 0) : Type 0 where
+  pub geometry : Geometry
+  pub candidates : Candidates B
+  pub reading : List ℕ
+  pub lacks_memory : Bool
+  pub failures : ℕ
+
+-- where the block of a segment lies in each share
+abbrev pub block_place : Geometry → ℕ → Place
+block_place g number = record {
+  segment = number;
+  begin = header_size (layout_of g) + number * block_size g;
+  size = block_length g number;
+}
+
+-- reads that brought a block each
+abbrev pub reads_of : List ℕ → List (List ℕ) → List BlockRead
+reads_of positions blocks = zip positions (map Some blocks)
+
+-- A segment with its padding was decoded from its blocks. These were read last, of the shares that
+-- are read then, one of each, and have the hashes that the shares' trees have there. Before them
+-- other shares were read, and struck out.
+pub record IsSegmentDecoded {B : Type 0} (gives : B → ℕ → ℕ → List ℕ → B → Type 0)
+    (fails : B → ℕ → ℕ → ℕ → B → Type 0) (g : Geometry) (number : ℕ) (old : Candidates B)
+    (padded : List ℕ) (reading : List ℕ) (new : Candidates B) : Type 0 where
+  pub before : List BlockRead
+  pub blocks : List (List ℕ)
+  pub read : AreAsked gives fails (block_place g number) old (before ++ reads_of reading blocks) new
+  pub enough : length blocks ≡ g.needed
+  pub alike : All (λ (b : List ℕ). length b ≡ block_length g number) blocks
+  pub leaves : HaveLeaves old.shares number reading blocks
+  pub numbers : AreShareNumbers g (numbers_at old.shares reading)
+  pub long : length padded ≡ g.needed * block_length g number
+  pub shares : AreSharesOf g.needed padded (numbers_at old.shares reading) blocks
+
+-- the bytes are of the segment that has the offset inside, from the offset on
+pub record IsSegmentPart {B : Type 0} (gives : B → ℕ → ℕ → List ℕ → B → Type 0)
+    (fails : B → ℕ → ℕ → ℕ → B → Type 0) (old : Decoding B) (offset : ℕ) (bytes : List ℕ)
+    (new : Decoding B) : Type 0 where
+  pub padded : List ℕ
+  pub segment : IsSegmentDecoded gives fails old.geometry (offset / old.geometry.segment_size)
+      old.candidates padded new.reading new.candidates
+  pub some : 0 < length bytes
+  pub part : bytes ≡ take (length bytes) (drop (offset % old.geometry.segment_size) padded)
+  pub others : new ≡ record old { candidates = new.candidates; reading = new.reading }
+
+-- What a read brings: bytes of one segment with its padding, or none behind the last.
+abbrev pub GivesDecoded : {B : Type 0} → (B → ℕ → ℕ → List ℕ → B → Type 0)
+    → (B → ℕ → ℕ → ℕ → B → Type 0) → Decoding B → ℕ → List ℕ → Decoding B → Type 0
+GivesDecoded gives fails old offset bytes new =
+    ((rounded_up old.geometry.size old.geometry.needed ≤ offset) × (bytes ≡ []) × (new ≡ old))
+    ⊎ ((offset < rounded_up old.geometry.size old.geometry.needed)
+    × IsSegmentPart gives fails old offset bytes new)
+
+-- A read brought nothing: the blocks of the segment that has the offset inside were read of shares,
+-- and then memory was refused, or too few shares were left.
+pub record BroughtNothing {B : Type 0} (gives : B → ℕ → ℕ → List ℕ → B → Type 0)
+    (fails : B → ℕ → ℕ → ℕ → B → Type 0) (old : Decoding B) (offset : ℕ) (new : Decoding B)
+    : Type 0 where
+  pub reads : List BlockRead
+  pub read : AreAsked gives fails
+      (block_place old.geometry (offset / old.geometry.segment_size)) old.candidates reads
+      new.candidates
+  pub cause : new.lacks_memory ≡ false
+      → HaveTooFew old.geometry.needed old.candidates.shares new.candidates.struck
+  pub geometry : new.geometry ≡ old.geometry

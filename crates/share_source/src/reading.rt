@@ -1,0 +1,204 @@
+//! The shares that are read now, and what their blocks are decoded by.
+
+ghost use Rattle.std.specs.Prelude.{◌≡◌, ◌⊎◌, ◌<◌, ℕ, List, All, Contains, IfErr, IfOk, IsErrOf};
+ghost use Rattle.std.specs.Prelude.{OnErr, OnOk, Some, false, length, remove, slice_get};
+ghost use Rattle.std.specs.Prelude.{slice_index, slice_set, take};
+ghost use Rattle.zfec_code.specs.Rows.{AreDistinct};
+ghost use Rattle.download_segments.specs.Decoding.{AreShareNumbers};
+ghost use Rattle.share_source.specs.Candidates.{AreFirst, HaveTooFew, number_at, numbers_at};
+ghost use Rattle.share_source.specs.Reading.{AreLeft, IsReading};
+
+use crate::bytes::ShareBytes;
+use crate::candidates::{Candidate, Candidates};
+use crate::choosing::{find_spare, first_positions};
+use share_gathering::file_code;
+use share_layout::Geometry;
+use std::alloc::{AllocError, Global};
+use zfec_code::{Code, CodeError, Decoder};
+
+/// The positions of the shares that are read now, their decoder, and room for a segment and its
+/// blocks.
+#[derive(Drop)]
+pub(crate) struct Reading {
+    pub alloc: Global,
+    pub geometry: Geometry,
+    pub code: Code,
+    pub positions: Vec<usize>,
+    pub decoder: Decoder,
+    pub blocks: Vec<u8>,
+    pub segment: Vec<u8>,
+}
+
+/// Why the blocks of a segment are not read.
+#[derive(Clone, Copy, PartialEq, Eq)]
+pub(crate) enum Shortage {
+    /// No memory was left.
+    Memory,
+    /// Too few shares are left.
+    Shares,
+}
+
+impl From<AllocError> for Shortage {
+    ghost use Rattle.share_source.specs.declared.reading.Shortage.TheVariants.{Memory};
+
+    ghost from_gives = { λ _ shortage. shortage ≡ Memory };
+
+    fn from(_error: AllocError) -> Shortage {
+        Shortage::Memory
+    }
+}
+
+impl Reading {
+    /// Takes the first shares of different numbers.
+    ///
+    /// Refuses `LengthMismatch` (fewer different numbers than are needed), and `OutOfMemory`.
+    pub fn new(
+        alloc: Global,
+        geometry: Geometry,
+        shares: &[Candidate],
+    ) -> Result<Reading, CodeError>
+        requires { All (λ share. share.number < geometry.total) shares.now }
+        ensures reading { IfOk result (IsReading shares.now) }
+        ensures first { IfOk result (λ r. AreFirst shares.now r.positions.items) }
+        ensures geometry { IfOk result (λ r. r.geometry ≡ geometry) }
+        ensures few { IsErrOf result CodeError.LengthMismatch
+            → (numbers : List ℕ) × (length numbers < geometry.needed)
+            × All (λ share. Contains numbers share.number) shares.now }
+        ensures no_other { IfErr result
+            (λ e. (e ≡ CodeError.OutOfMemory) ⊎ (e ≡ CodeError.LengthMismatch)) }
+    {
+        let needed = usize::from(geometry.needed());
+        let positions = first_positions(alloc, shares, needed)?;
+        if positions.len() < needed {
+            return Err(CodeError::LengthMismatch);
+        }
+        let code = file_code(alloc, &geometry)?;
+        Ok(with_room(alloc, geometry, shares, positions, code)?)
+    }
+
+    /// Lets a spare take the place of each share that was struck out.
+    pub fn refill<B: ShareBytes + Drop>(
+        &mut self,
+        candidates: &Candidates<B>,
+    ) -> Result<(), Shortage>
+        requires { IsReading candidates.now.shares self.old }
+        ensures reading { IsReading candidates.now.shares self.new }
+        ensures geometry { self.new.geometry ≡ self.old.geometry }
+        ensures left { OnOk result (AreLeft candidates.now.struck self.new.positions.items) }
+        ensures few { IsErrOf result Shortage.Shares → HaveTooFew self.old.geometry.needed
+            candidates.now.shares candidates.now.struck }
+    {
+        for index in 0..self.positions.len() {
+            if !candidates.is_left(self.positions[index]) {
+                self.replace(candidates, index)?;
+            }
+        }
+        Ok(())
+    }
+
+    // Lets a spare take the place of one of the shares.
+    fn replace<B: ShareBytes + Drop>(
+        &mut self,
+        candidates: &Candidates<B>,
+        index: usize,
+    ) -> Result<(), Shortage>
+        requires reading { IsReading candidates.now.shares self.old }
+        requires index { index < length self.old.positions.items }
+        ensures reading { IsReading candidates.now.shares self.new }
+        ensures geometry { self.new.geometry ≡ self.old.geometry }
+        ensures count { length self.new.positions.items ≡ length self.old.positions.items }
+        ensures before { take index self.new.positions.items
+            ≡ take index self.old.positions.items }
+        ensures left { OnOk result (slice_get candidates.now.struck
+            (slice_index self.new.positions.items index) ≡ Some false) }
+        ensures few { IsErrOf result Shortage.Shares → HaveTooFew self.old.geometry.needed
+            candidates.now.shares candidates.now.struck }
+    {
+        let Some(position) = find_spare(candidates, &self.positions, index) else {
+            return Err(Shortage::Shares);
+        };
+        self.put(candidates.shares(), index, position)?;
+        Ok(())
+    }
+
+    // Puts a share into the place of another. Where memory was refused, all is as it was.
+    fn put(&mut self, shares: &[Candidate], index: usize, position: usize) -> Result<(), AllocError>
+        requires reading { IsReading shares.now self.old }
+        requires index { index < length self.old.positions.items }
+        requires there { position < length shares.now }
+        requires unlike { ¬ Contains
+            (numbers_at shares.now (remove self.old.positions.items index))
+            (number_at shares.now position) }
+        ensures reading { IsReading shares.now self.new }
+        ensures geometry { self.new.geometry ≡ self.old.geometry }
+        ensures put { OnOk result
+            (self.new.positions.items ≡ slice_set self.old.positions.items index position) }
+        ensures err { OnErr result (self.new.positions.items ≡ self.old.positions.items) }
+    {
+        let mut numbers = share_numbers(self.alloc, shares, &self.positions)?;
+        numbers[index] = shares[position].number();
+        self.decoder = new_decoder(self.alloc, &self.code, numbers)?;
+        self.positions[index] = position;
+        Ok(())
+    }
+}
+
+// The reading of the shares at these positions.
+fn with_room(
+    alloc: Global,
+    geometry: Geometry,
+    shares: &[Candidate],
+    positions: Vec<usize>,
+    code: Code,
+) -> Result<Reading, AllocError>
+    requires range { All (λ share. share.number < geometry.total) shares.now }
+    requires there { All (λ p. p < length shares.now) positions.items }
+    requires numbers { AreShareNumbers geometry (numbers_at shares.now positions.items) }
+    requires code { code ≡ record { k = geometry.needed; n = geometry.total } }
+    ensures reading { IfOk result (IsReading shares.now) }
+    ensures positions { IfOk result (λ r. r.positions.items ≡ positions.items) }
+    ensures geometry { IfOk result (λ r. r.geometry ≡ geometry) }
+{
+    let numbers = share_numbers(alloc, shares, &positions)?;
+    let decoder = new_decoder(alloc, &code, numbers)?;
+    let size = geometry.segment_size() as usize;
+    Ok(Reading {
+        alloc,
+        geometry,
+        code,
+        positions,
+        decoder,
+        blocks: vec![in alloc; 0u8; size]?,
+        segment: vec![in alloc; 0u8; size]?,
+    })
+}
+
+// The decoder of these shares.
+fn new_decoder(alloc: Global, code: &Code, numbers: Vec<u16>) -> Result<Decoder, AllocError>
+    requires count { length numbers.items ≡ code.now.k }
+    requires below { All (λ n. n < code.now.n) numbers.items }
+    requires distinct { AreDistinct numbers.items }
+    ensures { IfOk result (λ decoder. decoder ≡ numbers.items) }
+{
+    match code.decoder(alloc, numbers) {
+        Ok(decoder) => Ok(decoder),
+        Err(CodeError::OutOfMemory) => Err(AllocError),
+        Err(_) => unreachable!(),
+    }
+}
+
+// The numbers of the shares at these positions.
+fn share_numbers(
+    alloc: Global,
+    shares: &[Candidate],
+    positions: &[usize],
+) -> Result<Vec<u16>, AllocError>
+    requires { All (λ p. p < length shares.now) positions.now }
+    ensures { IfOk result (λ numbers. numbers.items ≡ numbers_at shares.now positions.now) }
+{
+    let mut numbers = Vec::with_capacity(alloc, positions.len())?;
+    for position in positions {
+        numbers.push(shares[*position].number())?;
+    }
+    Ok(numbers)
+}
