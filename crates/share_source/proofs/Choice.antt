@@ -1,27 +1,16 @@
 -- Which shares are taken.
-use Rattle.std.proofs.Common.{◌≡◌, ◌≢◌, ℕ, suc, ◌+◌, ◌-◌, ◌<◌, All, Bool, true, false, cond, not, Contains, List, ◌++◌, Some, length, take, drop, get_or, set, inl, inr, ap, sym, subst, ◌∙◌, arith}
-use Rattle.std.specs.Prelude.{remove, slice_get}
+use Rattle.std.proofs.Common.{◌≡◌, ◌≢◌, ℕ, suc, ◌+◌, ◌-◌, ◌<◌, All, Contains, List, ◌++◌, length, take, drop, get_or, set, inl, inr, ap, sym, subst, ◌∙◌, arith}
+use Rattle.std.specs.Prelude.{remove}
 use Rattle.std.proofs.lemmas.Bool.{cases_eq, cases_lt}
 use Rattle.std.proofs.lemmas.List.{get_or-drop, get_or-map, get_or-set_other, get_or-set_same, get_or-take, length-drop, length-map, length-set, length-take-le, map-append}
 use Rattle.std.proofs.lemmas.List.Elements.{All-map, Contains-append_cases, Contains-append_left, Contains-append_right}
-use Rattle.std.proofs.lemmas.List.Sums.{sum_by-set}
-use Rattle.std.proofs.lemmas.Option.{get_or_from_slice_get, slice_get_within}
 use Rattle.zfec_code.specs.Rows.{AreDistinct}
 use Rattle.share_source.specs.Candidates.{Candidate, number_at, numbers_at}
-use Rattle.share_source.specs.Reading.{left_count}
 
 -- the number of a share that stands at one of these positions
 pub number_among : (shares : List Candidate) (positions : List ℕ) (i : ℕ) → i < length positions → Contains (numbers_at shares positions) (number_at shares (get_or positions i 0))
 number_among shares positions i low =
     (i, omega (arith, low, length-map positions (number_at shares)), get_or-map (number_at shares) positions i 0 (number_at shares (get_or positions i 0)) low)
-
--- one share more is struck out
-pub left_fewer : (struck : List Bool) (p : ℕ) → slice_get struck p ≡ Some false → left_count (set struck p true) < left_count struck
-left_fewer struck p e =
-    let left : Bool → ℕ = λ b. cond (not b) 1 0 in
-    let sums = sum_by-set left struck p true true (slice_get_within struck p false e) in
-    let was : left (get_or struck p true) ≡ left false = ap left (get_or_from_slice_get struck p false true e) in
-    omega (arith, sums, was)
 
 -- the numbers of shares of the file
 pub number_low : (shares : List Candidate) (total p : ℕ) → All (λ (c : Candidate). c.number < total) shares → p < length shares → number_at shares p < total
@@ -91,8 +80,3 @@ module _ (shares : List Candidate) (front back : List ℕ) (number : ℕ) where
         | inl there ↦ none_front there
         | inr there ↦ none_back there
       ]
-
--- what holds of the number at each position, holds of each share's
-pub all_shares : (shares : List Candidate) (numbers : List ℕ) → ((p : ℕ) → p < length shares → Contains numbers (number_at shares p))
-    → All (λ (share : Candidate). Contains numbers share.number) shares
-all_shares shares numbers each k d low = subst (Contains numbers) (get_or-map (λ (c : Candidate). c.number) shares k d 0 low) (each k low)

@@ -8,7 +8,7 @@ use Rattle.share_layout.specs.Geometry.{Geometry, block_size}
 use Rattle.share_layout.specs.Pieces.{block_length, pieces}
 use Rattle.proved_parts.proofs.Files.{length-pieces}
 use Rattle.download_segments.specs.Decoding.{AreShareNumbers}
-use Rattle.share_source.specs.Candidates.{AreAsked, BlockRead, Candidate, Candidates, HaveLeaves, numbers_at}
+use Rattle.share_source.specs.Candidates.{AreAsked, AreReadOn, BlockRead, Candidate, Candidates, HaveLeaves, numbers_at}
 use Rattle.share_source.specs.Decoded.{Decoding, GivesDecoded, IsSegmentDecoded, block_place, reads_of}
 use Rattle.share_source.specs.declared.place.Place.{Place}
 use Rattle.share_source.proofs.Asking.{asked_append}
@@ -48,9 +48,9 @@ module _ {B : Type 0} (gives : B → ℕ → ℕ → List ℕ → B → Type 0) 
 -- a part of a segment is what a read gives
 pub gives_part : {B : Type 0} (gives : B → ℕ → ℕ → List ℕ → B → Type 0) (fails : B → ℕ → ℕ → ℕ → B → Type 0) (old : Decoding B) (offset count : ℕ) (out padded reading : List ℕ) (new : Candidates B)
     → offset < rounded_up old.geometry.size old.geometry.needed → IsSegmentDecoded gives fails old.geometry (offset / old.geometry.segment_size) old.candidates padded reading new
-    → 0 < count → count ≤ length out → take count out ≡ take count (drop (offset % old.geometry.segment_size) padded)
+    → 0 < count → count ≤ length out → take count out ≡ take count (drop (offset % old.geometry.segment_size) padded) → AreReadOn old.reading new.struck reading
     → GivesDecoded gives fails old offset (take count out) (record old { candidates = new; reading = reading })
-gives_part gives fails old offset count out padded reading new low read some few part =
+gives_part gives fails old offset count out padded reading new low read some few part on =
     let long : length (take count out) ≡ count = length-take-le count out few in
     inr (
       low,
@@ -59,6 +59,7 @@ gives_part gives fails old offset count out padded reading new low read some few
         segment = read;
         some = subst (λ n. 0 < n) (sym long) some;
         part = part ∙ ap (λ n. take n (drop (offset % old.geometry.segment_size) padded)) (sym long);
+        read_on = on;
         others = refl;
       },
     )

@@ -91,3 +91,8 @@ abbrev pub AreFirst : List Candidate → List ℕ → Type 0
 AreFirst shares positions = (i position earlier : ℕ) → slice_get positions i ≡ Some position
     → earlier < position
     → Contains (numbers_at shares (take i positions)) (number_at shares earlier)
+
+-- the shares that were read are read on, each in its place, but for those that were struck out
+abbrev pub AreReadOn : List ℕ → List Bool → List ℕ → Type 0
+AreReadOn old struck new = (i position : ℕ) → slice_get old i ≡ Some position
+    → slice_get struck position ≡ Some false → slice_get new i ≡ Some position

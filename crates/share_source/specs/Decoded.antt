@@ -8,8 +8,8 @@ use Rattle.share_layout.specs.Geometry.{Geometry, block_size}
 use Rattle.share_layout.specs.Layout.{header_size, layout_of}
 use Rattle.share_layout.specs.Pieces.{block_length}
 use Rattle.download_segments.specs.Decoding.{AreShareNumbers}
-use Rattle.share_source.specs.Candidates.{AreAsked, BlockRead, Candidates, HaveLeaves, HaveTooFew}
-use Rattle.share_source.specs.Candidates.{numbers_at}
+use Rattle.share_source.specs.Candidates.{AreAsked, AreReadOn, BlockRead, Candidates}
+use Rattle.share_source.specs.Candidates.{HaveLeaves, HaveTooFew, numbers_at}
 use Rattle.share_source.specs.declared.place.Place.{Place}
 
 -- The shares of a file, the positions of those that are read now, whether the last read that failed
@@ -58,6 +58,7 @@ pub record IsSegmentPart {B : Type 0} (gives : B → ℕ → ℕ → List ℕ �
       old.candidates padded new.reading new.candidates
   pub some : 0 < length bytes
   pub part : bytes ≡ take (length bytes) (drop (offset % old.geometry.segment_size) padded)
+  pub read_on : AreReadOn old.reading new.candidates.struck new.reading
   pub others : new ≡ record old { candidates = new.candidates; reading = new.reading }
 
 -- What a read brings: bytes of one segment with its padding, or none behind the last.
@@ -79,4 +80,5 @@ pub record BroughtNothing {B : Type 0} (gives : B → ℕ → ℕ → List ℕ �
       new.candidates
   pub cause : new.lacks_memory ≡ false
       → HaveTooFew old.geometry.needed old.candidates.shares new.candidates.struck
+  pub read_on : AreReadOn old.reading new.candidates.struck new.reading
   pub geometry : new.geometry ≡ old.geometry

@@ -23,3 +23,8 @@ AreLeft struck positions = All (λ p. slice_get struck p ≡ Some false) positio
 -- how many shares are not struck out
 abbrev pub left_count : List Bool → ℕ
 left_count struck = count_by not struck
+
+-- no share that was struck out comes back
+abbrev pub StayStruck : List Bool → List Bool → Type 0
+StayStruck old new = (position : ℕ) → slice_get new position ≡ Some false
+    → slice_get old position ≡ Some false

@@ -7,7 +7,7 @@ ghost use Rattle.share_layout.specs.Pieces.{pieces};
 ghost use Rattle.share_source.specs.Candidates.{AreAsked, BlockRead, Brought, HasLeaf};
 ghost use Rattle.share_source.specs.Candidates.{HaveLeaves, IsAsked};
 ghost use Rattle.share_source.specs.Decoded.{reads_of};
-ghost use Rattle.share_source.specs.Reading.{AreLeft, left_count};
+ghost use Rattle.share_source.specs.Reading.{AreLeft, StayStruck, left_count};
 
 use crate::bytes::ShareBytes;
 use crate::place::Place;
@@ -134,6 +134,7 @@ impl<B: ShareBytes + Drop> Candidates<B> {
         requires left { AreLeft self.old.struck positions.now }
         requires room { length positions.now * place.size ≤ length blocks.old }
         ensures shares { self.new.shares ≡ self.old.shares }
+        ensures struck { StayStruck self.old.struck self.new.struck }
         ensures read { IsTrue result → AreAsked B.gives B.fails place self.old
             (reads_of positions.now (pieces (length positions.now) place.size blocks.new))
             self.new }

@@ -1,11 +1,12 @@
 //! The shares that are read now, and what their blocks are decoded by.
 
-ghost use Rattle.std.specs.Prelude.{◌≡◌, ◌⊎◌, ◌<◌, ℕ, List, All, Contains, IfErr, IfOk, IsErrOf};
-ghost use Rattle.std.specs.Prelude.{OnErr, OnOk, Some, false, length, remove, slice_get};
+ghost use Rattle.std.specs.Prelude.{◌≡◌, ◌≢◌, ◌⊎◌, ◌<◌, ℕ, All, Contains, IfErr, IfOk, IsErrOf};
+ghost use Rattle.std.specs.Prelude.{OnErr, OnOk, Some, false, length, remove, replicate, slice_get};
 ghost use Rattle.std.specs.Prelude.{slice_index, slice_set, take};
 ghost use Rattle.zfec_code.specs.Rows.{AreDistinct};
 ghost use Rattle.download_segments.specs.Decoding.{AreShareNumbers};
-ghost use Rattle.share_source.specs.Candidates.{AreFirst, HaveTooFew, number_at, numbers_at};
+ghost use Rattle.share_source.specs.Candidates.{AreFirst, AreReadOn, HaveTooFew, number_at};
+ghost use Rattle.share_source.specs.Candidates.{numbers_at};
 ghost use Rattle.share_source.specs.Reading.{AreLeft, IsReading};
 
 use crate::bytes::ShareBytes;
@@ -62,8 +63,7 @@ impl Reading {
         ensures first { IfOk result (λ r. AreFirst shares.now r.positions.items) }
         ensures geometry { IfOk result (λ r. r.geometry ≡ geometry) }
         ensures few { IsErrOf result CodeError.LengthMismatch
-            → (numbers : List ℕ) × (length numbers < geometry.needed)
-            × All (λ share. Contains numbers share.number) shares.now }
+            → HaveTooFew geometry.needed shares.now (replicate (length shares.now) false) }
         ensures no_other { IfErr result
             (λ e. (e ≡ CodeError.OutOfMemory) ⊎ (e ≡ CodeError.LengthMismatch)) }
     {
@@ -84,6 +84,8 @@ impl Reading {
         requires { IsReading candidates.now.shares self.old }
         ensures reading { IsReading candidates.now.shares self.new }
         ensures geometry { self.new.geometry ≡ self.old.geometry }
+        ensures read_on { AreReadOn self.old.positions.items candidates.now.struck
+            self.new.positions.items }
         ensures left { OnOk result (AreLeft candidates.now.struck self.new.positions.items) }
         ensures few { IsErrOf result Shortage.Shares → HaveTooFew self.old.geometry.needed
             candidates.now.shares candidates.now.struck }
@@ -107,6 +109,8 @@ impl Reading {
         ensures reading { IsReading candidates.now.shares self.new }
         ensures geometry { self.new.geometry ≡ self.old.geometry }
         ensures count { length self.new.positions.items ≡ length self.old.positions.items }
+        ensures others { (i : ℕ) → i ≢ index → slice_get self.new.positions.items i
+            ≡ slice_get self.old.positions.items i }
         ensures before { take index self.new.positions.items
             ≡ take index self.old.positions.items }
         ensures left { OnOk result (slice_get candidates.now.struck

@@ -5,10 +5,10 @@ ghost use Rattle.std.specs.Prelude.{length, All, IsTrue, false, map, take};
 ghost use Rattle.zfec_code.specs.Shares.{AreSharesOf, HaveLengths};
 ghost use Rattle.share_layout.specs.Geometry.{segment_count};
 ghost use Rattle.share_layout.specs.Pieces.{block_length, pieces};
-ghost use Rattle.share_source.specs.Candidates.{AreAsked, BlockRead, HaveLeaves, HaveTooFew};
-ghost use Rattle.share_source.specs.Candidates.{numbers_at};
+ghost use Rattle.share_source.specs.Candidates.{AreAsked, AreReadOn, BlockRead, HaveLeaves};
+ghost use Rattle.share_source.specs.Candidates.{HaveTooFew, numbers_at};
 ghost use Rattle.share_source.specs.Decoded.{IsSegmentDecoded, block_place, reads_of};
-ghost use Rattle.share_source.specs.Reading.{AreLeft, IsReading, left_count};
+ghost use Rattle.share_source.specs.Reading.{IsReading, StayStruck, left_count};
 
 use crate::bytes::ShareBytes;
 use crate::candidates::{Candidate, Candidates};
@@ -29,6 +29,8 @@ pub(crate) fn read_segment<B: ShareBytes + Drop>(
     ensures reading { IsReading candidates.new.shares reading.new }
     ensures geometry { reading.new.geometry ≡ reading.old.geometry }
     ensures shares { candidates.new.shares ≡ candidates.old.shares }
+    ensures read_on { AreReadOn reading.old.positions.items candidates.new.struck
+        reading.new.positions.items }
     ensures long { IfOk result (λ len.
         len ≡ reading.old.geometry.needed * block_length reading.old.geometry number) }
     ensures decoded { IfOk result (λ len. IsSegmentDecoded B.gives B.fails reading.old.geometry
@@ -59,6 +61,9 @@ fn read_round<B: ShareBytes + Drop>(
     ensures reading { IsReading candidates.new.shares reading.new }
     ensures geometry { reading.new.geometry ≡ reading.old.geometry }
     ensures shares { candidates.new.shares ≡ candidates.old.shares }
+    ensures struck { StayStruck candidates.old.struck candidates.new.struck }
+    ensures read_on { AreReadOn reading.old.positions.items candidates.new.struck
+        reading.new.positions.items }
     ensures read { IfOk result (λ good. IsTrue good → AreAsked B.gives B.fails place candidates.old
         (reads_of reading.new.positions.items
         (pieces reading.old.geometry.needed place.size reading.new.blocks.items))

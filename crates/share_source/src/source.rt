@@ -1,14 +1,13 @@
 //! The padded ciphertext of a file, decoded segment by segment.
 
-ghost use Rattle.std.specs.Prelude.{◌≡◌, ◌⊎◌, ◌<◌, ◌≤◌, ◌^◌, ◌↔◌, ℕ, List, All, Contains, IfErr};
-ghost use Rattle.std.specs.Prelude.{IfOk, IsErrOf, IsTrue, OnErr, OnOk, drop, false, length};
-ghost use Rattle.std.specs.Prelude.{replicate, take};
+ghost use Rattle.std.specs.Prelude.{◌≡◌, ◌⊎◌, ◌<◌, ◌≤◌, ◌^◌, ◌↔◌, ℕ, All, IfErr, IfOk, IsErrOf};
+ghost use Rattle.std.specs.Prelude.{IsTrue, OnErr, OnOk, drop, false, length, replicate, take};
 ghost use Rattle.sources.specs.Source.{HasFailedMore};
 ghost use Rattle.ueb.specs.Shape.{rounded_up};
 ghost use Rattle.share_layout.specs.Geometry.{segment_count};
 ghost use Rattle.share_layout.specs.Pieces.{block_length};
 ghost use Rattle.download_segments.specs.Decoding.{AreShareNumbers};
-ghost use Rattle.share_source.specs.Candidates.{AreFirst, numbers_at};
+ghost use Rattle.share_source.specs.Candidates.{AreFirst, HaveTooFew, numbers_at};
 ghost use Rattle.share_source.specs.Decoded.{BroughtNothing, GivesDecoded};
 
 use crate::bytes::ShareBytes;
@@ -80,8 +79,7 @@ impl<B: ShareBytes + Drop> ShareSource<B> {
         ensures out_of_range { IsErrOf result CodeError.ShareOutOfRange
             → ¬ All (λ share. share.number < geometry.total) shares.items }
         ensures few { IsErrOf result CodeError.LengthMismatch
-            → (numbers : List ℕ) × (length numbers < geometry.needed)
-            × All (λ share. Contains numbers share.number) shares.items }
+            → HaveTooFew geometry.needed shares.items (replicate (length shares.items) false) }
         ensures in_range { IsErrOf result CodeError.LengthMismatch
             → All (λ share. share.number < geometry.total) shares.items }
         ensures no_other { IfErr result (λ e. (e ≡ CodeError.OutOfMemory)

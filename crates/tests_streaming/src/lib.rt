@@ -1,6 +1,6 @@
 //! The tests of sources and of files that are read from them for their uploads: odd readers, files
 //! that change while they are read, whole encodings, the pieces of shares that are made again or
-//! anew, and uploads over sources.
+//! anew, files that are decoded from their shares, and uploads over sources.
 #![tactic(auto)]
 
 #[cfg(test)]
@@ -13,6 +13,8 @@ mod prepare_tests;
 mod readers_tests;
 #[cfg(test)]
 mod remade_tests;
+#[cfg(test)]
+mod share_source_tests;
 #[cfg(test)]
 mod texts_tests;
 #[cfg(test)]

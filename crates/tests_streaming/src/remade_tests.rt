@@ -129,14 +129,17 @@ fn has_pieces(
 
 // A file's verify cap, its shares, and its padded ciphertext.
 #[derive(Drop)]
-struct Whole {
-    cap: VerifyCap,
-    shares: Vec<Share>,
-    text: Vec<u8>,
+pub(crate) struct Whole {
+    pub cap: VerifyCap,
+    pub shares: Vec<Share>,
+    pub text: Vec<u8>,
 }
 
 // A file: its size, shares needed and in all, and bytes a segment.
-fn whole_file(alloc: Global, numbers: (usize, u64, u64, u64)) -> Result<Option<Whole>, AllocError> {
+pub(crate) fn whole_file(
+    alloc: Global,
+    numbers: (usize, u64, u64, u64),
+) -> Result<Option<Whole>, AllocError> {
     let (size, needed, total, segment) = numbers;
     let file = counted(alloc, size)?;
     let Ok(params) = Params::new(needed, 1, total, segment) else {

@@ -54,6 +54,7 @@ loop-candidates-preserved g c =
       reading = round.reading;
       geometry = round.geometry ∙ k.geometry;
       shares = round.shares ∙ k.shares;
+      read_on = λ i p at left. round.read_on i p (k.read_on i p at (round.struck p left)) left;
       asked = (
         k.asked.0 ++ more.0.0,
         asked_append g.B.ShareBytes.gives g.B.ShareBytes.fails c.of-place.result k.asked.0 more.0.0 c.args.candidates.now c.loop-candidates.candidates c.read_round.new.candidates k.asked.1 more.0.1,

@@ -10,10 +10,10 @@ use Rattle.share_layout.specs.Pieces.{pieces}
 use Rattle.proved_parts.proofs.Files.{length-pieces}
 use Rattle.share_source.specs.Candidates.{AreAsked, BlockRead, leaf_at}
 use Rattle.share_source.specs.Decoded.{reads_of}
-use Rattle.share_source.specs.Reading.{left_count}
+use Rattle.share_source.specs.Reading.{StayStruck, left_count}
 use Rattle.share_source.proofs.Asking.{asked_more, reads_more}
 use Rattle.share_source.proofs.Blocks.{blocks_more}
-use Rattle.share_source.proofs.Choice.{left_fewer}
+use Rattle.share_source.proofs.Striking.{left_fewer, stay_struck}
 use Rattle.share_source.proofs.candidates.Candidates.read_blocks.Goals as goal
 
 pub returns-then-not-ask-clause-refused : goal.returns-then-not-ask-clause-refused
@@ -31,6 +31,14 @@ returns-then-not-ask-clause-refused g c = λ no.
       ),
       subst (λ (s : List Bool). left_count s < left_count c.args.self.now.struck) (sym (came.2 ∙ ap (λ (s : List Bool). set s p true) k.struck)) (left_fewer c.args.self.now.struck p left),
     )
+
+pub returns-then-not-ask-clause-struck : goal.returns-then-not-ask-clause-struck
+returns-then-not-ask-clause-struck g c =
+    let p : ℕ = get_or c.args.positions.now c.loop-i.i 0 in
+    let came = c.ask.ensures.refused c.if-not-ask.true in
+    let low : c.loop-i.i < length c.args.positions.now = omega (arith, c.loop-i-test.true, c.loop-i.auto.i-end) in
+    subst (StayStruck c.args.self.now.struck) (sym (came.2 ∙ ap (λ (s : List Bool). set s p true) c.loop-i.invariant.struck))
+    (stay_struck c.args.self.now.struck p (c.requires.left c.loop-i.i 0 low))
 
 pub loop-i-preserved : goal.loop-i-preserved
 loop-i-preserved g c =

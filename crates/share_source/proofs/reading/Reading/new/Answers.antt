@@ -1,8 +1,9 @@
-use Rattle.std.proofs.Common.{◌≡◌, ℕ, ◌<◌, List, length, sym, subst, ◌∙◌, arith}
-use Rattle.std.proofs.lemmas.List.{length-map}
+use Rattle.std.proofs.Common.{◌≡◌, ℕ, ◌<◌, List, false, length, replicate, sym, subst, ◌∙◌, arith}
+use Rattle.std.proofs.lemmas.List.{length-map, length-replicate}
 use Rattle.std.proofs.lemmas.List.Elements.{All-map, All-weaker}
+use Rattle.std.proofs.lemmas.Option.{slice_get_within}
 use Rattle.share_source.specs.Candidates.{AreFirst, Candidate, number_at, numbers_at}
-use Rattle.share_source.proofs.Choice.{all_shares, number_low}
+use Rattle.share_source.proofs.Choice.{number_low}
 use Rattle.share_source.proofs.reading.Reading.new.Goals as goal
 
 pub returns-then-len-needed-clause-few : goal.returns-then-len-needed-clause-few
@@ -10,11 +11,13 @@ returns-then-len-needed-clause-few c = λ _.
     let shares : List Candidate = c.args.shares.now in
     let positions : List ℕ = c.in_ok-positions.positions.items in
     let few : length positions < c.from-needed.result = omega (arith, c.if-len-needed.true, c.len.ensures, c.in_ok-positions.positions.ok.0) in
-    let needed : c.from-needed.result ≡ c.args.geometry.needed = c.from-needed.ensures ∙ c.needed.ensures.value in (
-      numbers_at shares positions,
-      omega (arith, few, needed, length-map positions (number_at shares)),
-      all_shares shares (numbers_at shares positions) (c.in_ok-positions.ensures.all few),
-    )
+    let needed : c.from-needed.result ≡ c.args.geometry.needed = c.from-needed.ensures ∙ c.needed.ensures.value in
+    record {
+      numbers = numbers_at shares positions;
+      few = omega (arith, few, needed, length-map positions (number_at shares));
+      all = λ p left. c.in_ok-positions.ensures.all few p
+          (omega (arith, slice_get_within (replicate (length shares) false) p false left, length-replicate (length shares) false));
+    }
 
 pub with_room-requires-clause-numbers : goal.with_room-requires-clause-numbers
 with_room-requires-clause-numbers c =

@@ -2,8 +2,11 @@ use Rattle.std.proofs.Common.{◌≡◌, ℕ, ◌+◌, ◌<◌, Bool, List, Some
 use Rattle.std.specs.Prelude.{slice_get}
 use Rattle.std.proofs.lemmas.List.{get_or_default, take_all, take_more}
 use Rattle.std.proofs.lemmas.List.Elements.{All-push}
+use Rattle.lemmas.proofs.Positions.{got}
+use Rattle.share_source.specs.Candidates.{AreReadOn}
 use Rattle.share_source.specs.Reading.{AreLeft, IsReading}
 use Rattle.share_source.specs.declared.reading.Reading.{Reading}
+use Rattle.share_source.proofs.Striking.{read_on_more}
 use Rattle.share_source.proofs.reading.Reading.refill.Goals as goal
 use Rattle.share_source.proofs.reading.Reading.refill.Goals.{then-not-is_left+in_ok-replace, else-not-is_left}
 
@@ -14,6 +17,8 @@ loop-index-preserved g c =
     let k = c.loop-index.invariant in
     let old : List ℕ = c.loop-index.self.positions.items in
     let within : index < length old = omega (arith, c.loop-index-test.true, c.len-index-end.ensures, k.count, c.args.self.now.positions.ok.0) in
+    let first : List ℕ = c.args.self.now.positions.items in
+    let at : slice_get old index ≡ Some c.index.result.now = got old index c.index.result.now within c.index.ensures in
     elim c.if-not-is_left.branch [
       | then-not-is_left+in_ok-replace w ↦ (
           let more = w.in_ok-replace.ensures in
@@ -22,6 +27,8 @@ loop-index-preserved g c =
             reading = subst (IsReading c.args.candidates.now.shares) (sym w.self-is) more.reading;
             geometry = ap (λ r. r.geometry) w.self-is ∙ more.geometry ∙ k.geometry;
             count = ap (λ r. length r.positions.items) w.self-is ∙ more.count ∙ k.count;
+            read_on = subst (λ (r : Reading). AreReadOn first struck r.positions.items) (sym w.self-is)
+                (read_on_more struck first old new index c.index.result.now k.read_on at w.if-not-is_left.ensures more.others);
             left = subst (λ (r : Reading). AreLeft struck (take (index + 1) r.positions.items)) (sym w.self-is)
                 (subst (AreLeft struck) (sym (take_more new index 0 (omega (arith, within, more.count))))
                 (All-push (λ p. slice_get struck p ≡ Some false) (take index new) (get_or new index 0) (subst (AreLeft struck) (sym more.before) k.left) more.left));
@@ -30,6 +37,7 @@ loop-index-preserved g c =
         reading = subst (IsReading c.args.candidates.now.shares) (sym w.self-is) k.reading;
         geometry = ap (λ r. r.geometry) w.self-is ∙ k.geometry;
         count = ap (λ r. length r.positions.items) w.self-is ∙ k.count;
+        read_on = subst (λ (r : Reading). AreReadOn first struck r.positions.items) (sym w.self-is) k.read_on;
         left = subst (λ (r : Reading). AreLeft struck (take (index + 1) r.positions.items)) (sym w.self-is)
             (subst (AreLeft struck) (sym (take_more old index 0 within))
             (All-push (λ p. slice_get struck p ≡ Some false) (take index old) (get_or old index 0) k.left

@@ -1,6 +1,6 @@
-use Rattle.std.proofs.Common.{◌≡◌, ◌<◌, List, ℕ, All, Contains, Err, IsErrAnd, Ok, Result, length, ap, subst, sym, ◌∙◌}
+use Rattle.std.proofs.Common.{◌≡◌, List, Err, IsErrAnd, Ok, Result, false, length, replicate, ap, subst, sym, ◌∙◌}
 use Rattle.zfec_code.specs.declared.CodeError.{CodeError}
-use Rattle.share_source.specs.Candidates.{AreFirst, Candidate}
+use Rattle.share_source.specs.Candidates.{AreFirst, Candidate, HaveTooFew}
 use Rattle.share_source.proofs.source.ShareSource.new.Goals as goal
 
 -- an error that is passed on
@@ -10,7 +10,7 @@ passed_on (Err e) error other answered is = let same : e ≡ other = cc in sym a
 
 pub returns-in_err-reading-clause-few : goal.returns-in_err-reading-clause-few
 returns-in_err-reading-clause-few g c = λ is.
-    subst (λ (shares : List Candidate). (numbers : List ℕ) × (length numbers < c.args.geometry.needed) × All (λ share. Contains numbers share.number) shares) c.deref-2.ensures.value
+    subst (λ (shares : List Candidate). HaveTooFew c.args.geometry.needed shares (replicate (length shares) false)) c.deref-2.ensures.value
     (c.in_err-reading.ensures.few (ap Err (passed_on c.from_residual.result c.in_err-reading.field-0.0 CodeError.LengthMismatch c.from_residual.ensures.1 is)))
 
 pub returns-clause-first : goal.returns-clause-first

@@ -61,7 +61,7 @@ returns-in-Ok-clause-gives g c = λ some.
     let decoded = subst (λ s. IsSegmentDecoded gives fails geometry (offset / s) old.candidates padded positions new) size c.in-Ok.ensures.decoded in
     let part : take count out ≡ take count (drop (offset % geometry.segment_size) padded) =
     c.copy_part.ensures.part ∙ (λ q. take count (drop (offset % size q) (take c.in-Ok.whole (c.deref.ensures.value q)))) in
-    let given = gives_part gives fails old offset count out padded positions new low decoded (c.copy_part.ensures.some some) (omega (arith, c.copy_part.ensures.few, c.copy_part.auto.out)) part in
+    let given = gives_part gives fails old offset count out padded positions new low decoded (c.copy_part.ensures.some some) (omega (arith, c.copy_part.ensures.few, c.copy_part.auto.out)) part c.in-Ok.ensures.read_on in
     subst (λ (x : Decoding _). GivesDecoded gives fails x offset (take count out)
     (record { geometry = c.read_segment.new.reading.geometry; candidates = new; reading = positions; lacks_memory = old.lacks_memory; failures = old.failures })) c.self.view_is
     (subst (λ h. GivesDecoded gives fails old offset (take count out) (record { geometry = h; candidates = new; reading = positions; lacks_memory = old.lacks_memory; failures = old.failures }))
