@@ -41,7 +41,7 @@ synced_closes closed bytes d r s m t is held durable keeps files = record {
   files = λ i kept has. files i kept (held.files i kept has);
 }
 
-unlike : Unsynced ≡ Synced → ⊥
+pub unlike : Unsynced ≡ Synced → ⊥
 unlike same = subst IsUnsynced same tt
   where
     IsUnsynced : Durability → Type 0

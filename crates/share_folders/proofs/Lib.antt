@@ -8,3 +8,4 @@ pub mod Holding
 pub mod Taking
 pub mod Told
 pub mod FolderSteps
+pub mod Settling

@@ -1,6 +1,7 @@
 -- What an opened store finds by the names in its folder.
 use Rattle.std.specs.Prelude.{◌≡◌, ◌⊎◌, List, ℕ, Option, Some, None, Contains, ⊤}
 use Rattle.disks.specs.Names.{Name}
+use Rattle.disks.specs.Folder.{Folder, IsDurable, StandsFor}
 use Rattle.share_store.specs.Shelf.{ShareKey, at}
 use Rattle.share_folders.specs.declared.table.KeptShare.{KeptShare}
 use Rattle.share_folders.specs.Names.{IsNamed, closed_name}
@@ -15,6 +16,18 @@ pub record IsSole (names : List Name) (key : ShareKey) (digest : List ℕ) : Typ
   pub valid : IsNamed key digest
   pub there : Contains names (closed_name key digest)
   pub alone : IsAlone names key digest
+
+-- None of these is a closed name.
+abbrev pub HaveNoClosed : List Name → Type 0
+HaveNoClosed names = (key : ShareKey) (digest : List ℕ) → IsNamed key digest
+    → Contains names (closed_name key digest) → ⊥
+
+-- Each closed name of these that stands for bytes on the disk is durable.
+abbrev pub AreSettled : List Name → Folder → Folder → Type 0
+AreSettled names s t = (key : ShareKey) (digest bytes : List ℕ) → IsNamed key digest
+    → Contains names (closed_name key digest)
+    → StandsFor s bytes (s.found (closed_name key digest))
+    → IsDurable t (closed_name key digest) bytes
 
 -- Each closed share in the table has its name among these. One that has just one closed name there
 -- is in the table with its digest, and its length was not asked.

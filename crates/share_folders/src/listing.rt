@@ -1,13 +1,16 @@
 //! What a server's folder holds when its store is opened.
 
-ghost use Rattle.std.specs.Prelude.{◌≡◌, ◌∷◌, ◌++◌, [], List, Some, None, false, is_some, map};
+ghost use Rattle.std.specs.Prelude.{◌≡◌, ◌∷◌, ◌++◌, [], ℕ, List, Some, None, false, is_some, map};
 ghost use Rattle.std.specs.Prelude.{IfOk, OnOk};
+ghost use Rattle.std.specs.Bool.{OnFalse};
 ghost use Rattle.std.specs.String.{string_bytes};
 ghost use Rattle.disks.specs.Names.{Name};
 ghost use Rattle.disks.specs.Laws.{StaysHeld};
 ghost use Rattle.share_store.specs.Shelf.{ShareKey, at, same_key};
 ghost use Rattle.share_folders.specs.Folder.{takes_shares};
-ghost use Rattle.share_folders.specs.Listed.{AreTaken, IsEither};
+ghost use Rattle.share_folders.specs.declared.disk.Durability.{Durability};
+ghost use Rattle.share_folders.specs.Listed.{AreSettled, AreTaken, HaveNoClosed, IsEither};
+ghost use Rattle.share_folders.specs.Names.{IsNamed, closed_name};
 
 use crate::disk::{Durability, make_folder, sync_name};
 use crate::files::{as_stored, regular_length};
@@ -149,27 +152,65 @@ pub fn take_names<D: Disk>(
     ensures place { D.place disk.new ≡ D.place disk.old }
     ensures so_far { D.honest disk.new → D.honest disk.old }
     ensures held { D.honest disk.new → StaysHeld (D.folder disk.old) (D.folder disk.new) }
+    ensures settled { D.honest disk.new → durability ≡ Durability.Synced → OnOk result
+        (AreSettled (map string_bytes names.now) (D.folder disk.old) (D.folder disk.new)) }
 {
-    let closed = note_names(alloc, disk, names)?;
-    settle_names(disk, durability, &closed)?;
-    Ok(closed)
+    settle_names(disk, durability, names)?;
+    note_names(alloc, disk, names)
 }
 
-// Synced, puts the names in a folder on the disk, if there are closed shares.
+// Synced, puts the names in a folder on the disk, if a closed share's is among them.
 #[tactic(auto, using(crate::proofs::Closings::held_same))]
 fn settle_names<D: Disk>(
     disk: &mut D,
     durability: Durability,
-    closed: &BTreeMap<ShareKey, KeptShare>,
+    names: &[String],
 ) -> Result<(), StoreError>
     ensures place { D.place disk.new ≡ D.place disk.old }
     ensures so_far { D.honest disk.new → D.honest disk.old }
     ensures held { D.honest disk.new → StaysHeld (D.folder disk.old) (D.folder disk.new) }
+    ensures settled { D.honest disk.new → durability ≡ Durability.Synced → OnOk result
+        (AreSettled (map string_bytes names.now) (D.folder disk.old) (D.folder disk.new)) }
 {
-    if durability == Durability::Unsynced || closed.is_empty() {
+    match durability {
+        Durability::Unsynced => Ok(()),
+        Durability::Synced => settle_closed(disk, names),
+    }
+}
+
+// Puts the names in a folder on the disk, if a closed share's is among them.
+#[tactic(auto, using(crate::proofs::Closings::held_same))]
+fn settle_closed<D: Disk>(disk: &mut D, names: &[String]) -> Result<(), StoreError>
+    ensures place { D.place disk.new ≡ D.place disk.old }
+    ensures so_far { D.honest disk.new → D.honest disk.old }
+    ensures held { D.honest disk.new → StaysHeld (D.folder disk.old) (D.folder disk.new) }
+    ensures settled { D.honest disk.new → OnOk result
+        (AreSettled (map string_bytes names.now) (D.folder disk.old) (D.folder disk.new)) }
+{
+    if !has_closed(names) {
         return Ok(());
     }
     as_stored(sync_names(disk))
+}
+
+// Whether a closed share's name is among these.
+fn has_closed(names: &[String]) -> bool
+    ensures { OnFalse result (HaveNoClosed (map string_bytes names.now)) }
+{
+    for name in names {
+        if is_closed_name(name.as_str()) {
+            return true;
+        }
+    }
+    false
+}
+
+// Whether this is a closed share's name.
+fn is_closed_name(name: &str) -> bool
+    ensures { OnFalse result ((key : ShareKey) (digest : List ℕ) → IsNamed key digest
+        → name.now ≡ closed_name key digest → ⊥) }
+{
+    ClosedName::read(name.as_bytes()).is_some()
 }
 
 // The closed shares of a folder with these names.
