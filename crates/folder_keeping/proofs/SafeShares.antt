@@ -1,6 +1,6 @@
 -- Shares that are safe stay so.
 use Rattle.std.proofs.Common.{◌≡◌, ℕ, true, false, List, length, refl, sym, ap, ◌∙◌, subst, inl, inr, cond}
-use Rattle.std.specs.Prelude.{Option, Some, None, Result, Ok, Err, OnOk, OnErr, unwrap_or, option_map}
+use Rattle.std.specs.Prelude.{Option, Some, None, Result, Ok, Err, OnOk, OnErr, unwrap_or, option_map, Contains}
 use Rattle.std.specs.BTreeMap.{insert_entry}
 use Rattle.std.proofs.lemmas.List.Elements.{All-same, All-weaker}
 use Rattle.wire.specs.declared.message.ShareId.{ShareId}
@@ -22,8 +22,8 @@ use Rattle.share_folders.proofs.Holding.{kept_same, recent_later}
 use Rattle.share_folders.proofs.Lasting.{closed_lasts}
 use Rattle.share_folders.proofs.Taking.{same_share_key}
 use Rattle.folder_keeping.specs.Store.{Facts, StoreState, HasWritten, DiskCloses, DiskStays, IsSyncing}
-use Rattle.folder_keeping.specs.Steps.{Ends, Reopens}
-use Rattle.folder_keeping.specs.Kept.{IsSafe}
+use Rattle.folder_keeping.specs.Steps.{Ends, Reopens, IsOpened}
+use Rattle.folder_keeping.specs.Kept.{FoundAreSafe, IsSafe}
 use Rattle.folder_keeping.proofs.Keys.{apart_back, apart_keys, none_some, same_itself}
 
 pub has_bytes : (s : Folder) (bytes : List ℕ) (o : Option ℕ) → StandsFor s bytes o → HasBytes s bytes o
@@ -148,21 +148,30 @@ durable_ends outlasts s t name bytes (inr left) durable = record {
     file_stands None stands = stands
     file_stands (Some i) stands = left.files i ∙ stands
 
+-- a share that is found, whose name is durable
+safe_found : {D F : Type 0} (d : Facts D F) (disk : D) (t : StoreState D F) (names : List Name) (key : ShareKey) (digest bytes : List ℕ) → IsOpened d disk names t → IsNamed key digest → IsAlone names key digest
+    → Contains names (closed_name key digest) × IsDurable (d.folder t.disk) (closed_name key digest) bytes → IsSafe d t key digest bytes
+safe_found {D} {F} d disk t names key digest bytes is_opened valid alone found = record {
+  valid = valid;
+  has = record {
+    kept = record {
+      size = valid.2.len;
+      noted = record { long = None; there = is_opened.taken.sole key digest (record { valid = valid; there = found.0; alone = alone }); right = tt };
+      stands = has_bytes (d.folder t.disk) bytes _ found.1.now;
+    };
+    last = subst (λ (r : Option (RecentFile F)). RecentHas d.inode (d.folder t.disk) key r bytes) (sym is_opened.recent) tt;
+  };
+  durable = found.1;
+}
+
 pub safe_opened : {D F : Type 0} → DurableOutlasts → (d : Facts D F) (s t : StoreState D F) (names : List Name) (key : ShareKey) (digest bytes : List ℕ) → Reopens d s names t → d.honest t.disk → IsAlone names key digest
     → IsSafe d s key digest bytes → IsSafe d t key digest bytes
-safe_opened {D} {F} outlasts d s t names key digest bytes reopens honest alone safe =
+safe_opened outlasts d s t names key digest bytes reopens honest alone safe =
     let name = closed_name key digest in
-    let found = reopens.is_opened.found honest name bytes (closed_lasts key digest safe.valid.2.len)
-    (durable_ends outlasts (d.folder s.disk) (d.folder reopens.disk) name bytes reopens.ends safe.durable) in
-    record {
-      valid = safe.valid;
-      has = record {
-        kept = record {
-          size = safe.valid.2.len;
-          noted = record { long = None; there = reopens.is_opened.taken.sole key digest (record { valid = safe.valid; there = found.0; alone = alone }); right = tt };
-          stands = has_bytes (d.folder t.disk) bytes _ found.1.now;
-        };
-        last = subst (λ (r : Option (RecentFile F)). RecentHas d.inode (d.folder t.disk) key r bytes) (sym reopens.is_opened.recent) tt;
-      };
-      durable = found.1;
-    }
+    safe_found d reopens.disk t names key digest bytes reopens.is_opened safe.valid alone
+    (reopens.is_opened.found honest name bytes (closed_lasts key digest safe.valid.2.len)
+    (durable_ends outlasts (d.folder s.disk) (d.folder reopens.disk) name bytes reopens.ends safe.durable))
+
+pub found_are_safe : {D F : Type 0} (d : Facts D F) → FoundAreSafe d
+found_are_safe d disk names t is_opened honest synced key digest bytes named stands alone =
+    safe_found d disk t names key digest bytes is_opened named alone (is_opened.settled honest synced key digest bytes named stands)

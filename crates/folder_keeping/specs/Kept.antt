@@ -4,13 +4,15 @@ use Rattle.std.specs.Prelude.{Option, Some, None, IsSome, Ok, Err, IfOk, if◌th
 use Rattle.std.specs.Prelude.{All, Contains, ⊤}
 use Rattle.wire.specs.declared.message.ShareId.{ShareId}
 use Rattle.wire.specs.declared.message.HeldShare.{HeldShare}
-use Rattle.disks.specs.Folder.{IsDurable}
+use Rattle.disks.specs.Names.{Name}
+use Rattle.disks.specs.Folder.{IsDurable, StandsFor}
 use Rattle.share_store.specs.Shelf.{ShareKey, at, is_under, key_of, same_key}
+use Rattle.share_folders.specs.declared.disk.Durability.TheVariants.{Synced}
 use Rattle.share_folders.specs.Listed.{IsAlone}
 use Rattle.share_folders.specs.Names.{IsNamed, IsShareKey, closed_name}
 use Rattle.share_folders.specs.Stored.{AreTwo}
 use Rattle.folder_keeping.specs.Store.{Facts, StoreState, Has, HasWritten, IsSyncing}
-use Rattle.folder_keeping.specs.Steps.{Step, Runs}
+use Rattle.folder_keeping.specs.Steps.{IsOpened, Step, Runs}
 use Rattle.folder_keeping.specs.Steps.{Wrote, Closed, Read, Listed, Restarted, Opened}
 
 -- ---- which calls are orderly
@@ -108,6 +110,16 @@ SafeStay {D} {F} d =
     → d.honest t.disk → IsSyncing s → AreOpen d s known → AreOrderly known steps
     → (key : ShareKey) (digest bytes : List ℕ) → IsSafe d s key digest bytes
     → All (IsFoundAlone key digest) steps → StaysSafe d steps t key digest bytes
+
+-- What a synced store finds when it is opened, with its bytes on the disk, is safe then, where no
+-- other closed name of the share is found.
+abbrev pub FoundAreSafe : {D F : Type 0} → Facts D F → Type 0
+FoundAreSafe {D} {F} d =
+    (disk : D) (names : List Name) (t : StoreState D F) → IsOpened d disk names t
+    → d.honest t.disk → t.durability ≡ Synced
+    → (key : ShareKey) (digest bytes : List ℕ) → IsNamed key digest
+    → StandsFor (d.folder disk) bytes ((d.folder disk).found (closed_name key digest))
+    → IsAlone names key digest → IsSafe d t key digest bytes
 
 -- What a close confirmed is there after each crash: whatever calls, crashes and openings came
 -- before, and whatever came after.

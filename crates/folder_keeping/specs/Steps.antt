@@ -3,13 +3,15 @@ use Rattle.std.specs.Prelude.{◌≡◌, ◌⊎◌, ℕ, List, [], ◌∷◌, No
 use Rattle.wire.specs.declared.message.ShareId.{ShareId}
 use Rattle.wire.specs.declared.message.HeldShare.{HeldShare}
 use Rattle.disks.specs.Names.{Name, lasts}
-use Rattle.disks.specs.Folder.{Folder, Crashes, IsDurable}
+use Rattle.disks.specs.Folder.{Folder, Crashes, IsDurable, StandsFor}
 use Rattle.disks.specs.Steps.{SameFiles}
 use Rattle.share_store.specs.declared.error.StoreError.{StoreError}
-use Rattle.share_store.specs.Shelf.{at, key_of}
+use Rattle.share_store.specs.Shelf.{ShareKey, at, key_of}
+use Rattle.share_folders.specs.declared.disk.Durability.TheVariants.{Synced}
 use Rattle.share_folders.specs.Listed.{AreTaken}
-use Rattle.folder_keeping.specs.Store.{Facts, StoreState, DiskWrites, DiskCloses, DiskReads, IsSyncing}
-use Rattle.folder_keeping.specs.Store.{DiskLists, DiskRestarts}
+use Rattle.share_folders.specs.Names.{IsNamed, closed_name}
+use Rattle.folder_keeping.specs.Store.{Facts, StoreState, DiskWrites, DiskCloses, DiskReads}
+use Rattle.folder_keeping.specs.Store.{DiskLists, DiskRestarts, IsSyncing}
 
 -- A call with what it answered, or the end of a store's program, after which a store is opened that
 -- finds these names in the folder.
@@ -33,7 +35,7 @@ abbrev pub Ends : Folder → Folder → Type 0
 Ends s t = Crashes s t ⊎ IsLeft s t
 
 -- A store was opened over a disk, and found these names. Each that was durable is among them, and
--- is so still.
+-- is so still. A synced store has made durable each closed name that stood for bytes on the disk.
 pub record IsOpened {D F : Type 0} (d : Facts D F) (disk : D) (names : List Name)
     (t : StoreState D F) : Type 0 where
   pub opened : t.opened ≡ []
@@ -43,6 +45,11 @@ pub record IsOpened {D F : Type 0} (d : Facts D F) (disk : D) (names : List Name
   pub found : d.honest t.disk → (name : Name) (bytes : List ℕ) → lasts name ≡ true
       → IsDurable (d.folder disk) name bytes
       → Contains names name × IsDurable (d.folder t.disk) name bytes
+  pub settled : d.honest t.disk → t.durability ≡ Synced → (key : ShareKey) (digest bytes : List ℕ)
+      → IsNamed key digest
+      → StandsFor (d.folder disk) bytes ((d.folder disk).found (closed_name key digest))
+      → Contains names (closed_name key digest)
+      × IsDurable (d.folder t.disk) (closed_name key digest) bytes
 
 -- The disk of the store before was honest to its end, and the one that is opened holds what is
 -- left.

@@ -1,6 +1,7 @@
 -- What the calls of a store over a disk do, as far as its disk is honest.
-use Rattle.std.specs.Prelude.{◌≡◌, ◌==◌, ◌++◌, ℕ, List, [], take, drop, true, Option, Some, None, IsSome}
-use Rattle.std.specs.Prelude.{Result, IfOk, OnErr, OnOk, Contains, if◌then◌else◌, option_map}
+use Rattle.std.specs.Prelude.{◌≡◌, ◌==◌, ◌++◌, ℕ, List, [], take, drop, true, Option, Some, None}
+use Rattle.std.specs.Prelude.{IsSome, Result, IfOk, OnErr, OnOk, Contains, option_map}
+use Rattle.std.specs.Prelude.{if◌then◌else◌}
 use Rattle.std.specs.BTreeMap.{insert_entry}
 use Rattle.wire.specs.declared.message.ShareId.{ShareId}
 use Rattle.wire.specs.declared.message.HeldShare.{HeldShare}

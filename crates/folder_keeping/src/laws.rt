@@ -1,6 +1,6 @@
 //! What holds of every store over a disk. Each law is a contract; its call does nothing.
 
-ghost use Rattle.folder_keeping.specs.Kept.{ConfirmedStay, SafeStay};
+ghost use Rattle.folder_keeping.specs.Kept.{ConfirmedStay, FoundAreSafe, SafeStay};
 
 use disks::disk::Disk;
 use disks::laws::durable_outlasts;
@@ -12,6 +12,11 @@ pub fn safe_stay<D: Disk>()
 {
     durable_outlasts();
 }
+
+/// What a synced store finds when it is opened, with its bytes on the disk, is safe then.
+pub fn found_are_safe<D: Disk>()
+    ensures { FoundAreSafe (record { folder = D.folder; honest = D.honest; inode = D.inode }) }
+{}
 
 /// What a close confirmed is there after each crash.
 pub fn confirmed_stay<D: Disk>()

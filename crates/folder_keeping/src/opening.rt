@@ -3,7 +3,7 @@
 ghost use Rattle.std.specs.Prelude.{◌≡◌, ℕ, List, true, map, Contains, IfOk};
 ghost use Rattle.std.specs.String.{string_bytes};
 ghost use Rattle.disks.specs.Names.{Name, lasts};
-ghost use Rattle.disks.specs.Folder.{IsDurable};
+ghost use Rattle.disks.specs.Folder.{IsDurable, StandsFor};
 ghost use Rattle.folder_keeping.specs.Steps.{IsOpened};
 
 use crate::store::KeptFolder;
@@ -48,13 +48,18 @@ pub fn open<D: Disk + Drop>(
     })
 }
 
-// The names in a folder. Each that is durable is among them, and is so still.
+// The names in a folder. Each that is durable is among them, and is so still; and so is each that
+// stands for bytes on the disk.
 fn list_names<D: Disk>(alloc: Global, disk: &mut D) -> Result<Vec<String>, StoreError>
     ensures so_far { D.honest disk.new → D.honest disk.old }
     ensures found { D.honest disk.new → IfOk result (λ names. (name : Name) (bytes : List ℕ)
         → lasts name ≡ true → IsDurable (D.folder disk.old) name bytes
         → Contains (map string_bytes names.items) name
         × IsDurable (D.folder disk.new) name bytes) }
+    ensures stands { D.honest disk.new → IfOk result (λ names. (name : Name) (bytes : List ℕ)
+        → lasts name ≡ true → StandsFor (D.folder disk.old) bytes ((D.folder disk.old).found name)
+        → Contains (map string_bytes names.items) name
+        × StandsFor (D.folder disk.new) bytes ((D.folder disk.new).found name)) }
 {
     as_stored(disk.list(alloc))
 }

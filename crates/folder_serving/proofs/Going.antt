@@ -18,7 +18,7 @@ use Rattle.folder_keeping.proofs.OpenShares.{none_open}
 use Rattle.folder_keeping.proofs.Running.{contents_on, honest_first, open_run, orderly_on, runs_on, safe_stay, synced_run}
 use Rattle.folder_serving.specs.Serving.{Event, Failed, FolderServer, Happens, HappenAll, HasShareKey}
 use Rattle.folder_serving.specs.Serving.{Asked, Ticked, Restarted, Started}
-use Rattle.folder_serving.specs.Served.{ClosedAreServed, IsAnswered, IsStartedAlone, ServersAreOrderly, StaysServed}
+use Rattle.folder_serving.specs.Served.{ClosedAreServed, SafeAreServed, IsAnswered, IsStartedAlone, ServersAreOrderly, StaysServed}
 use Rattle.folder_serving.proofs.Answering.{answered, closed_so}
 use Rattle.folder_serving.proofs.Asking.{Moves, buckets_fed, none_moved, one_moved, serving_moves}
 use Rattle.folder_serving.proofs.Feeding.{AreFed, filter_fed, none_fed}
@@ -124,3 +124,7 @@ closed_are_served outlasts long d before after from now m r id digest s u v t ha
       served outlasts long d after v t later (key_of id) digest closed.0 happen honest (synced_run d call.steps u.store v.store call.runs synced_u)
           (open_run d call.steps u.store v.store known call.runs at_v shares call.orderly) (call.fed tt) closed.2 alone,
     )
+
+pub safe_are_served : {D F : Type 0} → DurableOutlasts → HashesHave32Bytes → (d : Facts D F) → SafeAreServed d
+safe_are_served outlasts long d events s t happen honest synced none key digest bytes safe alone =
+    served outlasts long d events s t nothing_known key digest bytes happen honest synced (none_open d s.store) (none_fed nothing_known s.buckets none) safe alone

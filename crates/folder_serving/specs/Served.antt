@@ -56,6 +56,15 @@ pub record StaysServed {D F : Type 0} (d : Facts D F) (events : List Event) (t :
   pub safe : IsSafe d t.store key digest bytes
   pub answered : All (IsAnswered key digest bytes) events
 
+-- A share that is safe when a server begins is so from then on, and each answer since then is that
+-- of a server that has it.
+abbrev pub SafeAreServed : {D F : Type 0} → Facts D F → Type 0
+SafeAreServed {D} {F} d =
+    (events : List Event) (s t : FolderServer D F) → HappenAll d events s t
+    → d.honest t.store.disk → IsSyncing s.store → s.buckets ≡ []
+    → (key : ShareKey) (digest bytes : List ℕ) → IsSafe d s.store key digest bytes
+    → All (IsStartedAlone key digest) events → StaysServed d events t key digest bytes
+
 -- A share that a server closes is there after each crash: one that was closed nowhere before it
 -- answered Closed to a Close has bytes with that digest, which are safe from then on, and each
 -- answer since then is that of a server that has them.

@@ -1,7 +1,7 @@
 //! What holds of every server whose store is over a disk. Each law is a contract; its call does
 //! nothing.
 
-ghost use Rattle.folder_serving.specs.Served.{ClosedAreServed, ServersAreOrderly};
+ghost use Rattle.folder_serving.specs.Served.{ClosedAreServed, SafeAreServed, ServersAreOrderly};
 
 use disks::disk::Disk;
 use disks::laws::durable_outlasts;
@@ -15,6 +15,18 @@ pub fn servers_are_orderly<D: Disk>()
       inode = D.inode;
     }) }
 {
+    hashes_have_32_bytes();
+}
+
+/// A share that is safe when a server begins is so from then on, and is answered so.
+pub fn safe_are_served<D: Disk>()
+    ensures { SafeAreServed (record {
+      folder = D.folder;
+      honest = D.honest;
+      inode = D.inode;
+    }) }
+{
+    durable_outlasts();
     hashes_have_32_bytes();
 }
 

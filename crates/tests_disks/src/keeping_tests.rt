@@ -1,10 +1,10 @@
 //! A share is written, closed, listed and read over a folder in memory, by its store and by a server.
 
 use disks::memory::MemoryDisk;
-use folder_keeping::laws::{confirmed_stay, safe_stay};
+use folder_keeping::laws::{confirmed_stay, found_are_safe, safe_stay};
 use folder_keeping::opening::open;
 use folder_keeping::store::KeptFolder;
-use folder_serving::laws::{closed_are_served, servers_are_orderly};
+use folder_serving::laws::{closed_are_served, safe_are_served, servers_are_orderly};
 use server_core::server::{CAPACITY, Server};
 use share_folders::disk::Durability;
 use share_store::error::StoreError;
@@ -134,7 +134,9 @@ fn servers_serve(rt: HostRuntime) -> Result<(), Fail> {
 fn laws_hold(_rt: HostRuntime) -> Result<(), Fail> {
     safe_stay::<MemoryDisk>();
     confirmed_stay::<MemoryDisk>();
+    found_are_safe::<MemoryDisk>();
     servers_are_orderly::<MemoryDisk>();
     closed_are_served::<MemoryDisk>();
+    safe_are_served::<MemoryDisk>();
     Ok(())
 }
