@@ -131,7 +131,10 @@ fn is_text_of(source: &mut ShareSource<KeptShares>, text: &[u8], out: &mut [u8])
         let Some(room) = out.get_mut(..part.len()) else {
             return false;
         };
-        if read_part(source, offset, room) != Ok(()) || *room != *part {
+        if offset > text.len() as u64
+            || read_part(source, offset, room) != Ok(())
+            || *room != *part
+        {
             return false;
         }
         offset = offset.saturating_add(part.len() as u64);
