@@ -1,0 +1,3 @@
+-- what public contracts rest on
+pub mod Ranges
+pub mod Fetches
