@@ -1,0 +1,2 @@
+pub mod FetchRuns
+pub mod ReadLemmas
