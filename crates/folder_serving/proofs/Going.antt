@@ -18,7 +18,7 @@ use Rattle.folder_keeping.proofs.OpenShares.{none_open}
 use Rattle.folder_keeping.proofs.Running.{contents_on, honest_first, open_run, orderly_on, runs_on, safe_stay, synced_run}
 use Rattle.folder_serving.specs.Serving.{Event, Failed, FolderServer, Happens, HappenAll, HasShareKey}
 use Rattle.folder_serving.specs.Serving.{Asked, Ticked, Restarted, Started}
-use Rattle.folder_serving.specs.Served.{ClosedAreServed, SafeAreServed, IsAnswered, IsStartedAlone, ServersAreOrderly, StaysServed}
+use Rattle.folder_serving.specs.Served.{AllSteps, AreStepsOf, ClosedAreServed, SafeAreServed, IsAnswered, IsStartedAlone, ServersAreOrderly, StaysServed}
 use Rattle.folder_serving.proofs.Answering.{answered, closed_so}
 use Rattle.folder_serving.proofs.Asking.{Moves, buckets_fed, none_moved, one_moved, serving_moves}
 use Rattle.folder_serving.proofs.Feeding.{AreFed, filter_fed, none_fed}
@@ -27,14 +27,15 @@ use Rattle.folder_serving.proofs.Feeding.{AreFed, filter_fed, none_fed}
 
 -- the program ended, and a server was started
 started_moves : {D F : Type 0} (long : HashesHave32Bytes) (d : Facts D F) (names : List Name) (s last t : FolderServer D F) (known : Contents) → AreFed s.buckets known → (last ≡ s) ⊎ Failed d s last
-    → Reopens d last.store names t.store → t.buckets ≡ [] → Moves d s t known ⊤ (λ key digest. IsStartedAlone key digest (Started names))
+    → Reopens d last.store names t.store → t.buckets ≡ [] → Moves d s t known ⊤ (λ key digest. IsStartedAlone key digest (Started names)) (AreStepsOf d s (Started names))
 started_moves {D} {F} long d names s last t known fed (inl same) reopens none =
-    one_moved d s t known ⊤ _ (keeping.Opened names) (subst (λ (w : FolderServer D F). Reopens d w.store names t.store) same reopens) tt (λ had. none_fed nothing_known t.buckets none) (λ key digest alone. alone)
+    one_moved d s t known ⊤ _ (AreStepsOf d s (Started names)) (keeping.Opened names) ([], refl) (subst (λ (w : FolderServer D F). Reopens d w.store names t.store) same reopens) tt (λ had. none_fed nothing_known t.buckets none) (λ key digest alone. alone)
 started_moves long d names s last t known fed (inr failed) reopens none =
     let call = serving_moves long d s last failed.from failed.message failed.now (Err OutOfMemory) known fed failed.serving in
     let opening : List Step = keeping.Opened names ∷ [] in
     record {
       steps = call.steps ++ opening;
+      made = (call.steps, refl);
       runs = runs_on d call.steps opening s.store last.store t.store call.runs (t.store, reopens, refl);
       orderly = orderly_on known call.steps opening call.orderly (tt, tt);
       fed = λ had. none_fed (contents_by (call.steps ++ opening) known) t.buckets none;
@@ -43,14 +44,14 @@ started_moves long d names s last t known fed (inr failed) reopens none =
     }
 
 event_moves : {D F : Type 0} (long : HashesHave32Bytes) (d : Facts D F) (event : Event) (s t : FolderServer D F) (known : Contents) → Happens d event s t → AreFed s.buckets known
-    → Moves d s t known ⊤ (λ key digest. IsStartedAlone key digest event)
+    → Moves d s t known ⊤ (λ key digest. IsStartedAlone key digest event) (AreStepsOf d s event)
 event_moves long d (Asked from m now outcome) s t known happens fed =
     let call = serving_moves long d s t from m now outcome known fed happens.0 in
-    record { steps = call.steps; runs = call.runs; orderly = call.orderly; fed = λ had. call.fed happens.1; alone = λ key digest alone. call.alone key digest tt }
+    record { steps = call.steps; made = call.made; runs = call.runs; orderly = call.orderly; fed = λ had. call.fed happens.1; alone = λ key digest alone. call.alone key digest tt }
 event_moves long d (Ticked now) s t known happens fed =
-    none_moved d s t known ⊤ _ happens.after.store (λ had. buckets_fed _ t.buckets known happens.after.buckets (filter_fed known s.buckets (is_fresh_at (max s.clock now)) fed))
+    none_moved d s t known ⊤ _ (AreStepsOf d s (Ticked now)) refl happens.after.store (λ had. buckets_fed _ t.buckets known happens.after.buckets (filter_fed known s.buckets (is_fresh_at (max s.clock now)) fed))
 event_moves long d Restarted s t known happens fed =
-    one_moved d s t known ⊤ _ keeping.Restarted happens.store tt (λ had. none_fed nothing_known t.buckets happens.buckets) (λ key digest alone. tt)
+    one_moved d s t known ⊤ _ (AreStepsOf d s Restarted) keeping.Restarted refl happens.store tt (λ had. none_fed nothing_known t.buckets happens.buckets) (λ key digest alone. tt)
 event_moves long d (Started names) s t known happens fed = started_moves long d names s happens.last t known fed happens.ended happens.store happens.buckets
 
 -- what it answers of a share that is safe
@@ -67,15 +68,16 @@ event_answered d (Started names) s t key digest bytes happens honest safe = tt
 -- ---- all of them
 
 all_move : {D F : Type 0} (long : HashesHave32Bytes) (d : Facts D F) (events : List Event) (s t : FolderServer D F) (known : Contents) → HappenAll d events s t → AreFed s.buckets known
-    → Moves d s t known ⊤ (λ key digest. ⊥)
+    → Moves d s t known ⊤ (λ key digest. ⊥) (AllSteps d events s t)
 all_move {D} {F} long d [] s t known happen fed =
-    none_moved d s t known ⊤ _ (ap (λ (w : FolderServer D F). w.store) happen) (λ had. buckets_fed s.buckets t.buckets known (ap (λ (w : FolderServer D F). w.buckets) happen) fed)
+    none_moved d s t known ⊤ _ (AllSteps d [] s t) (happen, refl) (ap (λ (w : FolderServer D F). w.store) happen) (λ had. buckets_fed s.buckets t.buckets known (ap (λ (w : FolderServer D F). w.buckets) happen) fed)
 all_move long d (event ∷ events) s t known happen fed =
     let m = happen.0 in
     let first = event_moves long d event s m known happen.1 fed in
     let then = all_move long d events m t (contents_by first.steps known) happen.2 (first.fed tt) in
     record {
       steps = first.steps ++ then.steps;
+      made = (m, happen.1, (first.steps, first.made, (then.steps, refl, then.made)));
       runs = runs_on d first.steps then.steps s.store m.store t.store first.runs then.runs;
       orderly = orderly_on known first.steps then.steps first.orderly then.orderly;
       fed = λ had. subst (λ (k : Contents). AreFed t.buckets k) (sym (contents_on known first.steps then.steps)) (then.fed tt);
@@ -85,7 +87,7 @@ all_move long d (event ∷ events) s t known happen fed =
 pub servers_are_orderly : {D F : Type 0} → HashesHave32Bytes → (d : Facts D F) → ServersAreOrderly d
 servers_are_orderly long d events s t happen none =
     let all = all_move long d events s t nothing_known happen (none_fed nothing_known s.buckets none) in
-    (all.steps, all.runs, all.orderly)
+    (all.steps, all.made, all.runs, all.orderly)
 
 -- a share that is safe is so after each event
 served : {D F : Type 0} (outlasts : DurableOutlasts) (long : HashesHave32Bytes) (d : Facts D F) (events : List Event) (s t : FolderServer D F) (known : Contents) (key : ShareKey) (digest bytes : List ℕ)

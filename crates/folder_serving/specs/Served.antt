@@ -1,6 +1,6 @@
 -- What servers over one folder do.
 use Rattle.std.specs.Prelude.{◌≡◌, ℕ, Bool, List, [], take, drop, true, Some, None, Ok, All}
-use Rattle.std.specs.Prelude.{Contains, ⊤}
+use Rattle.std.specs.Prelude.{◌∷◌, ◌++◌, Result, Contains, ⊤}
 use Rattle.wire.specs.declared.message.Body.{Body}
 use Rattle.wire.specs.declared.message.Body.TheVariants.{Ask, Have, Allocate, Already, Write, Close}
 use Rattle.wire.specs.declared.message.Body.TheVariants.{Closed, Read, Data}
@@ -8,19 +8,56 @@ use Rattle.wire.specs.declared.message.HeldShare.{HeldShare}
 use Rattle.wire.specs.declared.message.Message.{Message}
 use Rattle.wire.specs.declared.message.ShareId.{ShareId}
 use Rattle.tagged_hash.specs.TaggedHash.{share_digest}
+use Rattle.share_store.specs.declared.error.StoreError.{StoreError}
+use Rattle.server_core.specs.Buckets.{bytes_so_far}
+use Rattle.server_core.specs.ServerState.{Line, line_of}
+use Rattle.server_core.specs.ServerState.{ListsHoldings, WritesBytes, ClosesShare, ReadsShare}
 use Rattle.share_store.specs.Shelf.{ShareKey, at, is_under, key_of}
 use Rattle.share_folders.specs.Listed.{IsAlone}
-use Rattle.folder_keeping.specs.Store.{Facts, IsSyncing}
+use Rattle.folder_keeping.specs.Store.{Facts, IsSyncing, disk_calls}
+use Rattle.folder_keeping.specs.Steps as keeping
 use Rattle.folder_keeping.specs.Steps.{Step, Runs}
 use Rattle.folder_keeping.specs.Kept.{AreOrderly, IsSafe, nothing_known}
 use Rattle.folder_serving.specs.Serving.{Event, FolderServer, Happens, HappenAll}
-use Rattle.folder_serving.specs.Serving.{Asked, Started}
+use Rattle.folder_serving.specs.Serving.{Asked, Ticked, Restarted, Started}
+
+-- the calls of its store that a line of the server's table makes
+abbrev pub AreCallsOf : Line → List Step → Type 0
+AreCallsOf (ListsHoldings index) steps =
+    (r : Result (List HeldShare) StoreError) × (steps ≡ keeping.Listed index r ∷ [])
+AreCallsOf (WritesBytes id b bytes) steps =
+    (r : Result Unit StoreError) × (steps ≡ keeping.Wrote id (bytes_so_far b) bytes r ∷ [])
+AreCallsOf (ClosesShare id digest) steps =
+    (r : Result Unit StoreError) × (steps ≡ keeping.Closed id digest r ∷ [])
+AreCallsOf (ReadsShare id offset len) steps =
+    (r : Result (List ℕ) StoreError) × (steps ≡ keeping.Read id offset len r ∷ [])
+AreCallsOf _ steps = steps ≡ []
+
+-- what an event does to a store: a message makes the calls of its line, and a server that is
+-- started is opened, behind the calls of a message for which there was no memory
+abbrev pub AreStepsOf : {D F : Type 0} → Facts D F → FolderServer D F → Event → List Step → Type 0
+AreStepsOf d s (Asked from m now outcome) steps =
+    AreCallsOf (line_of (disk_calls d) s from m.session m.body) steps
+AreStepsOf d s (Ticked now) steps = steps ≡ []
+AreStepsOf d s Restarted steps = steps ≡ keeping.Restarted ∷ []
+AreStepsOf d s (Started names) steps =
+    (last : List Step) × (steps ≡ last ++ keeping.Opened names ∷ [])
+
+-- These are all the steps of the stores, event by event.
+abbrev pub AllSteps : {D F : Type 0} → Facts D F → List Event → FolderServer D F
+    → FolderServer D F → List Step → Type 0
+AllSteps d [] s t steps = (t ≡ s) × (steps ≡ [])
+AllSteps {D} {F} d (event ∷ events) s t steps =
+    (m : FolderServer D F) × Happens d event s m
+    × ((first : List Step) × AreStepsOf d s event first
+    × ((rest : List Step) × (steps ≡ first ++ rest) × AllSteps d events m t rest))
 
 -- All that servers do to their stores are orderly calls, from one on that has no bucket.
 abbrev pub ServersAreOrderly : {D F : Type 0} → Facts D F → Type 0
 ServersAreOrderly {D} {F} d =
     (events : List Event) (s t : FolderServer D F) → HappenAll d events s t → s.buckets ≡ []
-    → (steps : List Step) × Runs d steps s.store t.store × AreOrderly nothing_known steps
+    → (steps : List Step) × AllSteps d events s t steps × Runs d steps s.store t.store
+    × AreOrderly nothing_known steps
 
 -- a list names this share with this digest
 abbrev pub Names : ShareKey → List ℕ → Body → Type 0
