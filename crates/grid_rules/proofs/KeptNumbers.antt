@@ -9,12 +9,12 @@ use Rattle.download_core.specs.Refusals as download_errors
 use Rattle.file_encoding.specs.declared.error.EncodeError.{EncodeError}
 use Rattle.file_encoding.specs.declared.error.EncodeError.TheVariants as encodings
 use Rattle.file_encoding.specs.Refusals.{encode_refusal_number}
+use Rattle.file_remaking.specs.declared.error.RemakeError.{RemakeError}
+use Rattle.file_remaking.specs.declared.error.RemakeError.TheVariants as remaking
+use Rattle.file_remaking.specs.RemakeError as remake_errors
 use Rattle.file_streaming.specs.declared.error.PrepareError.{PrepareError}
 use Rattle.file_streaming.specs.declared.error.PrepareError.TheVariants as preparing
 use Rattle.file_streaming.specs.PrepareError as prepare_errors
-use Rattle.file_upload.specs.declared.repair.RepairError.{RepairError}
-use Rattle.file_upload.specs.declared.repair.RepairError.TheVariants as repairs
-use Rattle.file_upload.specs.RepairError as repair_errors
 use Rattle.local_grid.specs.declared.error.LoopError.{LoopError}
 use Rattle.local_grid.specs.declared.error.LoopError.TheVariants as loops
 use Rattle.local_grid.specs.Refusals as loop_errors
@@ -23,7 +23,7 @@ use Rattle.upload_core.specs.declared.pieces.PieceFault.TheVariants as pieces
 use Rattle.upload_core.specs.PieceFault as piece_faults
 use Rattle.grid_faults.specs.Fault.{fault_number, fault_of_cap}
 use Rattle.grid_rules.specs.Becoming.{fault_of_download, fault_of_encoding, fault_of_loop}
-use Rattle.grid_rules.specs.Becoming.{fault_of_piece, fault_of_preparing, fault_of_repair}
+use Rattle.grid_rules.specs.Becoming.{fault_of_piece, fault_of_preparing, fault_of_remaking}
 use Rattle.grid_rules.specs.KeptNumbers.{NumbersAreKept}
 
 kept_cap : (e : CapError) → fault_number (fault_of_cap e) ≡ number_of e
@@ -53,11 +53,12 @@ kept_preparing preparing.TooManySegments = refl
 kept_preparing preparing.SourceChanged = refl
 kept_preparing preparing.SourceFault = refl
 
-kept_repair : (e : RepairError) → fault_number (fault_of_repair e) ≡ repair_errors.refusal_number e
-kept_repair repairs.OutOfMemory = refl
-kept_repair repairs.BadParameters = refl
-kept_repair repairs.NotEnoughShares = refl
-kept_repair repairs.Inconsistent = refl
+kept_remaking : (e : RemakeError) → fault_number (fault_of_remaking e) ≡ remake_errors.remake_number e
+kept_remaking remaking.OutOfMemory = refl
+kept_remaking remaking.TooLarge = refl
+kept_remaking remaking.Inconsistent = refl
+kept_remaking remaking.SourceChanged = refl
+kept_remaking remaking.SourceFault = refl
 
 kept_download : (e : DownloadError) → fault_number (fault_of_download e) ≡ download_errors.refusal_number e
 kept_download downloads.OutOfMemory = refl
@@ -73,7 +74,7 @@ numbers_are_kept = record {
   piece = kept_piece;
   encoding = kept_encoding;
   preparing = kept_preparing;
-  repair = kept_repair;
+  remaking = kept_remaking;
   download = kept_download;
   loop = kept_loop;
 }

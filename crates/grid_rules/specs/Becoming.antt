@@ -3,14 +3,14 @@ use Rattle.download_core.specs.declared.status.DownloadError.{DownloadError}
 use Rattle.download_core.specs.declared.status.DownloadError.TheVariants as downloads
 use Rattle.file_encoding.specs.declared.error.EncodeError.{EncodeError}
 use Rattle.file_encoding.specs.declared.error.EncodeError.TheVariants as encodings
+use Rattle.file_remaking.specs.declared.error.RemakeError.{RemakeError}
+use Rattle.file_remaking.specs.declared.error.RemakeError.TheVariants as remaking
 use Rattle.file_streaming.specs.declared.error.PrepareError.{PrepareError}
 use Rattle.file_streaming.specs.declared.error.PrepareError.TheVariants as preparing
-use Rattle.file_upload.specs.declared.repair.RepairError.{RepairError}
-use Rattle.file_upload.specs.declared.repair.RepairError.TheVariants as repairs
 use Rattle.grid_faults.specs.declared.fault.Fault.{Fault}
 use Rattle.grid_faults.specs.declared.fault.Fault.TheVariants.{OutOfMemory, BadParameters}
 use Rattle.grid_faults.specs.declared.fault.Fault.TheVariants.{TooLarge, TooManySegments}
-use Rattle.grid_faults.specs.declared.fault.Fault.TheVariants.{NotEnoughShares, Inconsistent}
+use Rattle.grid_faults.specs.declared.fault.Fault.TheVariants.{Inconsistent}
 use Rattle.grid_faults.specs.declared.fault.Fault.TheVariants.{BadRange, TurnLimit}
 use Rattle.grid_faults.specs.declared.fault.Fault.TheVariants.{SourceChanged, SourceFault}
 use Rattle.local_grid.specs.declared.error.LoopError.{LoopError}
@@ -39,12 +39,13 @@ fault_of_preparing preparing.TooManySegments = TooManySegments
 fault_of_preparing preparing.SourceChanged = SourceChanged
 fault_of_preparing preparing.SourceFault = SourceFault
 
--- the fault that the refusal of a repair becomes
-abbrev pub fault_of_repair : RepairError → Fault
-fault_of_repair repairs.OutOfMemory = OutOfMemory
-fault_of_repair repairs.BadParameters = BadParameters
-fault_of_repair repairs.NotEnoughShares = NotEnoughShares
-fault_of_repair repairs.Inconsistent = Inconsistent
+-- the fault that the refusal to make shares anew becomes
+abbrev pub fault_of_remaking : RemakeError → Fault
+fault_of_remaking remaking.OutOfMemory = OutOfMemory
+fault_of_remaking remaking.TooLarge = TooLarge
+fault_of_remaking remaking.Inconsistent = Inconsistent
+fault_of_remaking remaking.SourceChanged = SourceChanged
+fault_of_remaking remaking.SourceFault = SourceFault
 
 -- the fault that the refusal of a download's start becomes
 abbrev pub fault_of_download : DownloadError → Fault

@@ -3,13 +3,13 @@
 
 ghost use Rattle.std.specs.Prelude.{◌≡◌};
 ghost use Rattle.grid_rules.specs.Becoming.{fault_of_download, fault_of_encoding, fault_of_loop};
-ghost use Rattle.grid_rules.specs.Becoming.{fault_of_piece, fault_of_preparing, fault_of_repair};
+ghost use Rattle.grid_rules.specs.Becoming.{fault_of_piece, fault_of_preparing, fault_of_remaking};
 ghost use Rattle.grid_rules.specs.KeptNumbers.{NumbersAreKept};
 
 use download_core::status::DownloadError;
 use file_encoding::EncodeError;
+use file_remaking::RemakeError;
 use file_streaming::PrepareError;
-use file_upload::repair::RepairError;
 use grid_faults::Fault;
 use local_grid::error::LoopError;
 use upload_core::pieces::PieceFault;
@@ -56,15 +56,16 @@ pub fn fault_of_preparing(error: PrepareError) -> Fault
     }
 }
 
-/// The fault that the refusal of a repair becomes.
-pub fn fault_of_repair(error: RepairError) -> Fault
-    ensures { result ≡ fault_of_repair error }
+/// The fault that the refusal to make shares anew becomes.
+pub fn fault_of_remaking(error: RemakeError) -> Fault
+    ensures { result ≡ fault_of_remaking error }
 {
     match error {
-        RepairError::OutOfMemory => Fault::OutOfMemory,
-        RepairError::BadParameters => Fault::BadParameters,
-        RepairError::NotEnoughShares => Fault::NotEnoughShares,
-        RepairError::Inconsistent => Fault::Inconsistent,
+        RemakeError::OutOfMemory => Fault::OutOfMemory,
+        RemakeError::TooLarge => Fault::TooLarge,
+        RemakeError::Inconsistent => Fault::Inconsistent,
+        RemakeError::SourceChanged => Fault::SourceChanged,
+        RemakeError::SourceFault => Fault::SourceFault,
     }
 }
 

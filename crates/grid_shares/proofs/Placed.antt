@@ -1,5 +1,5 @@
 -- What the end of an upload comes to.
-use Rattle.std.proofs.Common.{◌≡◌, ℕ, List, map, Result, Ok, IfOk, sym, subst, ◌∙◌}
+use Rattle.std.proofs.Common.{◌≡◌, ℕ, List, [], map, Result, Ok, IfOk, sym, subst, ◌∙◌}
 use Rattle.std.proofs.lemmas.Result.{IfOk-weaker}
 use Rattle.request_record.specs.Operations.{OperationCalls}
 use Rattle.share_store.specs.Calls.{Calls}
@@ -69,12 +69,12 @@ module _ {P L : Type 0} (operation : OperationCalls (Uploading P)) (carries : Ca
   used_as happiness used same u = subst (λ (s : List ℕ). AreUploaded operation carries grid s made happiness) same u
 
   -- what is told of shares that were placed on the first servers
-  pub put_of : (count : ℕ) (mend : Bool) (used : List ℕ) (s : Stored) (cap : ReadCapValue) (quiet : Bool) → used ≡ range_with_len 0 count → ArePlaced operation carries grid mend used made s
+  pub put_of : (count : ℕ) (mend : Bool) (used : List ℕ) (s : Stored) (cap : ReadCapValue) (quiet : Bool) → used ≡ range_with_len 0 count → ArePlaced operation carries grid mend [] used made s
       → (outcome : Outcome) → IsToldOf cap quiet s outcome → IsPutOf operation carries grid mend made cap quiet outcome
   put_of count mend used s cap quiet first placed outcome told = record {
     count = count;
     stored = s;
-    placed = subst (λ (x : List ℕ). ArePlaced operation carries grid mend x made s) first placed;
+    placed = subst (λ (x : List ℕ). ArePlaced operation carries grid mend [] x made s) first placed;
     told = told;
   }
 

@@ -4,7 +4,6 @@ use Rattle.std.proofs.Common.{MatchResult, is_ok, true≢false}
 use Rattle.std.specs.Option.{ok_or}
 use Rattle.cap_text.specs.Cap.{VerifyCapValue}
 use Rattle.share_folders.specs.Folder.{FolderState, folder_calls}
-use Rattle.checker.specs.Good.{AreGoodShares}
 use Rattle.checker.specs.Moves.{Begins}
 use Rattle.checker.specs.Report.{IsReport}
 use Rattle.checker.specs.State.{CheckState}
@@ -14,7 +13,7 @@ use Rattle.local_grid.specs.Turns.{GridState}
 use Rattle.carried_operations.specs.Checked.{IsCarried}
 use Rattle.grid_servers.specs.Opened.{AreOpened}
 use Rattle.grid_shares.specs.Checks.{IsChecked}
-use Rattle.grid_shares.specs.Repairs.{AreFoundBy, IsRepairBy, IsRepairFor, IsRepairOf}
+use Rattle.grid_shares.specs.Repairs.{IsRepairBy, IsRepairFor, IsRepairOf}
 use Rattle.grid_shares.specs.Checks.{verify_of}
 use Rattle.grid_words.specs.declared.words.RepairWords.{RepairWords}
 use Rattle.grid_faults.specs.declared.fault.Fault.{Fault}
@@ -29,6 +28,10 @@ use Rattle.grid_shares.specs.declared.Outcome.{Outcome}
 pub told_ok : {A E : Type 0} (o : Option A) (e : E) (r : Result A E) (P Q : A → Type 0) → r ≡ ok_or o e → ((a : A) → P a → Q a) → IfSome o P → IfOk r Q
 told_ok (Some a) e r P Q is weaker p = subst (λ (x : Result _ _). IfOk x Q) (sym is) (weaker a p)
 told_ok None e r P Q is weaker p = subst (λ (x : Result _ _). IfOk x Q) (sym is) tt
+
+-- the same of the value that is handed out
+pub told_value : {A E : Type 0} (o : Option A) (e : E) (r : Result A E) (a : A) (P Q : A → Type 0) → r ≡ ok_or o e → r ≡ Ok a → ((b : A) → P b → Q b) → IfSome o P → Q a
+told_value o e r a P Q is was weaker p = subst (λ (x : Result _ _). IfOk x Q) was (told_ok o e r P Q is weaker p)
 
 -- what holds of a value still holds where an error beside it becomes another
 pub still_ok : {X E F : Type 0} (r : Result X E) (s : Result X F) (P : X → Type 0) (Q : E → Type 0)
@@ -50,21 +53,6 @@ module _ {L : Type 0} (carries : Carries L) (grid : List ℕ) (cap : VerifyCapVa
     after = after;
     carried = carried;
     report = subst (λ (x : VerifyCapValue). IsReport x ended.requests.entries r) (carried.cap ∙ begins.of_cap) report;
-  }
-
-  -- good shares that a check found
-  pub found_by : (begun ended : CheckState) (before after : GridState FolderState L) (now : ℕ) → AreOpened grid before → now ≡ before.clock → Begins cap servers 1 now begun
-      → IsCarried folder_calls carries begun before ended after
-      → (numbers : List ℕ) (strings : List (List ℕ)) → AreGoodShares ended.cap ended.requests.entries numbers strings → AreFoundBy carries grid cap servers numbers strings
-  found_by begun ended before after now opened clock begins carried numbers strings good = record {
-    before = before;
-    opened = opened;
-    begun = begun;
-    begins = subst (λ (n : ℕ). Begins cap servers 1 n begun) clock begins;
-    ended = ended;
-    after = after;
-    carried = carried;
-    good = subst (λ (x : VerifyCapValue). AreGoodShares x ended.requests.entries numbers strings) (carried.cap ∙ begins.of_cap) good;
   }
 
 -- what a repair tells by its words

@@ -7,7 +7,9 @@ use Rattle.share_scrub.specs.declared.mending.Cleared.{Cleared}
 use Rattle.share_scrub.specs.declared.mending.LeftShare.{LeftShare}
 use Rattle.share_scrub.specs.Clearing.{IsCleared}
 use Rattle.grid_shares.specs.declared.mending.Way.{Way}
-use Rattle.grid_shares.specs.Ways.{AreWays, IsWay, ServerWay, is_stuck, stuck_by, way_by}
+use Rattle.grid_shares.specs.Ways.{AreCleared, IsWanted, IsWay, ServerWay, is_stuck, read_at, stuck_by, way_by}
+use Rattle.share_fetching.specs.declared.range.SharePlace.{SharePlace}
+use Rattle.upload_core.specs.State.{Goal}
 
 -- what clearing the way at a server came to
 pub way_is : (wanted : Wanted) (cleared : Cleared) (acts : List Act) (way : Way) → IsCleared wanted cleared acts → way ≡ way_by cleared.left.items → IsWay wanted way
@@ -16,38 +18,41 @@ way_is wanted cleared acts way c is = subst (IsWay wanted) (sym is) (by cleared.
   by [] e = record { acts = acts; cleared = cleared; is_cleared = c; is = sym (ap way_by e) }
   by (share ∷ more) e = record { acts = acts; cleared = cleared; is_cleared = c; is = sym (ap way_by e) }
 
-pub ways_none : (wanted : Wanted) → AreWays wanted [] []
-ways_none wanted = record { entries = []; servers_are = refl; each = tt; stuck_are = refl }
+module _ (goal : Goal) (mend : Bool) (reading : List SharePlace) where
+  pub cleared_none : AreCleared goal mend reading [] []
+  cleared_none = record { entries = []; servers_are = refl; wanted = tt; each = tt; stuck_are = refl }
 
-module _ (wanted : Wanted) (server : ℕ) (way : Way) where
-  abbrev one : ServerWay
-  one = record { server = server; way = way }
+  module _ (wanted : Wanted) (server : ℕ) (way : Way) where
+    abbrev one : ServerWay
+    one = record { server = server; way = way; wanted = wanted }
 
-  servers_more : (entries : List ServerWay) → map (λ (e : ServerWay). e.server) (entries ++ one ∷ []) ≡ map (λ (e : ServerWay). e.server) entries ++ server ∷ []
-  servers_more [] = refl
-  servers_more (e ∷ es) = ap (λ (xs : List ℕ). e.server ∷ xs) (servers_more es)
+    servers_more : (entries : List ServerWay) → map (λ (e : ServerWay). e.server) (entries ++ one ∷ []) ≡ map (λ (e : ServerWay). e.server) entries ++ server ∷ []
+    servers_more [] = refl
+    servers_more (e ∷ es) = ap (λ (xs : List ℕ). e.server ∷ xs) (servers_more es)
 
-  each_more : (entries : List ServerWay) → AllByRecursion (λ (e : ServerWay). IsWay wanted e.way) entries → IsWay wanted way → AllByRecursion (λ (e : ServerWay). IsWay wanted e.way) (entries ++ one ∷ [])
-  each_more [] a w = (w, tt)
-  each_more (e ∷ es) a w = (a.0, each_more es a.1 w)
+    each_more : (P : ServerWay → Type 0) (entries : List ServerWay) → AllByRecursion P entries → P one → AllByRecursion P (entries ++ one ∷ [])
+    each_more P [] a w = (w, tt)
+    each_more P (e ∷ es) a w = (a.0, each_more P es a.1 w)
 
-  stuck_more : (entries : List ServerWay) → map (λ (e : ServerWay). e.server) (filter (λ (e : ServerWay). is_stuck e.way) (entries ++ one ∷ []))
-      ≡ map (λ (e : ServerWay). e.server) (filter (λ (e : ServerWay). is_stuck e.way) entries) ++ stuck_by server way
-  stuck_more [] = by (is_stuck way) where
-    by : (b : Bool) → map (λ (e : ServerWay). e.server) (cond b (record { server = server; way = way } ∷ []) []) ≡ cond b (server ∷ []) []
-    by true = refl
-    by false = refl
-  stuck_more (e ∷ es) = by (is_stuck e.way) (stuck_more es) where
-    by : (b : Bool) → map (λ (x : ServerWay). x.server) (filter (λ (x : ServerWay). is_stuck x.way) (es ++ one ∷ [])) ≡ map (λ (x : ServerWay). x.server) (filter (λ (x : ServerWay). is_stuck x.way) es) ++ stuck_by server way
-        → map (λ (x : ServerWay). x.server) (cond b (e ∷ filter (λ (x : ServerWay). is_stuck x.way) (es ++ one ∷ [])) (filter (λ (x : ServerWay). is_stuck x.way) (es ++ one ∷ [])))
-        ≡ map (λ (x : ServerWay). x.server) (cond b (e ∷ filter (λ (x : ServerWay). is_stuck x.way) es) (filter (λ (x : ServerWay). is_stuck x.way) es)) ++ stuck_by server way
-    by true h = ap (λ (xs : List ℕ). e.server ∷ xs) h
-    by false h = h
+    stuck_more : (entries : List ServerWay) → map (λ (e : ServerWay). e.server) (filter (λ (e : ServerWay). is_stuck e.way) (entries ++ one ∷ []))
+        ≡ map (λ (e : ServerWay). e.server) (filter (λ (e : ServerWay). is_stuck e.way) entries) ++ stuck_by server way
+    stuck_more [] = by (is_stuck way) where
+      by : (b : Bool) → map (λ (e : ServerWay). e.server) (cond b (one ∷ []) []) ≡ cond b (server ∷ []) []
+      by true = refl
+      by false = refl
+    stuck_more (e ∷ es) = by (is_stuck e.way) (stuck_more es) where
+      by : (b : Bool) → map (λ (x : ServerWay). x.server) (filter (λ (x : ServerWay). is_stuck x.way) (es ++ one ∷ [])) ≡ map (λ (x : ServerWay). x.server) (filter (λ (x : ServerWay). is_stuck x.way) es) ++ stuck_by server way
+          → map (λ (x : ServerWay). x.server) (cond b (e ∷ filter (λ (x : ServerWay). is_stuck x.way) (es ++ one ∷ [])) (filter (λ (x : ServerWay). is_stuck x.way) (es ++ one ∷ [])))
+          ≡ map (λ (x : ServerWay). x.server) (cond b (e ∷ filter (λ (x : ServerWay). is_stuck x.way) es) (filter (λ (x : ServerWay). is_stuck x.way) es)) ++ stuck_by server way
+      by true h = ap (λ (xs : List ℕ). e.server ∷ xs) h
+      by false h = h
 
-  pub ways_more : (servers stuck : List ℕ) → AreWays wanted servers stuck → IsWay wanted way → AreWays wanted (servers ++ server ∷ []) (stuck ++ stuck_by server way)
-  ways_more servers stuck a w = record {
-    entries = a.entries ++ record { server = server; way = way } ∷ [];
-    servers_are = servers_more a.entries ∙ ap (λ (xs : List ℕ). xs ++ server ∷ []) a.servers_are;
-    each = each_more a.entries a.each w;
-    stuck_are = ap (λ (xs : List ℕ). xs ++ stuck_by server way) a.stuck_are ∙ sym (stuck_more a.entries);
-  }
+    pub cleared_more : (servers stuck : List ℕ) → AreCleared goal mend reading servers stuck → IsWanted goal mend (read_at reading server) wanted → IsWay wanted way
+        → AreCleared goal mend reading (servers ++ server ∷ []) (stuck ++ stuck_by server way)
+    cleared_more servers stuck a held w = record {
+      entries = a.entries ++ record { server = server; way = way; wanted = wanted } ∷ [];
+      servers_are = servers_more a.entries ∙ ap (λ (xs : List ℕ). xs ++ server ∷ []) a.servers_are;
+      wanted = each_more (λ (e : ServerWay). IsWanted goal mend (read_at reading e.server) e.wanted) a.entries a.wanted held;
+      each = each_more (λ (e : ServerWay). IsWay e.wanted e.way) a.entries a.each w;
+      stuck_are = ap (λ (xs : List ℕ). xs ++ stuck_by server way) a.stuck_are ∙ sym (stuck_more a.entries);
+    }

@@ -4,6 +4,7 @@ use Rattle.request_record.specs.Operations.{OperationCalls}
 use Rattle.upload_core.specs.Moves.{Begins}
 use Rattle.upload_core.specs.Ready.{Ready}
 use Rattle.upload_core.specs.Sending.{Uploading}
+use Rattle.share_fetching.specs.declared.range.SharePlace.{SharePlace}
 use Rattle.share_folders.specs.Folder.{FolderState, folder_calls}
 use Rattle.local_grid.specs.Nodes.{Carries}
 use Rattle.local_grid.specs.Turns.{GridState}
@@ -28,13 +29,13 @@ pub record AreUploaded {P L : Type 0} (operation : OperationCalls (Uploading P))
   pub stored : IsStored operation folder_calls carries begun before after happiness
 
 -- Shares were placed on servers of a grid. The way was cleared for them at each, by their digests
--- too where they are to be mended, and they were uploaded to all but those at which a share was
--- left; it is told whether there were some.
+-- too where they are to be mended, but for shares that are read for it; and they were uploaded to
+-- all but those at which a share was left; it is told whether there were some.
 pub record ArePlaced {P L : Type 0} (operation : OperationCalls (Uploading P))
-    (carries : Carries L) (grid : List ℕ) (mend : Bool) (servers : List ℕ) (made : Ready P)
-    (stored : Stored) : Type 0 where
+    (carries : Carries L) (grid : List ℕ) (mend : Bool) (reading : List SharePlace)
+    (servers : List ℕ) (made : Ready P) (stored : Stored) : Type 0 where
   pub stuck : List ℕ
-  pub cleared : AreCleared made.goal mend servers stuck
+  pub cleared : AreCleared made.goal mend reading servers stuck
   pub none : stored.is_cleared ≡ (length stuck == 0)
   pub uploaded : AreUploaded operation carries grid (servers_without servers stuck) made
       stored.happiness

@@ -1,5 +1,5 @@
 -- What a put tells.
-use Rattle.std.specs.Prelude.{◌≡◌, ℕ, ◌<◌, ◌≤◌, List, ◌++◌, Bool, if◌then◌else◌, codes, decimal}
+use Rattle.std.specs.Prelude.{◌≡◌, ℕ, ◌<◌, ◌≤◌, List, [], ◌++◌, Bool, if◌then◌else◌, codes, decimal}
 use Rattle.std.specs.Prelude.{length}
 use Rattle.std.specs.List.{range_with_len}
 use Rattle.cap_text.specs.Cap.{ReadCapValue}
@@ -49,7 +49,7 @@ pub record IsPutOf {P L : Type 0} (operation : OperationCalls (Uploading P)) (ca
     (outcome : Outcome) : Type 0 where
   pub count : ℕ
   pub stored : Stored
-  pub placed : ArePlaced operation carries grid mend (range_with_len 0 count) made stored
+  pub placed : ArePlaced operation carries grid mend [] (range_with_len 0 count) made stored
   pub told : IsToldOf cap quiet stored outcome
 
 -- the calls of an upload of whole shares

@@ -1,51 +1,65 @@
 -- What a repair tells.
-use Rattle.std.specs.Prelude.{◌≡◌, ℕ, List, ◌++◌, Bool, Option, Some, None, false, codes, decimal}
-use Rattle.std.specs.Prelude.{nat_eq}
-use Rattle.std.specs.List.{IsDistinct}
+use Rattle.std.specs.Prelude.{◌≡◌, ℕ, List, ◌++◌, Bool, Option, Some, None, true, false, codes}
+use Rattle.std.specs.Prelude.{All, decimal, map, nat_eq}
+use Rattle.std.specs.List.{Contains, IsDistinct}
 use Rattle.cap_text.specs.Cap.{VerifyCapValue}
 use Rattle.cap_text.specs.CapText.{Spells}
 use Rattle.cap_text.specs.declared.cap.Cap.{Cap}
-use Rattle.file_upload.specs.Repair.{AreMadeOf}
+use Rattle.placement.specs.Matching.{Pair}
+use Rattle.share_fetching.specs.declared.range.SharePlace.{SharePlace}
+use Rattle.share_source.specs.Decoded.{Decoding, GivesDecoded}
+use Rattle.fetched_shares.specs.Fetched.{FetchedState, IsReadOver, IsUnread}
+use Rattle.streamed_upload.specs.RemadeStream.{RemadeStreaming}
 use Rattle.upload_core.specs.Ready.{Ready}
 use Rattle.share_folders.specs.Folder.{FolderState, folder_calls}
-use Rattle.checker.specs.Good.{AreGoodShares}
-use Rattle.checker.specs.Moves.{Begins}
-use Rattle.checker.specs.State.{CheckState}
+use Rattle.checker.specs.Report.{good_pairs}
+use Rattle.checker.specs.declared.status.Report.{Report}
+use Rattle.checker.specs.declared.status.ShareVerdict.{ShareVerdict}
 use Rattle.local_grid.specs.Nodes.{Carries}
-use Rattle.local_grid.specs.Turns.{GridState}
-use Rattle.carried_operations.specs.Checked.{IsCarried}
 use Rattle.grid_servers.specs.Opened.{AreOpened}
 use Rattle.grid_words.specs.declared.words.RepairWords.{RepairWords}
-use Rattle.grid_shares.specs.Checks.{literal_text, verify_of}
+use Rattle.grid_shares.specs.Checks.{IsChecked, literal_text, verify_of}
 use Rattle.grid_shares.specs.Placing.{ArePlaced}
-use Rattle.grid_shares.specs.Puts.{stored_status, whole_calls}
+use Rattle.grid_shares.specs.Puts.{stored_status}
+use Rattle.grid_shares.specs.Remaking.{AreMadeAnew, remade_calls}
 use Rattle.grid_shares.specs.declared.Outcome.{Outcome}
 use Rattle.grid_shares.specs.declared.placing.Stored.{Stored}
 
--- A check of these servers of a grid, each over its own folder, was begun and carried to its end,
--- and these are good shares that it found, with their numbers.
-pub record AreFoundBy {L : Type 0} (carries : Carries L) (grid : List ℕ) (cap : VerifyCapValue)
-    (servers numbers : List ℕ) (strings : List (List ℕ)) : Type 0 where
-  pub before : GridState FolderState L
-  pub opened : AreOpened grid before
-  pub begun : CheckState
-  pub begins : Begins cap servers 1 before.clock begun
-  pub ended : CheckState
-  pub after : GridState FolderState L
-  pub carried : IsCarried folder_calls carries begun before ended after
-  pub good : AreGoodShares cap ended.requests.entries numbers strings
+-- The servers of a grid were opened at which these shares of a cap's file stand.
+pub record AreOpenedFor {L : Type 0} (grid : List ℕ) (cap : VerifyCapValue)
+    (places : List SharePlace) (bytes : FetchedState FolderState L) : Type 0 where
+  pub opened : AreOpened grid bytes.grid
+  pub index : bytes.index ≡ cap.storage_index
+  pub places_are : bytes.places ≡ places
+  pub first : bytes.session ≡ 1
 
--- A check found good shares of a cap's file, of which all shares were made anew; these were placed
--- on the same servers, and this is told.
+-- these places are those of good shares by a report, and each number that has a good share is that
+-- of one
+pub record ArePlacesOfGood (verdicts : List ShareVerdict) (places : List SharePlace) : Type 0 where
+  pub good : All (λ (p : SharePlace). Contains (good_pairs verdicts) (p.server, p.share)) places
+  pub all : (pair : Pair) → Contains (good_pairs verdicts) pair
+      → Contains (map (λ (p : SharePlace). p.share) places) pair.1
+
+-- A check found good shares of a cap's file, of as many numbers as are needed. All shares were made
+-- anew of some of these, which were read once where they stand, and they were placed on the same
+-- servers, each piece made of what was read once more; and this is told.
 pub record IsRepairOf {L : Type 0} (carries : Carries L) (grid : List ℕ) (mend : Bool)
     (cap : VerifyCapValue) (happy : ℕ) (servers : List ℕ) (outcome : Outcome) : Type 0 where
-  pub numbers : List ℕ
-  pub strings : List (List ℕ)
-  pub found : AreFoundBy carries grid cap servers numbers strings
-  pub made : Ready (List (List ℕ))
-  pub anew : AreMadeOf cap happy numbers strings made
+  pub report : Report
+  pub checked : IsChecked carries grid cap servers report
+  pub enough : report.recoverable ≡ true
+  pub places : List SharePlace
+  pub of_good : ArePlacesOfGood report.verdicts places
+  pub bytes : FetchedState FolderState L
+  pub opened : AreOpenedFor grid cap places bytes
+  pub made : Ready (RemadeStreaming (Decoding (FetchedState FolderState L)))
+  pub reading : List SharePlace
+  pub anew : AreMadeAnew (IsReadOver folder_calls carries) (IsUnread folder_calls carries) cap happy
+      places bytes made reading
   pub stored : Stored
-  pub placed : ArePlaced whole_calls carries grid mend servers made stored
+  pub placed : ArePlaced (remade_calls
+      (GivesDecoded (IsReadOver folder_calls carries) (IsUnread folder_calls carries))
+      (λ s. s.failures)) carries grid mend reading servers made stored
   pub told : outcome.text.items ≡ codes "happiness " ++ (decimal stored.happiness ++ codes "\n")
   pub status_is : outcome.status ≡ stored_status stored.is_cleared
 

@@ -1,7 +1,8 @@
 -- At which servers the way was cleared for shares.
-use Rattle.std.specs.Prelude.{◌≡◌, ℕ, Bool, true, false, List, [], ◌∷◌, None, Some, filter, map}
+use Rattle.std.specs.Prelude.{◌≡◌, ◌==◌, ℕ, Bool, true, false, List, [], ◌∷◌, None, Some, filter, map}
 use Rattle.std.specs.Prelude.{if◌then◌else◌, option_map}
 use Rattle.std.specs.List.{AllByRecursion}
+use Rattle.share_fetching.specs.declared.range.SharePlace.{SharePlace}
 use Rattle.share_scrub.specs.Clearing.{IsCleared}
 use Rattle.share_files.specs.declared.acts.Act.{Act}
 use Rattle.share_files.specs.declared.acts.Act.TheVariants.{Unlisted}
@@ -38,27 +39,35 @@ is_stuck Clear = false
 is_stuck Unread = false
 is_stuck Unmarked = false
 
--- what became of a server
-pub record ServerWay : Type 0 where
-  pub server : ℕ
-  pub way : Way
+-- the numbers of those of these shares that stand at a server
+abbrev pub read_at : List SharePlace → ℕ → List ℕ
+read_at places server =
+    map (λ (p : SharePlace). p.share) (filter (λ (p : SharePlace). p.server == server) places)
 
--- By what became of these servers, one after the other, just those are stuck at which a share was
--- left.
-pub record AreWays (wanted : Wanted) (servers stuck : List ℕ) : Type 0 where
-  pub entries : List ServerWay
-  pub servers_are : map (λ e. e.server) entries ≡ servers
-  pub each : AllByRecursion (λ e. IsWay wanted e.way) entries
-  pub stuck_are : stuck ≡ map (λ e. e.server) (filter (λ e. is_stuck e.way) entries)
-
--- The way was cleared for the shares of a goal at these servers: by their length and, where they
--- are mended, by their digests.
-pub record AreCleared (goal : Goal) (mend : Bool) (servers stuck : List ℕ) : Type 0 where
-  pub wanted : Wanted
+-- The files of a goal's shares are held against this: the length of the shares and, where they are
+-- mended, their digests; but for those of these numbers, which are read meanwhile.
+pub record IsWanted (goal : Goal) (mend : Bool) (reading : List ℕ) (wanted : Wanted) : Type 0 where
   pub index : wanted.index ≡ goal.cap.storage_index
   pub length : wanted.length ≡ goal.share_length
   pub digests : option_map (λ d. d.now) wanted.digests ≡ (if mend then Some goal.digests else None)
-  pub ways : AreWays wanted servers stuck
+  pub reading_is : wanted.reading.now ≡ reading
+
+-- what became of a server, and what its files were held against
+pub record ServerWay : Type 0 where
+  pub server : ℕ
+  pub way : Way
+  pub wanted : Wanted
+
+-- The way was cleared for the shares of a goal at these servers, one after the other, but for the
+-- shares that are read meanwhile, which stay. Just those servers are stuck at which a share was
+-- left.
+pub record AreCleared (goal : Goal) (mend : Bool) (reading : List SharePlace)
+    (servers stuck : List ℕ) : Type 0 where
+  pub entries : List ServerWay
+  pub servers_are : map (λ e. e.server) entries ≡ servers
+  pub wanted : AllByRecursion (λ e. IsWanted goal mend (read_at reading e.server) e.wanted) entries
+  pub each : AllByRecursion (λ e. IsWay e.wanted e.way) entries
+  pub stuck_are : stuck ≡ map (λ e. e.server) (filter (λ e. is_stuck e.way) entries)
 
 -- a server by what became of it, where it is stuck
 abbrev pub stuck_by : ℕ → Way → List ℕ

@@ -7,9 +7,11 @@
 #![tactic(auto)]
 
 mod checking;
+mod choosing;
 mod mending;
 mod placing;
 mod putting;
+mod remaking;
 mod repairing;
 
 pub use checking::check;

@@ -4,12 +4,13 @@
 ghost use Rattle.std.specs.Prelude.{◌≡◌, ◌≢◌, ◌++◌, None, Some, if◌then◌else◌, option_map};
 ghost use Rattle.std.specs.Prelude.{IfOk, OnOk};
 ghost use Rattle.grid_shares.specs.declared.mending.Way.TheVariants.{Unmarked};
-ghost use Rattle.grid_shares.specs.Ways.{AreCleared, IsWay, stuck_by, way_by};
+ghost use Rattle.grid_shares.specs.Ways.{AreCleared, IsWanted, IsWay, read_at, stuck_by, way_by};
 
 use crate::placing::Placing;
 use grid_faults::{Fault, is_memory, server_name, told_path};
 use grid_marks::{server_folder, try_mark};
 use grid_telling::Progress;
+use share_fetching::SharePlace;
 use share_files::{FolderFiles, Wanted};
 use share_scrub::{Cleared, LeftShare, clear_way};
 use share_store::error::StoreError;
@@ -22,17 +23,15 @@ use upload_core::status::UploadGoal;
 use wire::message::NodeId;
 
 // What the files of a share's storage index are held against: the length of the shares that were
-// made, and with `mend` their digests too.
-fn wanted_of<'a>(goal: &'a UploadGoal, mend: bool, now: SystemTime) -> Wanted<'a>
-    ensures index { result.index ≡ goal.now.cap.storage_index }
-    ensures length { result.length ≡ goal.now.share_length }
-    ensures digests { option_map (λ d. d.now) result.digests
-        ≡ (if mend then Some goal.now.digests else None) }
+// made, and with `mend` their digests too; but for the shares that are read meanwhile.
+fn wanted_of<'a>(goal: &'a UploadGoal, mend: bool, reading: &'a [u8], now: SystemTime) -> Wanted<'a>
+    ensures { IsWanted goal.now mend reading.now result }
 {
     Wanted {
         index: *goal.cap().storage_index(),
         length: goal.share_length().get(),
         digests: if mend { Some(goal.digests()) } else { None },
+        reading,
         now,
     }
 }
@@ -52,28 +51,43 @@ pub(crate) enum Way {
 
 /// Clears the way for shares at each of the servers, and gives those at which a share was left, in
 /// their order. Each such share is told. A folder that cannot be read is passed over, and so is one
-/// without its mark in a grid that knows its servers.
+/// without its mark in a grid that knows its servers. The files of shares that are read meanwhile
+/// stay.
 pub(crate) fn clear_servers<R, E>(
     rt: &R,
     placing: &Placing<'_>,
     goal: &UploadGoal,
+    reading: &[SharePlace],
     progress: &mut Progress<'_, R, E>,
 ) -> Result<Vec<NodeId>, Fault>
 where
     R: Files + Clock + RandomSource + AllocGlobal + Clone + Drop,
     E: Write + IsTerminal,
     ensures { IfOk result
-        (λ stuck. AreCleared goal.now placing.now.mend placing.now.servers.now stuck.items) }
+        (λ stuck. AreCleared goal.now placing.now.mend reading.now placing.now.servers.now
+        stuck.items) }
 {
     // without a clock no open file is left over
     let now = SystemTime::now(rt).unwrap_or(SystemTime::UNIX_EPOCH);
-    let wanted = wanted_of(goal, placing.mend, now);
     let mut stuck = Vec::new(rt.alloc());
     for server in placing.servers {
+        let own = read_at(rt.alloc(), reading, *server)?;
+        let wanted = wanted_of(goal, placing.mend, own.as_slice(), now);
         let way = clear_server(rt, placing.grid, *server, &wanted, progress)?;
         note_way(&mut stuck, *server, way)?;
     }
     Ok(stuck)
+}
+
+// The numbers of those of these shares that stand at a server.
+fn read_at(alloc: Global, places: &[SharePlace], server: NodeId) -> Result<Vec<u8>, AllocError>
+    ensures { IfOk result (λ numbers. numbers.items ≡ read_at places.now server) }
+{
+    places
+        .iter()
+        .filter(|place| place.server == server)
+        .map(|place| place.share)
+        .collect(alloc)
 }
 
 // Takes note of a server at which a share was left.

@@ -18,6 +18,7 @@ use grid_rules::becoming::fault_of_loop;
 use grid_rules::{reached_happiness, turn_limit};
 use grid_servers::{Durability, FIRST_SESSION, Purpose, open_servers, servers_without};
 use grid_telling::{Counting, Progress, Verb, note_servers};
+use share_fetching::SharePlace;
 use std::alloc::Global;
 use std::io::{IsTerminal, Write};
 use std::net::Net;
@@ -76,13 +77,15 @@ impl Stored {
 
 /// Places shares on servers. First what stands under their names in the servers' folders, and is
 /// none of them, is set aside. A server at which that fails is left out, so that nothing counts
-/// which it holds. Nothing was changed in any folder before this.
+/// which it holds. The files of the shares at these places stay, which are read for it. Nothing was
+/// changed in any folder before this.
 ///
 /// `Unhappy` where fewer servers than were wanted hold a share of their own.
 pub(crate) fn place_shares<R, P, E>(
     rt: &R,
     placing: &Placing<'_>,
     ready: ReadyUpload<P>,
+    reading: &[SharePlace],
     progress: &mut Progress<'_, R, E>,
 ) -> Result<Stored, Fault>
 where
@@ -92,9 +95,9 @@ where
     requires { IsDistinct nat_eq placing.now.servers.now }
     ensures { IfOk result (ArePlaced (upload_calls P.gives P.fails)
         (IsCarriedOver (pair_calls R.Stream.contents R.Stream.remaining)) placing.now.grid.now
-        placing.now.mend placing.now.servers.now ready) }
+        placing.now.mend reading.now placing.now.servers.now ready) }
 {
-    let stuck = clear_servers(rt, placing, ready.goal(), progress)?;
+    let stuck = clear_servers(rt, placing, ready.goal(), reading, progress)?;
     let servers = servers_without(rt.alloc(), placing.servers, stuck.as_slice())?;
     let happiness = upload_to(rt, placing, servers.as_slice(), ready, progress)?;
     let is_cleared = stuck.as_slice().is_empty();

@@ -395,7 +395,7 @@ where
         verb: Verb::Put,
     };
     begin_grid(rt, &placing, progress)?;
-    let stored = place_shares(rt, &placing, ready, progress)?;
+    let stored = place_shares(rt, &placing, ready, &[], progress)?;
     progress.clear();
     outcome_of(rt.alloc(), cap, &stored, words.quiet)
 }

@@ -1,6 +1,7 @@
 -- What is to become of the file of a closed share.
-use Rattle.std.specs.Prelude.{ℕ, List, Option, Some, None, if◌then◌else◌, nat_eq, slice_get}
+use Rattle.std.specs.Prelude.{ℕ, Bool, List, Option, Some, None, if◌then◌else◌, nat_eq, slice_get}
 use Rattle.std.specs.Borrow.{Bor}
+use Rattle.std.specs.List.{list_any}
 use Rattle.std.specs.Cmp.Lexicographic.{pointwise}
 use Rattle.share_files.specs.declared.bytes.Verdict.{Verdict}
 use Rattle.share_files.specs.declared.bytes.Verdict.TheVariants.{Whole, Damaged}
@@ -19,11 +20,16 @@ abbrev pub fate_among : Option (Bor (List (List ℕ))) → ℕ → List ℕ → 
 fate_among None share digest = Keep
 fate_among (Some made) share digest = fate_by (slice_get made.now share) digest
 
--- by its length
+-- is this the number of a share that is read meanwhile?
+abbrev pub is_read : Wanted → ℕ → Bool
+is_read wanted share = list_any (λ number. nat_eq number share) wanted.reading.now
+
+-- By its length. The file of a share that is read meanwhile stays.
 abbrev pub fate_by_length : ℕ → Claim → Wanted → Fate
 fate_by_length length claim wanted =
-    if nat_eq length wanted.length then fate_among wanted.digests claim.share claim.digest
-    else SetAside
+    if is_read wanted claim.share then Keep else
+    (if nat_eq length wanted.length then fate_among wanted.digests claim.share claim.digest
+    else SetAside)
 
 -- what is no regular file has no length, and where nothing is wanted the bytes tell
 abbrev pub fate_at : Option ℕ → Option Wanted → Claim → Fate

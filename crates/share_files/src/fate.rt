@@ -15,6 +15,8 @@ pub struct Wanted<'a> {
     pub length: u64,
     /// The digests of all shares that were made, by number, where bytes are to be read too.
     pub digests: Option<&'a [Digest]>,
+    /// The numbers of shares that are read meanwhile: their files stay.
+    pub reading: &'a [u8],
     pub now: SystemTime,
 }
 
@@ -58,6 +60,9 @@ pub fn fate_of(claim: &Claim, wanted: Option<&Wanted<'_>>) -> Fate
 fn fate_by_length(length: u64, claim: &Claim, wanted: &Wanted<'_>) -> Fate
     ensures { result ≡ fate_by_length length claim.now wanted.entry.now }
 {
+    if wanted.reading.contains(&claim.share) {
+        return Fate::Keep;
+    }
     if length != wanted.length {
         return Fate::SetAside;
     }

@@ -376,10 +376,22 @@ fn clear<'a>(
     digests: Option<&[Digest]>,
     seconds: u64,
 ) -> Result<Cleared, Fail> {
+    clear_beside(rt, steps, digests, &[], seconds)
+}
+
+// The same while the shares of these numbers are read.
+fn clear_beside<'a>(
+    rt: &HostRuntime,
+    steps: &'a Steps,
+    digests: Option<&[Digest]>,
+    reading: &[u8],
+    seconds: u64,
+) -> Result<Cleared, Fail> {
     let wanted = Wanted {
         index: INDEX,
         length: 3,
         digests,
+        reading,
         now: later(SystemTime::now(rt)?, seconds),
     };
     let noted = NotedFiles { rt: *rt, steps };
@@ -425,6 +437,21 @@ fn the_way_is_cleared(rt: HostRuntime) -> Result<(), Fail> {
         (closed(OTHER_INDEX, 1, THREE), Found::Damaged(Did::Nothing)),
     ];
     assert!(rt; tells(&rt, NOTHING, &rows, 4)?);
+    remove(&rt)?;
+    Ok(())
+}
+
+// The files of shares that are read meanwhile stay, by their length and by their digest.
+#[test]
+fn shares_that_are_read_stay(rt: HostRuntime) -> Result<(), Fail> {
+    fill_one_index(&rt)?;
+    let steps = Steps::new(rt.alloc());
+    assert!(rt; is_cleared(&clear_beside(&rt, &steps, None, &[2], 0)?, 1, 0));
+    assert!(rt; is_cleared(&clear_beside(&rt, &steps, None, &[9, 2], 0)?, 0, 0));
+    let made = [THREE; 5];
+    let cleared = clear_beside(&rt, &steps, Some(&made), &[2, 4, 5], 0)?;
+    assert!(rt; is_cleared(&cleared, 1, 0));
+    assert!(rt; is_cleared(&clear(&rt, &steps, Some(&made), 0)?, 3, 0));
     remove(&rt)?;
     Ok(())
 }

@@ -1,7 +1,7 @@
 use Rattle.std.proofs.Common.{take}
-use Rattle.grid_shares.specs.Ways.{AreWays}
+use Rattle.grid_shares.specs.Ways.{AreCleared}
 use Rattle.grid_shares.proofs.mending.clear_servers.Given as goal
 
 -- what became of the servers so far
 abbrev pub invariant-loop-server : goal.invariant-loop-server
-invariant-loop-server g l = AreWays l.wanted (take l.server-index l.fn.placing.servers.now) l.stuck.items
+invariant-loop-server g l = AreCleared l.goal l.placing.mend l.reading (take l.server-index l.fn.placing.servers.now) l.stuck.items

@@ -1,18 +1,41 @@
-use Rattle.std.proofs.Common.{ℕ, Ok, map, ap, Vec, Global, ◌∙◌}
+use Rattle.std.proofs.Common.{List, ap, subst, ◌∙◌}
 use Rattle.std.proofs.lemmas.Result.{IfOk-weaker}
-use Rattle.grid_shares.proofs.Told.{still_ok}
+use Rattle.socket_links.specs.Ends.{pair_calls}
+use Rattle.socket_links.specs.Links.{IsCarriedOver}
+use Rattle.share_folders.specs.Folder.{folder_calls}
+use Rattle.checker.specs.declared.status.ShareVerdict.{ShareVerdict}
+use Rattle.share_fetching.specs.declared.range.SharePlace.{SharePlace}
+use Rattle.fetched_shares.specs.Fetched.{IsReadOver, IsUnread}
+use Rattle.share_source.specs.Decoded.{GivesDecoded}
+use Rattle.grid_shares.specs.Placing.{ArePlaced}
+use Rattle.grid_shares.specs.Remaking.{AreMadeAnew, remade_calls}
+use Rattle.grid_shares.specs.Repairs.{ArePlacesOfGood}
 use Rattle.grid_shares.proofs.repairing.repair_over.Goals as goal
 
 pub returns : goal.returns
-returns g c = IfOk-weaker c.outcome.result _ _
+returns g c =
+    let carries = IsCarriedOver (pair_calls g.R.Stream.Write.contents g.R.Stream.Read.remaining) in
+    let gives = IsReadOver folder_calls carries in
+    let fails = IsUnread folder_calls carries in
+    let grid = c.args.placing.now.grid.now in
+    let servers = c.args.placing.now.servers.now in
+    let chosen = c.in_ok-places.ensures in
+    let of_good = subst (λ (vs : List ShareVerdict). ArePlacesOfGood vs c.in_ok-places.places.items) c.as_slice.ensures (record { good = chosen.good; all = chosen.all }) in
+    let opened = c.in_ok-bytes.ensures in
+    IfOk-weaker c.outcome.result _ _
     (λ outcome is. record {
-      numbers = map (λ (s : ℕ × Vec ℕ Global). s.0) c.in_ok-good.good.items;
-      strings = map (λ (s : ℕ × Vec ℕ Global). s.1.items) c.in_ok-good.good.items;
-      found = c.in_ok-good.ensures;
-      made = c.in_ok-ready.ready;
-      anew = still_ok c.prepare_repair.result (Ok c.in_ok-ready.ready) _ _ c.in_ok-ready.ensures.cases c.in_ok-ready.ensures.variant c.prepare_repair.ensures.made;
+      report = c.in_ok-report.report;
+      checked = c.in_ok-report.ensures.checked;
+      enough = c.in_ok-report.ensures.enough;
+      places = c.in_ok-places.places.items;
+      of_good = of_good;
+      bytes = c.in_ok-bytes.bytes;
+      opened = opened;
+      made = c.in_ok-made.made.ready;
+      reading = c.in_ok-made.made.reading.items;
+      anew = subst (λ (ps : List SharePlace). AreMadeAnew gives fails c.args.cap.now c.args.happy ps c.in_ok-bytes.bytes c.in_ok-made.made.ready c.in_ok-made.made.reading.items) opened.places_are c.in_ok-made.ensures;
       stored = c.in_ok-stored.stored;
-      placed = c.in_ok-stored.ensures;
+      placed = subst (λ (ps : List SharePlace). ArePlaced (remade_calls (GivesDecoded gives fails) (λ s. s.failures)) carries grid c.args.placing.now.mend ps servers c.in_ok-made.made.ready c.in_ok-stored.stored) c.as_slice-2.ensures.value c.in_ok-stored.ensures;
       told = ap (λ v. v.items) is.0 ∙ ap (λ v. v.items) c.into_bytes.ensures.value ∙ c.in_ok-line.ensures.ok;
       status_is = is.1 ∙ c.status.ensures;
     })
