@@ -1,6 +1,6 @@
 -- At which servers the way was cleared for shares.
-use Rattle.std.specs.Prelude.{◌≡◌, ◌==◌, ℕ, Bool, true, false, List, [], ◌∷◌, None, Some, filter, map}
-use Rattle.std.specs.Prelude.{if◌then◌else◌, option_map}
+use Rattle.std.specs.Prelude.{◌≡◌, ◌==◌, ℕ, Bool, true, false, List, [], ◌∷◌, None, Some, filter}
+use Rattle.std.specs.Prelude.{map, if◌then◌else◌, option_map}
 use Rattle.std.specs.List.{AllByRecursion}
 use Rattle.share_fetching.specs.declared.range.SharePlace.{SharePlace}
 use Rattle.share_scrub.specs.Clearing.{IsCleared}

@@ -1,5 +1,5 @@
-//! The host's files, of which those in some folders stand in memory too. What changes these stops at
-//! a call, and nothing is changed from then on.
+//! The host's files, of which those in some folders stand in memory too. What changes these stops
+//! at a call, and nothing is changed from then on.
 
 use crate::folders::Folders;
 use std::alloc::{Allocator, Global};

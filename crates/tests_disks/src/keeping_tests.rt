@@ -1,4 +1,5 @@
-//! A share is written, closed, listed and read over a folder in memory, by its store and by a server.
+//! A share is written, closed, listed and read over a folder in memory, by its store and by a
+//! server.
 
 use disks::memory::MemoryDisk;
 use folder_keeping::laws::{confirmed_stay, found_are_safe, safe_stay};
