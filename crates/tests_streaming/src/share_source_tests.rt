@@ -243,6 +243,34 @@ fn a_read_fails_where_too_few_are_left(rt: HostRuntime) -> Result<(), Fail> {
     Ok(())
 }
 
+// Whether a segment is read whose first share fails, or the read says that memory was refused for
+// a spare, and the next one goes on.
+fn reads_or_lacks_memory(alloc: Global) -> Result<bool, AllocError> {
+    let chosen = [
+        (4, Fault::Fails(1)),
+        (1, Fault::Never),
+        (2, Fault::Never),
+        (5, Fault::Never),
+    ];
+    let Some(whole) = small_file(alloc)? else {
+        return Ok(true);
+    };
+    let Some(Ok(mut source)) = source_over(alloc, &whole, &chosen)? else {
+        return Ok(true);
+    };
+    let mut out = [0u8; 1000];
+    if read_part(&mut source, 1002, &mut out) != Ok(()) {
+        let told = source.lacks_memory() && source.failures() == 1;
+        return Ok(told && read_part(&mut source, 1002, &mut out) == Ok(()));
+    }
+    Ok(!source.lacks_memory() && source.failures() == 0)
+}
+
+#[test]
+fn refused_memory_for_a_spare(rt: HostRuntime) {
+    assert!(rt; reads_or_lacks_memory(rt.alloc()).unwrap_or(true));
+}
+
 // Whether shares are refused that are too few for the file.
 fn are_too_few(alloc: Global, chosen: &[(u16, Fault)]) -> Result<bool, AllocError> {
     let Some(whole) = small_file(alloc)? else {
