@@ -12,7 +12,8 @@ cd "$(dirname "$0")/.." || exit 2
 
 # Lines that may: a sum or an offset that does not fit 64 bits counts as one too many for the
 # memory, a machine or a world that ended without memory is told so, and so is an error of the
-# command line, and the name of a share's file that could not be made, which wants memory alone.
+# command line, the name of a share's file that could not be made, which wants memory alone, and
+# reads of shares that say that they were refused memory.
 allowed=$(cat <<'END'
 share_store/src/memory.rt:return Err(StoreError::OutOfMemory);
 request_record/src/entries.rt:return Err(AllocError);
@@ -23,7 +24,7 @@ grid_rules/src/ending.rt:DownloadStatus::Failed => Err(Fault::OutOfMemory),
 grid_faults/src/fault.rt:return Fault::OutOfMemory;
 grid_shares/src/checking.rt:check.report(rt.alloc())?.ok_or(Fault::OutOfMemory)
 grid_commands/src/lib.rt:_ => report(alloc, err, &Fault::OutOfMemory),
-grid_shares/src/repairing.rt:check.good_shares(rt.alloc())?.ok_or(Fault::OutOfMemory)
+grid_shares/src/remaking.rt:Fault::OutOfMemory
 grid_shares/src/repairing.rt:let report = check.report(rt.alloc())?.ok_or(Fault::OutOfMemory)?;
 grid_commands/src/scrub_telling.rt:return Err(Failure::Fault(Fault::OutOfMemory));
 grid_main/src/main.rt:let error = io::Error::from(io::ErrorKind::OutOfMemory);
