@@ -5,270 +5,18 @@
 // never does another answer come, or a part of one. Files are read and written in short pieces, so
 // that calls fail in mid-stream too.
 
+use crate::failing_files::{Calls, FailingFiles};
 use crate::runs::{
     CAP_56, CLOSED, HERE, ONES, ZEROS_CAP, ZEROS_PUT, begins_with_56, begins_with_zeros, cap_line,
     counted, has_share, makes_file, path, put_line, puts_zeros, removes_all, words_of, zeros_come,
 };
 use grid_commands::{DiskFiles, grid};
-use std::alloc::{Allocator, Global};
-use std::cell::Cell;
-use std::fs::{File, Metadata, OpenFile, OpenOptions};
-use std::io::{BufRead, Lines, Read, Seek, SeekFrom, Write};
-use std::net::{Net, SocketAddr, TcpListener, TcpStream};
+use std::net::Net;
 use std::random::RandomSource;
 use std::rt::{Clock, Files};
 use std::test::Fail;
-use std::time::Duration;
 use std::{fs, io, str};
 use test_writers::Told;
-
-// The most bytes that one call reads or writes: a file of 56 bytes is read by two calls and its end
-// by a third.
-const PIECE: usize = 40;
-
-// How many calls go well before the one that fails, and which calls failed in mid-stream.
-#[derive(Drop)]
-struct Calls {
-    left: Cell<u64>,
-    has_cut_read: Cell<bool>,
-    has_cut_write: Cell<bool>,
-}
-
-impl Calls {
-    fn new() -> Calls {
-        Calls {
-            left: Cell::new(0),
-            has_cut_read: Cell::new(false),
-            has_cut_write: Cell::new(false),
-        }
-    }
-
-    // Counts a call, which fails where none is left. The calls after it go well again.
-    fn count(&self) -> io::Result<()> {
-        let left = self.left.get();
-        self.left.set(left.wrapping_sub(1));
-        if left == 0 {
-            return Err(io::Error::from(io::ErrorKind::BrokenPipe));
-        }
-        Ok(())
-    }
-
-    // The same of a call in a stream, which is noted where it fails in the middle.
-    fn count_in(&self, is_middle: bool, has_cut: &Cell<bool>) -> io::Result<()> {
-        let outcome = self.count();
-        if is_middle && outcome.is_err() {
-            has_cut.set(true);
-        }
-        outcome
-    }
-}
-
-// The host's file system, with a call that fails.
-#[derive(Clone, Copy)]
-struct FailingFiles<'a> {
-    rt: HostRuntime,
-    calls: &'a Calls,
-}
-
-// A file of it, and whether bytes were read from it or written to it.
-#[derive(Drop)]
-struct FailingFile<'a> {
-    file: File,
-    calls: &'a Calls,
-    is_begun: bool,
-}
-
-// The names in a folder of it.
-#[derive(Drop)]
-struct FailingNames<'a> {
-    names: <HostRuntime as Files>::Dir,
-    calls: &'a Calls,
-}
-
-impl<'a> Alloc for FailingFiles<'a> {
-    type A = Global;
-
-    fn alloc(&self) -> Global {
-        self.rt.alloc()
-    }
-}
-
-impl<'a> Files for FailingFiles<'a> {
-    type File = FailingFile<'a>;
-
-    type Dir = FailingNames<'a>;
-
-    fn open_file(&self, how: &OpenOptions, path: &str) -> io::Result<FailingFile<'a>> {
-        self.calls.count()?;
-        let file = self.rt.open_file(how, path)?;
-        Ok(FailingFile {
-            file,
-            calls: self.calls,
-            is_begun: false,
-        })
-    }
-
-    fn open_dir(&self, path: &str) -> io::Result<FailingNames<'a>> {
-        self.calls.count()?;
-        let names = self.rt.open_dir(path)?;
-        Ok(FailingNames {
-            names,
-            calls: self.calls,
-        })
-    }
-
-    fn metadata(&self, path: &str) -> io::Result<Metadata> {
-        self.calls.count()?;
-        self.rt.metadata(path)
-    }
-
-    fn symlink_metadata(&self, path: &str) -> io::Result<Metadata> {
-        self.calls.count()?;
-        self.rt.symlink_metadata(path)
-    }
-
-    fn copy(&self, from: &str, to: &str) -> io::Result<u64> {
-        self.calls.count()?;
-        self.rt.copy(from, to)
-    }
-
-    fn rename(&self, from: &str, to: &str) -> io::Result<()> {
-        self.calls.count()?;
-        self.rt.rename(from, to)
-    }
-
-    fn remove_file(&self, path: &str) -> io::Result<()> {
-        self.calls.count()?;
-        self.rt.remove_file(path)
-    }
-
-    fn create_dir(&self, path: &str) -> io::Result<()> {
-        self.calls.count()?;
-        self.rt.create_dir(path)
-    }
-
-    fn remove_dir(&self, path: &str) -> io::Result<()> {
-        self.calls.count()?;
-        self.rt.remove_dir(path)
-    }
-
-    fn remove_dir_all<B: Allocator>(&self, alloc: B, path: &str) -> io::Result<()> {
-        self.calls.count()?;
-        self.rt.remove_dir_all(alloc, path)
-    }
-}
-
-// Sockets and the clock are the host's; random bytes are too, and may fail.
-impl<'a> Net for FailingFiles<'a> {
-    type Stream = TcpStream;
-
-    type Listener = TcpListener;
-
-    fn bind(&self, addr: SocketAddr) -> io::Result<TcpListener> {
-        self.rt.bind(addr)
-    }
-
-    fn connect(&self, addr: SocketAddr) -> io::Result<TcpStream> {
-        Net::connect(&self.rt, addr)
-    }
-}
-
-// What comes over standard input.
-const NOTHING: &[u8] = &[];
-
-impl<'a> io::Input for FailingFiles<'a> {
-    type Reader = &'static [u8];
-
-    fn read_line<A: Allocator + Clone>(&self, _buf: &mut String<A>) -> io::Result<usize> {
-        Ok(0)
-    }
-
-    fn lines<A: Allocator>(&self, alloc: A) -> Lines<&'static [u8], A> {
-        NOTHING.lines(alloc)
-    }
-
-    fn reader(&self) -> &'static [u8] {
-        NOTHING
-    }
-}
-
-impl<'a> RandomSource for FailingFiles<'a> {
-    fn fill_bytes(&self, buf: &mut [u8]) -> io::Result<()> {
-        self.calls.count()?;
-        self.rt.fill_bytes(buf)
-    }
-}
-
-impl<'a> Clock for FailingFiles<'a> {
-    fn monotonic(&self) -> io::Result<Duration> {
-        self.rt.monotonic()
-    }
-
-    fn since_1970(&self) -> io::Result<Duration> {
-        self.rt.since_1970()
-    }
-}
-
-impl<'a> Read for FailingFile<'a> {
-    fn read(&mut self, buf: &mut [u8]) -> io::Result<usize> {
-        self.calls
-            .count_in(self.is_begun, &self.calls.has_cut_read)?;
-        self.is_begun = true;
-        let len = buf.len().min(PIECE);
-        self.file.read(&mut buf[..len])
-    }
-}
-
-impl<'a> Write for FailingFile<'a> {
-    fn write(&mut self, buf: &[u8]) -> io::Result<usize> {
-        self.calls
-            .count_in(self.is_begun, &self.calls.has_cut_write)?;
-        self.is_begun = true;
-        let len = buf.len().min(PIECE);
-        self.file.write(&buf[..len])
-    }
-
-    fn flush(&mut self) -> io::Result<()> {
-        self.calls.count()?;
-        self.file.flush()
-    }
-}
-
-impl<'a> Seek for FailingFile<'a> {
-    fn seek(&mut self, to: SeekFrom) -> io::Result<u64> {
-        self.calls.count()?;
-        self.file.seek(to)
-    }
-}
-
-impl<'a> OpenFile for FailingFile<'a> {
-    fn metadata(&self) -> io::Result<Metadata> {
-        self.calls.count()?;
-        self.file.metadata()
-    }
-
-    fn set_len(&self, size: u64) -> io::Result<()> {
-        self.calls.count()?;
-        self.file.set_len(size)
-    }
-
-    fn sync_all(&self) -> io::Result<()> {
-        self.calls.count()?;
-        self.file.sync_all()
-    }
-
-    fn sync_data(&self) -> io::Result<()> {
-        self.calls.count()?;
-        self.file.sync_data()
-    }
-}
-
-impl<'a> Read for FailingNames<'a> {
-    fn read(&mut self, buf: &mut [u8]) -> io::Result<usize> {
-        self.calls.count()?;
-        self.names.read(buf)
-    }
-}
 
 // How a run of a command ended.
 #[derive(Clone, Copy, PartialEq, Eq)]
@@ -301,7 +49,7 @@ fn told_ending(status: u8, out: &[u8], err: &[u8], whole: &[u8]) -> Ending {
 }
 
 // Whether these are the two lines of a file fault: the path with the reason, and the refusal.
-fn is_file_fault(err: &[u8]) -> bool {
+pub(crate) fn is_file_fault(err: &[u8]) -> bool {
     match str::from_utf8(err) {
         Ok(text) => {
             text.starts_with('/')
@@ -314,7 +62,7 @@ fn is_file_fault(err: &[u8]) -> bool {
 }
 
 // The status of a command over such files.
-fn status_of<R>(files: &R, words: &[&str], out: &mut Vec<u8>, err: &mut Told) -> u8
+pub(crate) fn status_of<R>(files: &R, words: &[&str], out: &mut Vec<u8>, err: &mut Told) -> u8
 where
     R: Files + io::Input + Net + Clock + RandomSource + AllocGlobal + Clone + Drop,
 {

@@ -5,7 +5,11 @@
 #![tactic(auto)]
 
 #[cfg(test)]
+mod failing_files;
+#[cfg(test)]
 mod failing_files_tests;
+#[cfg(test)]
+mod failing_repairs_tests;
 #[cfg(test)]
 mod failing_writers_tests;
 #[cfg(test)]
