@@ -27,9 +27,12 @@ ANSWER = re.compile(r"(?:\./)?proofs/(\S+)/(?:Answers|Invariants|Proof)\.antt:\d
 OPEN = re.compile(r"note: \S+: it is not proved that .* \(`(\S+)`\)")
 VERDICT = re.compile(r"fn (\S+): ")
 UNPROVED = re.compile(r"fn (\S+): no proof: .* did not prove `(\S+)`")
-# What antt says where a proof names what is gone.
-NAMES = re.compile(r"has no field|is not in scope|has no `|was not admitted")
+# What antt says where a proof names what is gone; behind a long name it goes on in the next line.
+NAMES = re.compile(r"has no field|is not a field of|is not in scope|has no `|was not admitted")
+GOES_ON = re.compile(r"\n  (?=has no )")
 MOST = 160
+# What rt must-fail says of an edit that no goal refuses.
+ALONE = "as it must be (only because a proof file names what the edit took away)"
 
 
 class Function:
@@ -161,7 +164,7 @@ def goals_in(crate, said):
     """Returns the goals that failed, each with the name of its function, and whether the proof
     only names what is gone."""
     found, left = [], []
-    for line in said.split("\n"):
+    for line in GOES_ON.sub(" ", said).split("\n"):
         answer, is_open, verdict = ANSWER.match(line), OPEN.match(line), VERDICT.match(line)
         if answer:
             # + marks functions that call one another
@@ -178,7 +181,8 @@ def goals_in(crate, said):
 
 
 def tried_together(folder, crate, edits):
-    """Returns the goal that refuses each edit, where one check of all of them tells it."""
+    """Returns the goal that refuses each edit, where one check of all of them tells it, and those
+    that no goal refuses, but a proof that names what is gone."""
     only = [it for edit in edits for f in edit.functions for it in ("--only", f.path())]
     were = made(folder, edits)
     ran = checked(folder, "--allow-holes", *only)
@@ -188,12 +192,13 @@ def tried_together(folder, crate, edits):
     for file, text in were.items():
         with open(f"{folder}/{file}", "w", encoding="utf-8") as it:
             it.write(text)
-    refused = {}
+    refused, by_names = {}, {}
     for symbol, goal, is_names in goals_in(crate, ran.stdout):
         for edit in edits:
-            if not is_names and any(it.has(symbol) for it in edit.functions):
-                refused.setdefault(edit, f"{symbol}: {goal[:MOST]}")
-    return refused
+            if any(it.has(symbol) for it in edit.functions):
+                told = by_names if is_names else refused
+                told.setdefault(edit, f"{symbol}: {goal[:MOST]}")
+    return refused, {it: by_names[it] for it in by_names if it not in refused}
 
 
 def tried_alone(room, folder, crate, edit):
@@ -224,9 +229,10 @@ def outcomes(room, crate):
     edits = [Edit(folder, f"{folder}/wrong-bodies/{it}", functions) for it in names]
     alone = [it for it in edits if not it.functions]
     for together in rounds_of([it for it in edits if it.functions]):
-        refused = tried_together(folder, crate, together)
-        alone += [it for it in together if it not in refused]
+        refused, by_names = tried_together(folder, crate, together)
+        alone += [it for it in together if it not in refused and it not in by_names]
         yield from ((it, f"refused, as it must be: {refused[it]}") for it in refused)
+        yield from ((it, f"refused, {ALONE}: {by_names[it]}") for it in by_names)
     yield from ((it, tried_alone(room, folder, crate, it)) for it in alone)
 
 
