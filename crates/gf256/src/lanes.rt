@@ -1,7 +1,8 @@
-//! Multiples of whole blocks, by vectors of 16 bytes.
+//! Multiples of whole blocks, by vectors of 32 bytes.
 //!
 //! A product by c is additive, so c times a byte is c times its low nibble plus c times its high
-//! one, and each of the two is a look-up in a table of 16 bytes, which is one byte shuffle.
+//! one, and each of the two is a look-up in a table of 16 bytes, which is one byte shuffle within
+//! each half of a vector: the table stands there twice.
 
 ghost use Rattle.std.specs.Prelude.{◌≡◌, ℕ, ◌+◌, ◌-◌, ◌*◌, ◌/◌, ◌%◌, ◌<◌, ◌≤◌, length, slice_index};
 ghost use Rattle.std.specs.Prelude.{bit_xor};
@@ -13,7 +14,7 @@ use crate::mul;
 use std::simd::prelude::*;
 
 /// How many bytes a vector holds.
-const LANES: usize = 16;
+const LANES: usize = 32;
 
 /// Adds `c` times each byte of `src` to the byte of `dst` at its position.
 pub fn add_mul(dst: &mut [u8], src: &[u8], c: u8)
@@ -61,8 +62,8 @@ pub fn add_mul_three(dst: &mut [u8], x: &[u8], y: &[u8], z: &[u8], factors: [u8;
 #[derive(Drop)]
 struct Factor {
     value: u8,
-    low: u8x16,
-    high: u8x16,
+    low: u8x32,
+    high: u8x32,
     ghost low_nibbles: { IsTable low value 1 },
     ghost high_nibbles: { IsTable high value 16 },
 }
@@ -71,67 +72,69 @@ impl Factor {
     fn new(value: u8) -> Factor
         ensures { result.value ≡ value }
     {
-        let low = u8x16::from_array(multiples(value, 1));
-        let high = u8x16::from_array(multiples(value, 16));
+        let low = u8x32::from_array(multiples(value, 1));
+        let high = u8x32::from_array(multiples(value, 16));
         Factor { value, low, high }
     }
 
-    // The multiples of the 16 bytes of `src` from `at` on.
+    // The multiples of the 32 bytes of `src` from `at` on.
     #[inline(always)]
-    fn times(&self, src: &[u8], at: usize) -> u8x16
-        requires { at + 16 ≤ length src.now }
-        ensures size { length result ≡ 16 }
-        ensures each { (j : ℕ) → j < 16
+    fn times(&self, src: &[u8], at: usize) -> u8x32
+        requires { at + 32 ≤ length src.now }
+        ensures size { length result ≡ 32 }
+        ensures each { (j : ℕ) → j < 32
             → slice_index result j ≡ product self.now.value (slice_index src.now (at + j)) }
     {
-        let bytes = u8x16::from_slice(&src[at..]);
+        let bytes = u8x32::from_slice(&src[at..]);
         by_low_nibble(self.low, bytes) ^ by_high_nibble(self.high, bytes)
     }
 }
 
-// The products of `c` and 0, `step`, 2 `step`, up to 15 `step`.
-fn multiples(c: u8, step: usize) -> [u8; 16]
+// The products of `c` and 0, `step`, 2 `step`, up to 15 `step`, twice.
+fn multiples(c: u8, step: usize) -> [u8; 32]
     requires { step ≤ 16 }
     ensures { IsTable result c step }
 {
-    let mut table = [0u8; 16];
-    for i in 0..16 {
-        table[i] = mul(c, (i * step) as u8);
+    let mut table = [0u8; 32];
+    for i in 0..32 {
+        table[i] = mul(c, (i % 16 * step) as u8);
     }
     table
 }
 
-// Adds 16 bytes to those of `dst` from `at` on.
+// Adds 32 bytes to those of `dst` from `at` on.
 #[inline(always)]
-fn add_lanes(dst: &mut [u8], at: usize, lanes: u8x16)
-    requires in_dst { at + 16 ≤ length dst.old }
-    requires long { length lanes ≡ 16 }
+fn add_lanes(dst: &mut [u8], at: usize, lanes: u8x32)
+    requires in_dst { at + 32 ≤ length dst.old }
+    requires long { length lanes ≡ 32 }
     ensures below { (k : ℕ) → k < at → slice_index dst.new k ≡ slice_index dst.old k }
-    ensures added { (k : ℕ) → at ≤ k → k < at + 16
+    ensures added { (k : ℕ) → at ≤ k → k < at + 32
         → slice_index dst.new k ≡ bit_xor (slice_index dst.old k) (slice_index lanes (k - at)) }
-    ensures above { (k : ℕ) → at + 16 ≤ k → slice_index dst.new k ≡ slice_index dst.old k }
+    ensures above { (k : ℕ) → at + 32 ≤ k → slice_index dst.new k ≡ slice_index dst.old k }
 {
-    let sum = u8x16::from_slice(&dst[at..]) ^ lanes;
+    let sum = u8x32::from_slice(&dst[at..]) ^ lanes;
     sum.copy_to_slice(&mut dst[at..]);
 }
 
+// Each byte's low nibble looked up in the half of the table where the byte stands.
 #[inline(always)]
-fn by_low_nibble(table: u8x16, bytes: u8x16) -> u8x16
-    requires { length bytes ≡ 16 }
-    ensures size { length result ≡ 16 }
-    ensures lanes { (i : ℕ) → i < 16
-        → slice_index result i ≡ slice_index table (slice_index bytes i % 16) }
+fn by_low_nibble(table: u8x32, bytes: u8x32) -> u8x32
+    requires { length bytes ≡ 32 }
+    ensures size { length result ≡ 32 }
+    ensures lanes { (i : ℕ) → i < 32 → slice_index result i
+        ≡ slice_index table (16 * (i / 16) + slice_index bytes i % 16) }
 {
-    table.swizzle_dyn(bytes & u8x16::splat(15))
+    table.swizzle_dyn_within::<16>(bytes & u8x32::splat(15))
 }
 
+// The same of its high nibble.
 #[inline(always)]
-fn by_high_nibble(table: u8x16, bytes: u8x16) -> u8x16
-    requires long { length bytes ≡ 16 }
+fn by_high_nibble(table: u8x32, bytes: u8x32) -> u8x32
+    requires long { length bytes ≡ 32 }
     requires fit { Each1 (λ x. x < 256) bytes }
-    ensures size { length result ≡ 16 }
-    ensures lanes { (i : ℕ) → i < 16
-        → slice_index result i ≡ slice_index table (slice_index bytes i / 16) }
+    ensures size { length result ≡ 32 }
+    ensures lanes { (i : ℕ) → i < 32 → slice_index result i
+        ≡ slice_index table (16 * (i / 16) + slice_index bytes i / 16) }
 {
-    table.swizzle_dyn(bytes >> u8x16::splat(4))
+    table.swizzle_dyn_within::<16>(bytes >> u8x32::splat(4))
 }

@@ -4,8 +4,8 @@ use Rattle.gf256.proofs.lanes.add_mul.Given as goal
 
 abbrev pub invariant-loop-i : goal.invariant-loop-i
 invariant-loop-i l = record {
-  written : (k : ℕ) → k < l.i * 16 → get_or l.dst k 0 ≡ bit_xor (get_or l.initial.dst k 0) (product l.c (get_or l.src k 0));
-  kept : (k : ℕ) → l.i * 16 ≤ k → get_or l.dst k 0 ≡ get_or l.initial.dst k 0;
+  written : (k : ℕ) → k < l.i * 32 → get_or l.dst k 0 ≡ bit_xor (get_or l.initial.dst k 0) (product l.c (get_or l.src k 0));
+  kept : (k : ℕ) → l.i * 32 ≤ k → get_or l.dst k 0 ≡ get_or l.initial.dst k 0;
 }
 
 abbrev pub invariant-loop-i-2 : goal.invariant-loop-i-2

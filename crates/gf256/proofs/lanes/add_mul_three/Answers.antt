@@ -16,12 +16,12 @@ loop-i-preserved c =
     let b = get_or c.args.factors 1 0 in
     let d = get_or c.args.factors 2 0 in
     record {
-      written = λ k below. elim (cases_lt k (l.i * 16)) [
+      written = λ k below. elim (cases_lt k (l.i * 32)) [
         | inl before ↦ c.add_lanes.ensures.below k before ∙ l.invariant.written k before
         | inr here ↦
-            let j : ℕ = k - l.i * 16 in
-            let within : j < 16 = omega arith in
-            let position : l.i * 16 + j ≡ k = omega arith in
+            let j : ℕ = k - l.i * 32 in
+            let within : j < 32 = omega arith in
+            let position : l.i * 32 + j ≡ k = omega arith in
             let first : get_or c.times.result j 0 ≡ product a (get_or c.args.x.now k 0) =
             c.times.ensures.each j within ∙ (λ i. product (c.new-by_a.ensures i) (get_or c.args.x.now (position i) 0)) in
             let second : get_or c.times-in-loop-i.result j 0 ≡ product b (get_or c.args.y.now k 0) =
