@@ -14,6 +14,7 @@ use input::{HashInput, first_half};
 
 mod convergence;
 mod decimal;
+mod eight;
 mod hasher;
 mod hashers;
 mod input;
@@ -23,9 +24,10 @@ mod waiting;
 
 pub use convergence::KeyHasher;
 pub use decimal::{DecimalText, read_decimal};
+pub use eight::update_eight;
 pub use hasher::TaggedHasher;
 pub use hashers::TaggedHashers;
-pub use row::{pieces_from, tagged_eight, tagged_pieces};
+pub use row::{WORTH_LANES, pieces_from, tagged_eight, tagged_pieces};
 pub use tag::Tag;
 pub use waiting::{WaitingHasher, hashed_eight};
 

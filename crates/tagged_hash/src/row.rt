@@ -8,8 +8,9 @@ use crate::tag::Tag;
 use crate::tagged;
 use sha2_lanes::double_sha256_of_eight;
 
-// Eight messages side by side take less time than so many one after the other, on each processor.
-const WORTH_LANES: usize = 5;
+/// From so many messages on, eight lanes hash them faster than one after the other, where vectors
+/// have 32 bytes: the lanes that are left over are filled up.
+pub const WORTH_LANES: usize = 3;
 
 /// The hashes under `tag` of eight messages of `len` bytes each.
 pub fn tagged_eight(tag: Tag, messages: &[&[u8]; 8], len: usize) -> [[u8; 32]; 8]

@@ -1,4 +1,4 @@
-use Rattle.std.proofs.Common.{sym, ◌∙◌}
+use Rattle.std.proofs.Common.{◌∙◌}
 use Rattle.tagged_hash.proofs.WaitingLemmas.{hashed, held_taken}
 use Rattle.tagged_hash.proofs.waiting.WaitingHasher.finish.Goals as goal
 

@@ -1,4 +1,4 @@
-use Rattle.std.proofs.Common.{sym, ◌∙◌}
+use Rattle.std.proofs.Common.{◌∙◌}
 use Rattle.tagged_hash.proofs.WaitingLemmas.{given_more, hashed, none_more}
 use Rattle.tagged_hash.proofs.waiting.WaitingHasher.hash.Goals as goal
 

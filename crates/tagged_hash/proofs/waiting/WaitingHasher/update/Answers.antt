@@ -1,4 +1,4 @@
-use Rattle.std.proofs.Common.{◌≡◌, Bool, List, ℕ, cond, ap, ◌++◌, ◌∙◌}
+use Rattle.std.proofs.Common.{Bool, List, ℕ, cond, ap, ◌++◌, ◌∙◌}
 use Rattle.sha2_lanes.specs.Stream.{Taken, with_more}
 use Rattle.tagged_hash.specs.TaggedHasher.{input_of}
 use Rattle.tagged_hash.proofs.WaitingLemmas.{given_more, hashed, more_of, none_more}
