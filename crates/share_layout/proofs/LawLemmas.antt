@@ -2,7 +2,7 @@
 use Rattle.std.proofs.Common.{◌≡◌, ℕ, ◌+◌, ◌*◌, ◌^◌, ◌<◌, ◌≤◌, inl, inr, List, ◌++◌, length, take, drop, get_or, ap, sym, subst, refl, ◌∙◌, append_assoc, arith}
 use Rattle.std.specs.Int.{w32, div_ceil, to_be_bytes}
 use Rattle.std.specs.List.{flat_map}
-use Rattle.std.proofs.Math.Nat.{div-le_self, pow-le-pow_right}
+use Rattle.std.proofs.Math.Nat.{pow-le-pow_right}
 use Rattle.std.proofs.lemmas.Bool.{cases_lt}
 use Rattle.std.proofs.lemmas.Grind.{div_ceil_times}
 use Rattle.std.proofs.lemmas.List.{length-take, drop-drop, drop_at, drop-take, take-take}
@@ -16,11 +16,12 @@ use Rattle.share_layout.specs.Offsets.{AreRising, EndsWith, HasOwnOffsets, HasVe
 use Rattle.share_layout.specs.declared.offsets.Offsets.{Offsets}
 use Rattle.merkle.proofs.HeightLemmas.{height_below}
 use Rattle.share_layout.specs.Reading.{HasHeader}
+use Rattle.share_layout.proofs.GeometryLemmas.{share_low}
 use Rattle.share_layout.proofs.LayoutLemmas.{fits_layout, header_version, length-header, inside_header, layout_is, limit, read_back, spelled_at}
 use Rattle.share_layout.proofs.ShareLemmas.{parts_of}
 
 -- something is left of something
-div_ceil-some : (n k : ℕ) → 0 < n → 0 < k → 0 < div_ceil n k
+pub div_ceil-some : (n k : ℕ) → 0 < n → 0 < k → 0 < div_ceil n k
 div_ceil-some n k some divisor =
     elim (cases_lt 0 (div_ceil n k)) [
       | inl above ↦ above
@@ -44,7 +45,7 @@ have_bounds g v =
     let some = pow_pos (height (segment_count g)) in
     record {
       some_blocks = div_ceil-some g.size g.needed v.some v.some_needed;
-      few_blocks = omega (arith, div-le_self g.size g.needed, v.not_large);
+      few_blocks = omega (arith, share_low g v);
       some_nodes = omega (arith, some);
       few_nodes = omega (arith, width, some);
       some_hashes = omega arith;

@@ -26,6 +26,11 @@ abbrev pub geometry_of : ℕ → ℕ → ℕ → ℕ → Geometry
 geometry_of size needed total max =
     geometry_with size needed total (rounded_up (min max size) needed)
 
+-- the same of the text with its padding: the size is the least multiple of the shares needed that is
+-- the file's or more
+abbrev pub with_padding : Geometry → Geometry
+with_padding g = record g { size = rounded_up g.size g.needed }
+
 -- the number of segments
 abbrev pub segment_count : Geometry → ℕ
 segment_count g = num_segments g.size g.segment_size
@@ -79,12 +84,16 @@ IsGeometryFault size needed total max TooManySegments =
     × (max_segments < segment_count (geometry_of size needed total max))
 IsGeometryFault size needed total max error = ⊥
 
--- The geometry of some file. Its segment size is that of some greatest length: a multiple of the
--- shares needed, and no more than the file's size or the greatest length that there is, each
--- rounded up to such a multiple.
+-- the size of the longest text with its padding
+unfoldable pub max_padded : ℕ → ℕ
+max_padded needed = rounded_up max_file_size needed
+
+-- The geometry of some file, or of its text with the padding. Its segment size is that of some
+-- greatest length: a multiple of the shares needed, and no more than the text's size or the greatest
+-- length that there is, each rounded up to such a multiple.
 pub record IsGeometry (g : Geometry) : Type 0 where
   pub some : 0 < g.size
-  pub not_large : g.size ≤ max_file_size
+  pub not_large : g.size ≤ max_padded g.needed
   pub some_needed : 0 < g.needed
   pub enough : g.needed ≤ g.total
   pub shares : g.total ≤ max_shares
@@ -94,8 +103,10 @@ pub record IsGeometry (g : Geometry) : Type 0 where
   pub within : g.segment_size ≤ rounded_up g.size g.needed
   pub few : segment_count g ≤ max_segments
 
--- a law: a geometry is the one that its own segment size gives, where that may be a greatest length
+-- a law: the geometry of a file is the one that its own segment size gives, where that may be a
+-- greatest length
 abbrev pub GivesItself : Type 0
-GivesItself = (g : Geometry) → IsGeometry g → g.segment_size ≤ max_segment_size
+GivesItself = (g : Geometry) → IsGeometry g → g.size ≤ max_file_size
+    → g.segment_size ≤ max_segment_size
     → HasGeometry g.size g.needed g.total g.segment_size
     × (geometry_of g.size g.needed g.total g.segment_size ≡ g)

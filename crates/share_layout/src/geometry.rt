@@ -5,7 +5,7 @@ ghost use Rattle.std.specs.Prelude.{drop};
 ghost use Rattle.std.specs.Int.{w32, to_be_bytes};
 ghost use Rattle.std.specs.List.{flat_map};
 ghost use Rattle.merkle.specs.Tree.{height};
-ghost use Rattle.ueb.specs.Limits.{max_file_size, max_segment_size, max_segments};
+ghost use Rattle.ueb.specs.Limits.{max_file_size, max_segments};
 ghost use Rattle.ueb.specs.Shape.{rounded_up};
 ghost use Rattle.share_layout.specs.Geometry.{GivesItself};
 ghost use Rattle.share_layout.specs.Layout.{header, header_size, layout_of, spelled, version};
@@ -22,7 +22,8 @@ use ueb::{MAX_FILE_SIZE, MAX_SEGMENT_SIZE, MAX_SEGMENTS, MAX_SHARES};
 /// `total` give a segment back.
 ///
 /// The file has 1 to `ueb::MAX_FILE_SIZE` bytes, and at most `ueb::MAX_SEGMENTS` segments. There
-/// are 1 to `ueb::MAX_SHARES` shares. The segment size is a multiple of the shares needed.
+/// are 1 to `ueb::MAX_SHARES` shares. The segment size is a multiple of the shares needed. What is
+/// cut up can also be the file's text with its padding: see `padded`.
 #[derive(Clone, Copy, PartialEq, Eq)]
 pub struct Geometry {
     size: u64,
@@ -52,6 +53,7 @@ impl Model for Geometry {
 impl Geometry {
     ghost use Rattle.share_layout.specs.Geometry.{geometry_of, HasGeometry, IsGeometryFault};
     ghost use Rattle.share_layout.specs.Geometry.{IsGeometry, segment_count, tail_length};
+    ghost use Rattle.share_layout.specs.Geometry.{with_padding};
     ghost use Rattle.share_layout.specs.Geometry.{block_size, tail_block_size, share_data_size};
     ghost use Rattle.share_layout.specs.Geometry.{tree_size, hashes_size};
     ghost use Rattle.share_layout.specs.Layout.{header_numbers};
@@ -95,6 +97,19 @@ impl Geometry {
             total,
             segment_size: segment_size as u32,
         })
+    }
+
+    /// The geometry of the file's text with its padding: its size is the least multiple of the
+    /// shares needed that is the file's or more, and so up to 255 bytes above
+    /// `ueb::MAX_FILE_SIZE`. It has as many segments.
+    pub fn padded(&self) -> Geometry
+        ensures value { result ≡ with_padding self.now }
+        ensures valid { IsGeometry result }
+    {
+        Geometry {
+            size: rounded_up(self.size, self.needed),
+            ..*self
+        }
     }
 
     /// The file's size in bytes.
@@ -280,7 +295,7 @@ impl Geometry {
 // The least multiple of `k` that is `n` or more.
 fn rounded_up(n: u64, k: u16) -> u64
     requires some { 0 < k }
-    requires low { n ≤ max_segment_size }
+    requires low { n < 2 ^ 48 }
     ensures value { result ≡ rounded_up n k }
     ensures above { n ≤ result }
     ensures low { result < n + k }

@@ -1,14 +1,10 @@
 -- The geometry by an extension block.
-use Rattle.std.proofs.Common.{ℕ, ◌<◌, ◌≤◌, arith}
-use Rattle.std.proofs.lemmas.Grind.{div_ceil_times}
-use Rattle.ueb.specs.Shape.{AreContents, Contents, rounded_up}
+use Rattle.std.proofs.Common.{arith}
+use Rattle.ueb.specs.Shape.{AreContents, Contents}
 use Rattle.ueb.specs.Limits.{max_segment_size}
 use Rattle.share_layout.specs.Geometry.{IsGeometry}
+use Rattle.share_layout.proofs.GeometryLemmas.{file_fits, rounded_up_above}
 use Rattle.share_verify.specs.CapBlock.{geometry_by}
-
--- no number is above what it is rounded up to
-rounded_up_above : (n k : ℕ) → 0 < k → n ≤ rounded_up n k
-rounded_up_above n k some = omega (arith, div_ceil_times n k some)
 
 -- what an extension block says gives a geometry
 pub is_geometry : (u : Contents) → AreContents u → IsGeometry (geometry_by u)
@@ -17,7 +13,7 @@ is_geometry u valid =
     let segments = valid.shape.segments in
     record {
       some = omega arith;
-      not_large = file.not_large;
+      not_large = file_fits u.size u.needed_shares file.some_needed file.not_large;
       some_needed = file.some_needed;
       enough = file.enough;
       shares = file.shares;

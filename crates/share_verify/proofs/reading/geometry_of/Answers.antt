@@ -8,7 +8,7 @@ pub unreachable-requires : goal.unreachable-requires
 unreachable-requires c =
     let u = c.args.ueb.now in
     let valid = c.size.ensures.valid in
-    let own = c.geometry_gives_itself.ensures (geometry_by u) (is_geometry u valid) valid.shape.segments.not_large in
+    let own = c.geometry_gives_itself.ensures (geometry_by u) (is_geometry u valid) valid.shape.file.not_large valid.shape.segments.not_large in
     let has : HasGeometry c.size.result c.needed_shares.result c.total_shares.result c.segment_size.result =
     rw (c.size.ensures.value, c.needed_shares.ensures.value, c.total_shares.ensures.value, c.segment_size.ensures.value) own.0 in
     let found = c.of.ensures.complete has in
@@ -19,6 +19,6 @@ pub returns : goal.returns
 returns c =
     let u = c.args.ueb.now in
     let valid = c.size.ensures.valid in
-    let own = c.geometry_gives_itself.ensures (geometry_by u) (is_geometry u valid) valid.shape.segments.not_large in
+    let own = c.geometry_gives_itself.ensures (geometry_by u) (is_geometry u valid) valid.shape.file.not_large valid.shape.segments.not_large in
     c.in-Ok.ensures.given
     ∙ rw (c.size.ensures.value, c.needed_shares.ensures.value, c.total_shares.ensures.value, c.segment_size.ensures.value) own.1
