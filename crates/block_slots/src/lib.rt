@@ -8,4 +8,4 @@
 mod slot;
 mod slots;
 
-pub use slots::{BlockSlots, MAX_ROOM, PIECES_ROOM, window_for};
+pub use slots::{BlockSlots, MAX_ROOM, MAX_SLOTS, PIECES_ROOM, window_for};

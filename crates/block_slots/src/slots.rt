@@ -12,12 +12,12 @@ use std::marker::Model;
 /// 32,768 bytes.
 pub const PIECES_ROOM: u32 = 65_536;
 
-/// The bytes that all slots take together at most: 64 MiB. Of more shares than fit only the first
-/// have slots.
-pub const MAX_ROOM: u64 = 1 << 26;
+/// The bytes that the blocks in all slots take together at most: 512 MiB, which are two blocks of a
+/// MiB for each of 256 shares. Of more shares than fit only the first have slots.
+pub const MAX_ROOM: u64 = 1 << 29;
 
-// What a slot takes beside its block.
-const SLOT_ROOM: u64 = 64;
+/// How many slots there are at most: a slot takes some 64 bytes beside its block.
+pub const MAX_SLOTS: u64 = 1 << 20;
 
 /// How many slots a share of a file has: for the blocks of two pieces and two more, but no more
 /// than the file has segments. Blocks have `block_size` bytes.
@@ -71,8 +71,10 @@ impl BlockSlots {
         ensures shares { IfOk result (λ slots. slots.shares ≤ shares) }
         ensures size { IfOk result (λ slots. slots.block_size ≡ block_size) }
     {
-        let ring = u64::from(window).saturating_mul(u64::from(block_size) + SLOT_ROOM);
-        let count = (MAX_ROOM / ring.max(1)).min(u64::from(shares)) as usize;
+        let ring = u64::from(window).saturating_mul(u64::from(block_size));
+        let count = (MAX_ROOM / ring.max(1))
+            .min(MAX_SLOTS / u64::from(window))
+            .min(u64::from(shares)) as usize;
         let mut next = Vec::with_capacity(alloc, count)?;
         next.resize(count, 0)?;
         Ok(BlockSlots {
