@@ -28,7 +28,8 @@ use Rattle.lemmas.proofs.Options.{one_there}
 use Rattle.proved_parts.specs.declared.evidence.Evidence.{Evidence}
 use Rattle.download_core.specs.Evidence.{HasAllParts, IsEvidenceOf}
 use Rattle.share_layout.specs.Geometry.{segment_count}
-use Rattle.download_parts.proofs.NumberLemmas.{below_ceil, ceil_most}
+use Rattle.share_layout.proofs.GeometryLemmas.{ceil_most}
+use Rattle.download_parts.proofs.NumberLemmas.{below_ceil}
 use Rattle.download_file.specs.Right.{IsFile}
 
 pub head_answers : {cap : VerifyCapValue} {entries : List Request} {position : ℕ} {u : Contents} → (h : IsHead cap entries position u) → IsAnsweredBy entries position h.text

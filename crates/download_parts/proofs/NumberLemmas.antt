@@ -6,19 +6,12 @@ use Rattle.std.proofs.lemmas.Bool.{cases_lt}
 use Rattle.std.proofs.lemmas.Nat.{div-add-mod', div-mul-add, div_below, le-div, mod_below, pow_pos, pow-add}
 use Rattle.std.proofs.lemmas.Grind.{div_ceil_times}
 use Rattle.ueb.specs.Shape.{rounded_up}
+use Rattle.share_layout.proofs.GeometryLemmas.{ceil_most}
 use Rattle.download_parts.specs.Level.{end_node, first_node, group_size, leaves_below, level_count, row_of}
 
 -- what is below a number of whole pieces is in one of them
 pub below_ceil : (n k : ℕ) (q : ℕ) → 0 < k → q < n → q / k < div_ceil n k
 below_ceil n k q some low = div_below q k (div_ceil n k) some (omega (arith, (div_ceil_times n k some).0, low))
-
--- no more pieces than hold the whole
-pub ceil_most : (n k m : ℕ) → 0 < k → n ≤ m * k → div_ceil n k ≤ m
-ceil_most n k m some fits =
-    elim (cases_lt m (div_ceil n k)) [
-      | inl above ↦ absurd (omega (arith, mul-le-mul_right {m = m + 1} {n = div_ceil n k} k (omega arith), (div_ceil_times n k some).1, fits))
-      | inr below ↦ below
-    ]
 
 -- the beginning of each piece is below the whole
 pub piece_begins : (n k i : ℕ) → 0 < k → i < div_ceil n k → k * i < n

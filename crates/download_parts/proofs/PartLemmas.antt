@@ -11,6 +11,7 @@ use Rattle.share_layout.specs.declared.layout.Layout.{Layout}
 use Rattle.share_layout.specs.declared.layout.Layout.TheVariants.{One, Two}
 use Rattle.share_layout.specs.Layout.{header_size, layout_of, offsets_of}
 use Rattle.share_layout.specs.Pieces.{block_length}
+use Rattle.share_layout.proofs.GeometryLemmas.{share_low}
 use Rattle.download_parts.specs.Level.{IsAbove, first_node, group_size, level_at, level_count, row_of, tree_height}
 use Rattle.download_parts.specs.Plan.{IsAmong, IsNodePiece, IsPart, block_start, cut_at, data_end, data_pieces, data_offset, length_of, max_nodes, max_read, nodes_at, nodes_of, nodes_offset, offset_at, piece_at, pieces_of, offset_of, run_reads, run_size}
 use Rattle.download_parts.specs.Range.{IsRange}
@@ -21,17 +22,12 @@ use Rattle.download_parts.specs.declared.part.Nodes.{Nodes}
 use Rattle.download_parts.specs.declared.part.Part.{Part}
 use Rattle.download_parts.specs.declared.part.Part.TheVariants.{ShareHashes, BlockTree, CiphertextTree, Data}
 use Rattle.download_parts.proofs.RunLemmas.{piece_before, piece_begin, piece_from, piece_low, piece_of, piece_rest, piece_rises, piece_steps, pieces_few, reads_some, rise, rises, run_from, run_most, run_room, run_some, short}
-use Rattle.download_parts.proofs.NumberLemmas.{below_ceil, ceil_most, div_le, end_inside, end_multiple, first_below_end, first_multiple, group_begins, group_of, group_within, holds_group, piece_begins, reads_above, row_high, rows_rise}
+use Rattle.download_parts.proofs.NumberLemmas.{below_ceil, div_le, end_inside, end_multiple, first_below_end, first_multiple, group_begins, group_of, group_within, holds_group, piece_begins, reads_above, row_high, rows_rise}
 
--- headers and shares are not long
+-- headers are not long
 header_short : (l : Layout) → header_size l ≤ 68
 header_short One = omega arith
 header_short Two = omega arith
-
-share_low : (g : Geometry) → IsGeometry g → share_data_size g ≤ 2 ^ 40
-share_low g valid =
-    let low = valid.not_large in
-    ceil_most g.size g.needed (2 ^ 40) valid.some_needed (omega (arith, low, mul-le-mul_right {m = 1} {n = g.needed} (2 ^ 40) valid.some_needed))
 
 -- a segment's block begins before the blocks end
 pub block_begins : (g : Geometry) (a b : ℕ) → IsRange g a b → a * block_size g < share_data_size g
