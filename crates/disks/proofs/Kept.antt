@@ -4,7 +4,7 @@ use Rattle.std.specs.Prelude.{Option, Some, None, Bool, true, false, All, Contai
 use Rattle.std.specs.Prelude.{bytes_eq}
 use Rattle.std.proofs.lemmas.Slice.Eq.{bytes_eq-Decides}
 use Rattle.std.proofs.lemmas.List.Elements.{All-cons, All-nil, All-push, All-weaker, All-contains, All-contains_itself}
-use Rattle.disks.specs.Names.{Name}
+use Rattle.disks.specs.Names.{Name, Relied}
 use Rattle.disks.specs.declared.error.DiskError.{DiskError}
 use Rattle.disks.specs.Folder.{Folder, FileState, StandsFor, IsDurable, IsOwn}
 use Rattle.disks.specs.Steps.{Changes, SyncsFile, Spoils, Renames, SyncsFolder, MaySyncFolder, SameName, OtherFilesStay}
@@ -33,44 +33,44 @@ same_or_not a b = by_test (bytes_eq a b) refl
 
 -- ---- one after another
 
-pub keeps_same : (last : Name) (bytes : List ℕ) (s : Folder) → KeepsBut last bytes s s
-keeps_same last bytes s name kept lasting but durable = durable
+pub keeps_same : (relied : Relied) (last : Name) (bytes : List ℕ) (s : Folder) → KeepsBut relied last bytes s s
+keeps_same relied last bytes s name kept lasting but durable = durable
 
-pub keeps_on : (last : Name) (bytes : List ℕ) (s t u : Folder) → KeepsBut last bytes s t → KeepsBut last bytes t u
-    → KeepsBut last bytes s u
-keeps_on last bytes s t u first then name kept lasting but durable =
+pub keeps_on : {relied : Relied} (last : Name) (bytes : List ℕ) (s t u : Folder) → KeepsBut relied last bytes s t → KeepsBut relied last bytes t u
+    → KeepsBut relied last bytes s u
+keeps_on {relied} last bytes s t u first then name kept lasting but durable =
     then name kept lasting but (first name kept lasting but durable)
 
-pub others_keep : (last : Name) (bytes : List ℕ) (s t : Folder) → Others s t → KeepsBut last bytes s t
-others_keep last bytes s t others name kept lasting but durable = others.durable name kept lasting durable
+pub others_keep : {relied : Relied} (last : Name) (bytes : List ℕ) (s t : Folder) → Others relied s t → KeepsBut relied last bytes s t
+others_keep {relied} last bytes s t others name kept lasting but durable = others.durable name kept lasting durable
 
-abbrev Keeps : Name → List ℕ → Folder → (Folder → Folder → Type 0) → Type 0
-Keeps last bytes s act = (u v : Folder) → Others s u → act u v → KeepsBut last bytes u v
+abbrev Keeps : Relied → Name → List ℕ → Folder → (Folder → Folder → Type 0) → Type 0
+Keeps relied last bytes s act = (u v : Folder) → Others relied s u → act u v → KeepsBut relied last bytes u v
 
-pub steps_keep : (last : Name) (bytes : List ℕ) (act : Folder → Folder → Type 0) (s t : Folder)
-    → Keeps last bytes s act → Steps act s t → KeepsBut last bytes s t
-steps_keep last bytes act s t here steps =
+pub steps_keep : {relied : Relied} (last : Name) (bytes : List ℕ) (act : Folder → Folder → Type 0) (s t : Folder)
+    → Keeps relied last bytes s act → Steps relied act s t → KeepsBut relied last bytes s t
+steps_keep {relied} last bytes act s t here steps =
     keeps_on last bytes s steps.before t (others_keep last bytes s steps.before steps.first)
     (keeps_on last bytes steps.before steps.after t (here steps.before steps.after steps.first steps.step)
     (others_keep last bytes steps.after t steps.then))
 
-pub between_keep : (last : Name) (bytes : List ℕ) (act : Folder → Folder → Type 0) (s u : Folder)
-    → Keeps last bytes s act → Between act s u → KeepsBut last bytes s u
-between_keep last bytes act s u here (inl others) = others_keep last bytes s u others
-between_keep last bytes act s u here (inr steps) = steps_keep last bytes act s u here steps
+pub between_keep : {relied : Relied} (last : Name) (bytes : List ℕ) (act : Folder → Folder → Type 0) (s u : Folder)
+    → Keeps relied last bytes s act → Between relied act s u → KeepsBut relied last bytes s u
+between_keep {relied} last bytes act s u here (inl others) = others_keep last bytes s u others
+between_keep {relied} last bytes act s u here (inr steps) = steps_keep last bytes act s u here steps
 
-pub does_keep : (last : Name) (bytes : List ℕ) (ok err : Folder → Folder → Type 0) (r : Result Unit DiskError) (s t : Folder)
-    → Keeps last bytes s ok → Keeps last bytes s err → Does ok err r s t → KeepsBut last bytes s t
-does_keep last bytes ok err (Ok u) s t well ill does = steps_keep last bytes ok s t well does
-does_keep last bytes ok err (Err e) s t well ill does = steps_keep last bytes err s t ill does
+pub does_keep : {relied : Relied} (last : Name) (bytes : List ℕ) (ok err : Folder → Folder → Type 0) (r : Result Unit DiskError) (s t : Folder)
+    → Keeps relied last bytes s ok → Keeps relied last bytes s err → Does relied ok err r s t → KeepsBut relied last bytes s t
+does_keep {relied} last bytes ok err (Ok u) s t well ill does = steps_keep last bytes ok s t well does
+does_keep {relied} last bytes ok err (Err e) s t well ill does = steps_keep last bytes err s t ill does
 
-pub either_keep : (last : Name) (bytes : List ℕ) (s : Folder) (one other : Folder → Folder → Type 0)
-    → Keeps last bytes s one → Keeps last bytes s other → Keeps last bytes s (Either one other)
-either_keep last bytes s one other first second u v others (inl a) = first u v others a
-either_keep last bytes s one other first second u v others (inr b) = second u v others b
+pub either_keep : {relied : Relied} (last : Name) (bytes : List ℕ) (s : Folder) (one other : Folder → Folder → Type 0)
+    → Keeps relied last bytes s one → Keeps relied last bytes s other → Keeps relied last bytes s (Either one other)
+either_keep {relied} last bytes s one other first second u v others (inl a) = first u v others a
+either_keep {relied} last bytes s one other first second u v others (inr b) = second u v others b
 
-pub stays_keep : (last : Name) (bytes : List ℕ) (s : Folder) → Keeps last bytes s Stays
-stays_keep last bytes s u v others same = subst (λ (w : Folder). KeepsBut last bytes u w) (sym same) (keeps_same last bytes u)
+pub stays_keep : {relied : Relied} (last : Name) (bytes : List ℕ) (s : Folder) → Keeps relied last bytes s Stays
+stays_keep {relied} last bytes s u v others same = subst (λ (w : Folder). KeepsBut relied last bytes u w) (sym same) (keeps_same relied last bytes u)
 
 -- ---- the calls
 
@@ -101,19 +101,19 @@ durable_beside s t i f name bytes is unfinished files same durable = record {
       (All-weaker (StandsFor s bytes) (StandsFor t bytes) (λ o. stands_beside s t i f bytes o is unfinished files) (s.left name) durable.later);
 }
 
-pub changes_keep : (last : Name) (bytes : List ℕ) (s : Folder) (own : Name) (i : ℕ) (f : FileState)
-    (change : FileState → FileState) → IsOwn s own i f → f.is_finished ≡ false → Keeps last bytes s (Changes i change)
-changes_keep last bytes s own i f change is unfinished u v others step name kept lasting but durable =
+pub changes_keep : {relied : Relied} (last : Name) (bytes : List ℕ) (s : Folder) (own : Name) (i : ℕ) (f : FileState)
+    (change : FileState → FileState) → IsOwn s own i f → f.is_finished ≡ false → Keeps relied last bytes s (Changes i change)
+changes_keep {relied} last bytes s own i f change is unfinished u v others step name kept lasting but durable =
     durable_beside u v i f name kept (others_own s u own i f others is).file_is unfinished step.files (step.names name) durable
 
-pub spoils_keep : (last : Name) (bytes : List ℕ) (s : Folder) (own : Name) (i : ℕ) (f : FileState)
-    → IsOwn s own i f → f.is_finished ≡ false → Keeps last bytes s (Spoils i)
-spoils_keep last bytes s own i f is unfinished u v others step name kept lasting but durable =
+pub spoils_keep : {relied : Relied} (last : Name) (bytes : List ℕ) (s : Folder) (own : Name) (i : ℕ) (f : FileState)
+    → IsOwn s own i f → f.is_finished ≡ false → Keeps relied last bytes s (Spoils i)
+spoils_keep {relied} last bytes s own i f is unfinished u v others step name kept lasting but durable =
     durable_beside u v i f name kept (others_own s u own i f others is).file_is unfinished step.2.files (step.2.names name) durable
 
-pub renames_keep : (from to : Name) (bytes : List ℕ) (s : Folder) (i : ℕ)
-    → IsOwn s from i (record { bytes = bytes; is_synced = true; is_finished = false }) → Keeps to bytes s (Renames from to)
-renames_keep from to bytes s i is u v others step name kept lasting but durable =
+pub renames_keep : {relied : Relied} (from to : Name) (bytes : List ℕ) (s : Folder) (i : ℕ)
+    → IsOwn s from i (record { bytes = bytes; is_synced = true; is_finished = false }) → Keeps relied to bytes s (Renames from to)
+renames_keep {relied} from to bytes s i is u v others step name kept lasting but durable =
     ⊎_elim (λ same. at_to same) (λ other. ⊎_elim (λ same. absurd (at_from same)) (λ apart. beside other apart) (same_or_not name from))
     (same_or_not name to)
   where
@@ -167,16 +167,16 @@ renames_keep from to bytes s i is u v others step name kept lasting but durable 
 stands_still : (u v : Folder) (bytes : List ℕ) → ((i : ℕ) → v.file i ≡ u.file i) → (o : Option ℕ) → StandsFor u bytes o → StandsFor v bytes o
 stands_still u v bytes files o = stands_same u v bytes o (λ i _ _ _. files i)
 
-pub folder_keep : (last : Name) (bytes : List ℕ) (s : Folder) → Keeps last bytes s SyncsFolder
-folder_keep last bytes s u v others step name kept lasting but durable =
+pub folder_keep : {relied : Relied} (last : Name) (bytes : List ℕ) (s : Folder) → Keeps relied last bytes s SyncsFolder
+folder_keep {relied} last bytes s u v others step name kept lasting but durable =
     let stands = stands_still u v kept step.files (u.found name) durable.now in
     record {
       now = subst (StandsFor v kept) (sym (step.found name)) stands;
       later = subst (λ (l : List (Option ℕ)). All (StandsFor v kept) l) (sym (step.left name)) (All-cons (StandsFor v kept) _ [] stands (All-nil (StandsFor v kept)));
     }
 
-pub may_folder_keep : (last : Name) (bytes : List ℕ) (s : Folder) → Keeps last bytes s MaySyncFolder
-may_folder_keep last bytes s u v others step name kept lasting but durable = record {
+pub may_folder_keep : {relied : Relied} (last : Name) (bytes : List ℕ) (s : Folder) → Keeps relied last bytes s MaySyncFolder
+may_folder_keep {relied} last bytes s u v others step name kept lasting but durable = record {
   now = subst (StandsFor v kept) (sym (step.found name)) (stands_still u v kept step.files (u.found name) durable.now);
   later = All-weaker (Contains (v.left name)) (StandsFor v kept)
       (λ o among. stands_still u v kept step.files o (All-contains (StandsFor u kept) (u.left name) o durable.later (step.left name o among)))
@@ -185,35 +185,35 @@ may_folder_keep last bytes s u v others step name kept lasting but durable = rec
 
 -- ---- calls, however they end
 
-pub sync_file_keeps : (last : Name) (bytes : List ℕ) (s : Folder) (own : Name) (i : ℕ) (f : FileState)
-    → IsOwn s own i f → f.is_finished ≡ false → Keeps last bytes s (Either (SyncsFile i) (Spoils i))
-sync_file_keeps last bytes s own i f is unfinished =
+pub sync_file_keeps : {relied : Relied} (last : Name) (bytes : List ℕ) (s : Folder) (own : Name) (i : ℕ) (f : FileState)
+    → IsOwn s own i f → f.is_finished ≡ false → Keeps relied last bytes s (Either (SyncsFile i) (Spoils i))
+sync_file_keeps {relied} last bytes s own i f is unfinished =
     either_keep last bytes s (SyncsFile i) (Spoils i) (changes_keep last bytes s own i f _ is unfinished) (spoils_keep last bytes s own i f is unfinished)
 
-pub rename_keeps : (from to : Name) (bytes : List ℕ) (s : Folder) (i : ℕ)
+pub rename_keeps : {relied : Relied} (from to : Name) (bytes : List ℕ) (s : Folder) (i : ℕ)
     → IsOwn s from i (record { bytes = bytes; is_synced = true; is_finished = false })
-    → Keeps to bytes s (Either (Renames from to) (Either Stays (Renames from to)))
-rename_keeps from to bytes s i is =
+    → Keeps relied to bytes s (Either (Renames from to) (Either Stays (Renames from to)))
+rename_keeps {relied} from to bytes s i is =
     let renames = renames_keep from to bytes s i is in
     either_keep to bytes s (Renames from to) (Either Stays (Renames from to)) renames
     (either_keep to bytes s Stays (Renames from to) (stays_keep to bytes s) renames)
 
-pub sync_folder_keeps : (last : Name) (bytes : List ℕ) (s : Folder) → Keeps last bytes s (Either SyncsFolder MaySyncFolder)
-sync_folder_keeps last bytes s = either_keep last bytes s SyncsFolder MaySyncFolder (folder_keep last bytes s) (may_folder_keep last bytes s)
+pub sync_folder_keeps : {relied : Relied} (last : Name) (bytes : List ℕ) (s : Folder) → Keeps relied last bytes s (Either SyncsFolder MaySyncFolder)
+sync_folder_keeps {relied} last bytes s = either_keep last bytes s SyncsFolder MaySyncFolder (folder_keep last bytes s) (may_folder_keep last bytes s)
 
 -- so a call goes on to keep
-pub goes_on : (last : Name) (bytes : List ℕ) (ok err : Folder → Folder → Type 0) (r : Result Unit DiskError) (s0 s t : Folder)
-    → KeepsBut last bytes s0 s → Keeps last bytes s (Either ok err) → Does ok err r s t → KeepsBut last bytes s0 t
-goes_on last bytes ok err r s0 s t so_far keep does =
+pub goes_on : {relied : Relied} (last : Name) (bytes : List ℕ) (ok err : Folder → Folder → Type 0) (r : Result Unit DiskError) (s0 s t : Folder)
+    → KeepsBut relied last bytes s0 s → Keeps relied last bytes s (Either ok err) → Does relied ok err r s t → KeepsBut relied last bytes s0 t
+goes_on {relied} last bytes ok err r s0 s t so_far keep does =
     keeps_on last bytes s0 s t so_far (does_keep last bytes ok err r s t (λ u v others step. keep u v others (inl step)) (λ u v others step. keep u v others (inr step)) does)
 
-pub passes_on : (last : Name) (bytes : List ℕ) (act : Folder → Folder → Type 0) (s0 s : Folder) (a b c : List Folder)
-    → KeepsBut last bytes s0 s → Keeps last bytes s act → Passed (KeepsBut last bytes s0) a b → Passed (Between act s) b c
-    → Passed (KeepsBut last bytes s0) a c
-passes_on last bytes act s0 s a b c so_far keep before passed =
-    then (KeepsBut last bytes s0) a b c before
-    (weaker (Between act s) (KeepsBut last bytes s0) b c (λ u between. keeps_on last bytes s0 s u so_far (between_keep last bytes act s u keep between)) passed)
+pub passes_on : {relied : Relied} (last : Name) (bytes : List ℕ) (act : Folder → Folder → Type 0) (s0 s : Folder) (a b c : List Folder)
+    → KeepsBut relied last bytes s0 s → Keeps relied last bytes s act → Passed (KeepsBut relied last bytes s0) a b → Passed (Between relied act s) b c
+    → Passed (KeepsBut relied last bytes s0) a c
+passes_on {relied} last bytes act s0 s a b c so_far keep before passed =
+    then (KeepsBut relied last bytes s0) a b c before
+    (weaker (Between relied act s) (KeepsBut relied last bytes s0) b c (λ u between. keeps_on last bytes s0 s u so_far (between_keep last bytes act s u keep between)) passed)
 
-pub passes_first : (last : Name) (bytes : List ℕ) (act : Folder → Folder → Type 0) (s : Folder) (a b : List Folder)
-    → Keeps last bytes s act → Passed (Between act s) a b → Passed (KeepsBut last bytes s) a b
-passes_first last bytes act s a b keep = weaker (Between act s) (KeepsBut last bytes s) a b (λ u. between_keep last bytes act s u keep)
+pub passes_first : {relied : Relied} (last : Name) (bytes : List ℕ) (act : Folder → Folder → Type 0) (s : Folder) (a b : List Folder)
+    → Keeps relied last bytes s act → Passed (Between relied act s) a b → Passed (KeepsBut relied last bytes s) a b
+passes_first {relied} last bytes act s a b keep = weaker (Between relied act s) (KeepsBut relied last bytes s) a b (λ u. between_keep last bytes act s u keep)

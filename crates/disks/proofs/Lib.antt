@@ -11,7 +11,7 @@ mod Replays
 mod Alone
 mod Named
 mod Unused
-mod Polite
+pub mod Polite
 mod Sparing
 mod Moved
 mod Writing

@@ -3,7 +3,7 @@ use Rattle.std.proofs.Common.{◌≡◌, ◌≢◌, ◌⊎◌, inl, inr, ◌==�
 use Rattle.std.specs.Prelude.{Option, Some, None, Bool, true, false, All, Result, Ok, Err}
 use Rattle.std.proofs.lemmas.Bool.Decides.{Decides-eqb}
 use Rattle.std.proofs.lemmas.List.Elements.{All-push}
-use Rattle.disks.specs.Names.{Name, lasts}
+use Rattle.disks.specs.Names.{Name, Relied, IsRelied}
 use Rattle.disks.specs.declared.error.DiskError.{DiskError}
 use Rattle.disks.specs.Folder.{Folder, FileState, StandsFor, StandsForOne, IsDurable, IsOneOf}
 use Rattle.disks.specs.Steps.{Finds, Opens, Renames}
@@ -15,7 +15,7 @@ use Rattle.disks.proofs.Kept.{same_or_not}
 use Rattle.disks.proofs.Moments.{weaker, then}
 use Rattle.disks.proofs.Sparing.{durable_of_one, one_of_durable, either_so, FinishedStay, files_stay, fewer_of_any, keeps_on, keeps_same, KeepsSo, later_stays, does_keep, passes_keep, Replacing, same_stays, steps_keep, stays_so}
 
-same_number : (i j : ℕ) → (j ≡ i) ⊎ (j ≢ i)
+pub same_number : (i j : ℕ) → (j ≡ i) ⊎ (j ≢ i)
 same_number i j = by_test (j == i) refl
   where
     differ : true ≡ false → ⊥
@@ -36,9 +36,9 @@ finished bytes = record { bytes = bytes; is_synced = true; is_finished = true }
 file_of : (u : Folder) (bytes : List ℕ) (o : Option ℕ) (i : ℕ) → o ≡ Some i → StandsFor u bytes o → u.file i ≡ finished bytes
 file_of u bytes o i is stands = subst (StandsFor u bytes) is stands
 
-pub moves_so : (from to : Name) (bytes : List ℕ) (s : Folder) → lasts from ≡ true → IsDurable s from bytes
-    → KeepsSo from (Replacing from to bytes) s (Renames from to)
-moves_so from to bytes s lasting_from durable u v others step = record {
+pub moves_so : {relied : Relied} (from to : Name) (bytes : List ℕ) (s : Folder) → IsRelied relied from bytes → IsDurable s from bytes
+    → KeepsSo relied from (Replacing from to bytes) s (Renames from to)
+moves_so {relied} from to bytes s lasting_from durable u v others step = record {
   one_of = λ name one other lasting asked holds. at name one other asked holds (same_or_not name to);
   owns = λ name apart. owns name apart (same_or_not name to);
   files = files_stay u v files;
@@ -74,70 +74,70 @@ moves_so from to bytes s lasting_from durable u v others step = record {
         }
     at name one other asked holds (inr apart) = same_stays u v name one other files (step.names name asked.0 apart) holds
 
-pub move_so : (from to : Name) (bytes : List ℕ) (s : Folder) → lasts from ≡ true → IsDurable s from bytes
-    → KeepsSo from (Replacing from to bytes) s (Either (Renames from to) (Either Stays (Renames from to)))
-move_so from to bytes s lasting durable =
+pub move_so : {relied : Relied} (from to : Name) (bytes : List ℕ) (s : Folder) → IsRelied relied from bytes → IsDurable s from bytes
+    → KeepsSo relied from (Replacing from to bytes) s (Either (Renames from to) (Either Stays (Renames from to)))
+move_so {relied} from to bytes s lasting durable =
     let moves = moves_so from to bytes s lasting durable in
     either_so from (Replacing from to bytes) s (Renames from to) (Either Stays (Renames from to)) moves
     (either_so from (Replacing from to bytes) s Stays (Renames from to) (stays_so from (Replacing from to bytes) s) moves)
 
 -- what is durable stays so where everything is kept
-pub still_durable : (own : Name) (s t : Folder) (name : Name) (bytes : List ℕ) → lasts name ≡ true → Keeps own Any s t → IsDurable s name bytes → IsDurable t name bytes
-still_durable own s t name bytes lasting keeps durable = durable_of_one t name bytes (keeps.one_of name bytes bytes lasting tt (one_of_durable s name bytes bytes durable))
+pub still_durable : {relied : Relied} (own : Name) (s t : Folder) (name : Name) (bytes : List ℕ) → IsRelied relied name bytes → Keeps relied own Any s t → IsDurable s name bytes → IsDurable t name bytes
+still_durable {relied} own s t name bytes lasting keeps durable = durable_of_one t name bytes (keeps.one_of name bytes bytes (lasting, lasting) tt (one_of_durable s name bytes bytes durable))
 
-pub moved_stands : (from to : Name) (s t : Folder) (bytes : List ℕ) → lasts from ≡ true → lasts to ≡ true → IsDurable s from bytes
-    → Steps (Renames from to) s t → StandsFor t bytes (t.found to)
-moved_stands from to s t bytes lasting_from lasting_to durable steps =
+pub moved_stands : {relied : Relied} (from to : Name) (s t : Folder) (bytes : List ℕ) → IsRelied relied from bytes → IsRelied relied to bytes → IsDurable s from bytes
+    → Steps relied (Renames from to) s t → StandsFor t bytes (t.found to)
+moved_stands {relied} from to s t bytes lasting_from lasting_to durable steps =
     let r = steps.step in
     let file = file_of steps.before bytes (steps.before.found from) r.inode r.was (steps.first.durable from bytes lasting_from durable).now in
     steps.then.settled to bytes lasting_to
     (subst (StandsFor steps.after bytes) (sym r.found) (r.file ∙ ap (λ (f : FileState). record f { is_finished = true }) file))
 
-pub moved_keep : (from to : Name) (bytes : List ℕ) (s t u : Folder) (r : Result Unit DiskError) → lasts from ≡ true → IsDurable s from bytes → Keeps from Any s t
-    → Does (Renames from to) (Either Stays (Renames from to)) r t u → Keeps from (Replacing from to bytes) s u
-moved_keep from to bytes s t u r lasting durable looked does =
+pub moved_keep : {relied : Relied} (from to : Name) (bytes : List ℕ) (s t u : Folder) (r : Result Unit DiskError) → IsRelied relied from bytes → IsDurable s from bytes → Keeps relied from Any s t
+    → Does relied (Renames from to) (Either Stays (Renames from to)) r t u → Keeps relied from (Replacing from to bytes) s u
+moved_keep {relied} from to bytes s t u r lasting durable looked does =
     keeps_on from (Replacing from to bytes) s t u (fewer_of_any from to bytes s t looked)
     (does_keep from (Replacing from to bytes) (Renames from to) (Either Stays (Renames from to)) r t u (move_so from to bytes t lasting (still_durable from s t from bytes lasting looked durable)) does)
 
-pub spares_moved : (from to : Name) (bytes : List ℕ) (s t : Folder) → from ≢ to → Keeps from (Replacing from to bytes) s t → SparesMoved from to bytes s t
-spares_moved from to bytes s t apart keeps = record {
+pub spares_moved : {relied : Relied} (from to : Name) (bytes : List ℕ) (s t : Folder) → from ≢ to → Keeps relied from (Replacing from to bytes) s t → SparesMoved relied from to bytes s t
+spares_moved {relied} from to bytes s t apart keeps = record {
   others = λ name kept lasting not_from not_to durable.
-      durable_of_one t name kept (keeps.one_of name kept kept lasting (not_from, λ same. absurd (not_to same)) (one_of_durable s name kept kept durable));
+      durable_of_one t name kept (keeps.one_of name kept kept (lasting, lasting) (not_from, λ same. absurd (not_to same)) (one_of_durable s name kept kept durable));
   here = λ kept lasting durable. keeps.one_of to kept bytes lasting ((λ same. apart (sym same)), λ same. refl) (one_of_durable s to kept bytes durable);
   files = keeps.files;
 }
 
-pub any_moved : (from to : Name) (bytes : List ℕ) (s t : Folder) → from ≢ to → Keeps from Any s t → SparesMoved from to bytes s t
-any_moved from to bytes s t apart keeps = spares_moved from to bytes s t apart (fewer_of_any from to bytes s t keeps)
+pub any_moved : {relied : Relied} (from to : Name) (bytes : List ℕ) (s t : Folder) → from ≢ to → Keeps relied from Any s t → SparesMoved relied from to bytes s t
+any_moved {relied} from to bytes s t apart keeps = spares_moved from to bytes s t apart (fewer_of_any from to bytes s t keeps)
 
-pub then_moved : (from to : Name) (bytes : List ℕ) (s t : Folder) (a b c : List Folder) → from ≢ to → Keeps from (Replacing from to bytes) s t
-    → Passed (SparesMoved from to bytes s) a b → Passed (Keeps from (Replacing from to bytes) t) b c → Passed (SparesMoved from to bytes s) a c
-then_moved from to bytes s t a b c apart kept before passed =
-    then (SparesMoved from to bytes s) a b c before
-    (weaker (Keeps from (Replacing from to bytes) t) (SparesMoved from to bytes s) b c
+pub then_moved : {relied : Relied} (from to : Name) (bytes : List ℕ) (s t : Folder) (a b c : List Folder) → from ≢ to → Keeps relied from (Replacing from to bytes) s t
+    → Passed (SparesMoved relied from to bytes s) a b → Passed (Keeps relied from (Replacing from to bytes) t) b c → Passed (SparesMoved relied from to bytes s) a c
+then_moved {relied} from to bytes s t a b c apart kept before passed =
+    then (SparesMoved relied from to bytes s) a b c before
+    (weaker (Keeps relied from (Replacing from to bytes) t) (SparesMoved relied from to bytes s) b c
     (λ u keeps. spares_moved from to bytes s u apart (keeps_on from (Replacing from to bytes) s t u kept keeps)) passed)
 
-pub looked_passes : (from to : Name) (bytes : List ℕ) (s : Folder) (a b : List Folder) → from ≢ to → Passed (Keeps from Any s) a b → Passed (SparesMoved from to bytes s) a b
-looked_passes from to bytes s a b apart = weaker (Keeps from Any s) (SparesMoved from to bytes s) a b (λ u. any_moved from to bytes s u apart)
+pub looked_passes : {relied : Relied} (from to : Name) (bytes : List ℕ) (s : Folder) (a b : List Folder) → from ≢ to → Passed (Keeps relied from Any s) a b → Passed (SparesMoved relied from to bytes s) a b
+looked_passes {relied} from to bytes s a b apart = weaker (Keeps relied from Any s) (SparesMoved relied from to bytes s) a b (λ u. any_moved from to bytes s u apart)
 
-pub moved_passes : (from to : Name) (bytes : List ℕ) (s t : Folder) (a b c : List Folder) → from ≢ to → lasts from ≡ true → IsDurable s from bytes → Keeps from Any s t
-    → Passed (Keeps from Any s) a b → Passed (Between (Either (Renames from to) (Either Stays (Renames from to))) t) b c → Passed (SparesMoved from to bytes s) a c
-moved_passes from to bytes s t a b c apart lasting durable looked before passed =
+pub moved_passes : {relied : Relied} (from to : Name) (bytes : List ℕ) (s t : Folder) (a b c : List Folder) → from ≢ to → IsRelied relied from bytes → IsDurable s from bytes → Keeps relied from Any s t
+    → Passed (Keeps relied from Any s) a b → Passed (Between relied (Either (Renames from to) (Either Stays (Renames from to))) t) b c → Passed (SparesMoved relied from to bytes s) a c
+moved_passes {relied} from to bytes s t a b c apart lasting durable looked before passed =
     then_moved from to bytes s t a b c apart (fewer_of_any from to bytes s t looked) (looked_passes from to bytes s a b apart before)
     (passes_keep from (Replacing from to bytes) (Either (Renames from to) (Either Stays (Renames from to))) t b c
     (move_so from to bytes t lasting (still_durable from s t from bytes lasting looked durable)) passed)
 
 -- ---- looks
 
-same_keeps : (own : Name) (u v : Folder) → v ≡ u → Keeps own Any u v
-same_keeps own u v same = subst (λ (w : Folder). Keeps own Any u w) (sym same) (keeps_same own Any u)
+same_keeps : {relied : Relied} (own : Name) (u v : Folder) → v ≡ u → Keeps relied own Any u v
+same_keeps {relied} own u v same = subst (λ (w : Folder). Keeps relied own Any u w) (sym same) (keeps_same own Any u)
 
-pub opened_any : {F : Type 0} (inode : F → ℕ) (own name : Name) (r : Result F DiskError) (s t : Folder)
-    → Gives (λ (file : F). Opens name (inode file)) Stays r s t → Keeps own Any s t
-opened_any inode own name (Ok file) s t gives = steps_keep own Any (Opens name (inode file)) s t (λ u v others step. same_keeps own u v step.same) gives
-opened_any inode own name (Err e) s t gives = steps_keep own Any Stays s t (stays_so own Any s) gives
+pub opened_any : {relied : Relied} {F : Type 0} (inode : F → ℕ) (own name : Name) (r : Result F DiskError) (s t : Folder)
+    → Gives relied (λ (file : F). Opens name (inode file)) Stays r s t → Keeps relied own Any s t
+opened_any {relied} inode own name (Ok file) s t gives = steps_keep own Any (Opens name (inode file)) s t (λ u v others step. same_keeps own u v step.same) gives
+opened_any {relied} inode own name (Err e) s t gives = steps_keep own Any Stays s t (stays_so own Any s) gives
 
-pub found_any : (own name : Name) (r : Result (Option ℕ) DiskError) (s t : Folder) → Gives (Finds name) Stays r s t → Keeps own Any s t
-found_any own name (Ok None) s t gives = steps_keep own Any (Finds name None) s t (λ u v others step. same_keeps own u v step.0) gives
-found_any own name (Ok (Some n)) s t gives = steps_keep own Any (Finds name (Some n)) s t (λ u v others step. same_keeps own u v step.0) gives
-found_any own name (Err e) s t gives = steps_keep own Any Stays s t (stays_so own Any s) gives
+pub found_any : {relied : Relied} (own name : Name) (r : Result (Option ℕ) DiskError) (s t : Folder) → Gives relied (Finds name) Stays r s t → Keeps relied own Any s t
+found_any {relied} own name (Ok None) s t gives = steps_keep own Any (Finds name None) s t (λ u v others step. same_keeps own u v step.0) gives
+found_any {relied} own name (Ok (Some n)) s t gives = steps_keep own Any (Finds name (Some n)) s t (λ u v others step. same_keeps own u v step.0) gives
+found_any {relied} own name (Err e) s t gives = steps_keep own Any Stays s t (stays_so own Any s) gives

@@ -2,7 +2,7 @@
 use Rattle.std.proofs.Common.{◌≡◌, ◌≢◌, ◌⊎◌, inl, inr, ℕ, List, [], ◌∷◌, ◌++◌, refl, sym, ◌∙◌, ap, subst}
 use Rattle.std.specs.Prelude.{Option, Some, None, true, false, All, Contains, Result, Ok, Err}
 use Rattle.std.proofs.lemmas.List.Elements.{All-cons, All-nil, All-push, All-weaker, All-contains, All-contains_itself}
-use Rattle.disks.specs.Names.{Name, lasts}
+use Rattle.disks.specs.Names.{Name, Relied, IsRelied, AreRelied}
 use Rattle.disks.specs.declared.error.DiskError.{DiskError}
 use Rattle.disks.specs.Folder.{Folder, FileState, StandsFor, StandsForOne, IsDurable, IsOneOf, IsOwn}
 use Rattle.disks.specs.Steps.{Creates, Makes, Changes, Spoils, Renames, Links, SyncsFolder, MaySyncFolder, Removes, SameName, OtherFilesStay}
@@ -13,7 +13,7 @@ use Rattle.disks.specs.Laws.{FilesStay}
 use Rattle.disks.specs.Past.{Passed}
 use Rattle.disks.specs.Whole.{SparesAll, Spares, IsFree, Keeps, Beside, Any}
 use Rattle.disks.proofs.Durable.{stands_same}
-use Rattle.disks.proofs.Held.{differ, has_same}
+use Rattle.disks.proofs.Held.{differ, has_same, others_files}
 use Rattle.disks.proofs.Kept.{same_or_not}
 use Rattle.disks.proofs.Moments.{weaker, then}
 use Rattle.disks.proofs.OwnNames.{others_own}
@@ -62,98 +62,98 @@ none_there s one other o none (inr stands) = subst (StandsFor s other) none stan
 
 -- ---- one after another
 
-pub keeps_same : (own : Name) (may : Name → List ℕ → Type 0) (s : Folder) → Keeps own may s s
-keeps_same own may s = record {
+pub keeps_same : {relied : Relied} (own : Name) (may : Name → List ℕ → Type 0) (s : Folder) → Keeps relied own may s s
+keeps_same {relied} own may s = record {
   one_of = λ name one other lasting asked is. is;
   owns = λ name apart. refl;
   files = λ i bytes has. has;
 }
 
-pub keeps_on : (own : Name) (may : Name → List ℕ → Type 0) (s t u : Folder) → Keeps own may s t → Keeps own may t u → Keeps own may s u
-keeps_on own may s t u first then = record {
+pub keeps_on : {relied : Relied} (own : Name) (may : Name → List ℕ → Type 0) (s t u : Folder) → Keeps relied own may s t → Keeps relied own may t u → Keeps relied own may s u
+keeps_on {relied} own may s t u first then = record {
   one_of = λ name one other lasting asked is. then.one_of name one other lasting asked (first.one_of name one other lasting asked is);
   owns = λ name apart. then.owns name apart ∙ first.owns name apart;
   files = λ i bytes has. then.files i bytes (first.files i bytes has);
 }
 
-pub keeps_fewer : (own : Name) (may few : Name → List ℕ → Type 0) (s t : Folder) → ((name : Name) (other : List ℕ) → few name other → may name other)
-    → Keeps own may s t → Keeps own few s t
-keeps_fewer own may few s t each keeps = record {
+pub keeps_fewer : {relied : Relied} (own : Name) (may few : Name → List ℕ → Type 0) (s t : Folder) → ((name : Name) (other : List ℕ) → few name other → may name other)
+    → Keeps relied own may s t → Keeps relied own few s t
+keeps_fewer {relied} own may few s t each keeps = record {
   one_of = λ name one other lasting asked is. keeps.one_of name one other lasting (each name other asked) is;
   owns = keeps.owns;
   files = keeps.files;
 }
 
-pub others_keep : (own : Name) (may : Name → List ℕ → Type 0) (s t : Folder) → Others s t → Keeps own may s t
-others_keep own may s t others = record {
+pub others_keep : {relied : Relied} (own : Name) (may : Name → List ℕ → Type 0) (s t : Folder) → Others relied s t → Keeps relied own may s t
+others_keep {relied} own may s t others = record {
   one_of = λ name one other lasting asked is. others.one_of name one other lasting is;
   owns = λ name apart. others.own name;
-  files = files_stay s t others.finished;
+  files = others_files s t others;
 }
 
-abbrev pub KeepsSo : Name → (Name → List ℕ → Type 0) → Folder → (Folder → Folder → Type 0) → Type 0
-KeepsSo own may s act = (u v : Folder) → Others s u → act u v → Keeps own may u v
+abbrev pub KeepsSo : Relied → Name → (Name → List ℕ → Type 0) → Folder → (Folder → Folder → Type 0) → Type 0
+KeepsSo relied own may s act = (u v : Folder) → Others relied s u → act u v → Keeps relied own may u v
 
-pub steps_keep : (own : Name) (may : Name → List ℕ → Type 0) (act : Folder → Folder → Type 0) (s t : Folder)
-    → KeepsSo own may s act → Steps act s t → Keeps own may s t
-steps_keep own may act s t here steps =
+pub steps_keep : {relied : Relied} (own : Name) (may : Name → List ℕ → Type 0) (act : Folder → Folder → Type 0) (s t : Folder)
+    → KeepsSo relied own may s act → Steps relied act s t → Keeps relied own may s t
+steps_keep {relied} own may act s t here steps =
     keeps_on own may s steps.before t (others_keep own may s steps.before steps.first)
     (keeps_on own may steps.before steps.after t (here steps.before steps.after steps.first steps.step)
     (others_keep own may steps.after t steps.then))
 
-pub between_keep : (own : Name) (may : Name → List ℕ → Type 0) (act : Folder → Folder → Type 0) (s u : Folder)
-    → KeepsSo own may s act → Between act s u → Keeps own may s u
-between_keep own may act s u here (inl others) = others_keep own may s u others
-between_keep own may act s u here (inr steps) = steps_keep own may act s u here steps
+pub between_keep : {relied : Relied} (own : Name) (may : Name → List ℕ → Type 0) (act : Folder → Folder → Type 0) (s u : Folder)
+    → KeepsSo relied own may s act → Between relied act s u → Keeps relied own may s u
+between_keep {relied} own may act s u here (inl others) = others_keep own may s u others
+between_keep {relied} own may act s u here (inr steps) = steps_keep own may act s u here steps
 
-pub either_so : (own : Name) (may : Name → List ℕ → Type 0) (s : Folder) (one other : Folder → Folder → Type 0)
-    → KeepsSo own may s one → KeepsSo own may s other → KeepsSo own may s (Either one other)
-either_so own may s one other first second u v others (inl a) = first u v others a
-either_so own may s one other first second u v others (inr b) = second u v others b
+pub either_so : {relied : Relied} (own : Name) (may : Name → List ℕ → Type 0) (s : Folder) (one other : Folder → Folder → Type 0)
+    → KeepsSo relied own may s one → KeepsSo relied own may s other → KeepsSo relied own may s (Either one other)
+either_so {relied} own may s one other first second u v others (inl a) = first u v others a
+either_so {relied} own may s one other first second u v others (inr b) = second u v others b
 
-pub stays_so : (own : Name) (may : Name → List ℕ → Type 0) (s : Folder) → KeepsSo own may s Stays
-stays_so own may s u v others same = subst (λ (w : Folder). Keeps own may u w) (sym same) (keeps_same own may u)
+pub stays_so : {relied : Relied} (own : Name) (may : Name → List ℕ → Type 0) (s : Folder) → KeepsSo relied own may s Stays
+stays_so {relied} own may s u v others same = subst (λ (w : Folder). Keeps relied own may u w) (sym same) (keeps_same own may u)
 
 -- a call, however it ends
-pub does_keep : (own : Name) (may : Name → List ℕ → Type 0) (ok err : Folder → Folder → Type 0) (r : Result Unit DiskError) (s t : Folder)
-    → KeepsSo own may s (Either ok err) → Does ok err r s t → Keeps own may s t
-does_keep own may ok err (Ok u) s t here does = steps_keep own may ok s t (λ u v others step. here u v others (inl step)) does
-does_keep own may ok err (Err e) s t here does = steps_keep own may err s t (λ u v others step. here u v others (inr step)) does
+pub does_keep : {relied : Relied} (own : Name) (may : Name → List ℕ → Type 0) (ok err : Folder → Folder → Type 0) (r : Result Unit DiskError) (s t : Folder)
+    → KeepsSo relied own may s (Either ok err) → Does relied ok err r s t → Keeps relied own may s t
+does_keep {relied} own may ok err (Ok u) s t here does = steps_keep own may ok s t (λ u v others step. here u v others (inl step)) does
+does_keep {relied} own may ok err (Err e) s t here does = steps_keep own may err s t (λ u v others step. here u v others (inr step)) does
 
-pub passes_keep : (own : Name) (may : Name → List ℕ → Type 0) (act : Folder → Folder → Type 0) (s : Folder) (a b : List Folder)
-    → KeepsSo own may s act → Passed (Between act s) a b → Passed (Keeps own may s) a b
-passes_keep own may act s a b here = weaker (Between act s) (Keeps own may s) a b (λ u. between_keep own may act s u here)
+pub passes_keep : {relied : Relied} (own : Name) (may : Name → List ℕ → Type 0) (act : Folder → Folder → Type 0) (s : Folder) (a b : List Folder)
+    → KeepsSo relied own may s act → Passed (Between relied act s) a b → Passed (Keeps relied own may s) a b
+passes_keep {relied} own may act s a b here = weaker (Between relied act s) (Keeps relied own may s) a b (λ u. between_keep own may act s u here)
 
-pub passes_on : (own : Name) (may : Name → List ℕ → Type 0) (s0 s : Folder) (a b c : List Folder)
-    → Keeps own may s0 s → Passed (Keeps own may s0) a b → Passed (Keeps own may s) b c → Passed (Keeps own may s0) a c
-passes_on own may s0 s a b c so_far before passed =
-    then (Keeps own may s0) a b c before (weaker (Keeps own may s) (Keeps own may s0) b c (λ u. keeps_on own may s0 s u so_far) passed)
+pub passes_on : {relied : Relied} (own : Name) (may : Name → List ℕ → Type 0) (s0 s : Folder) (a b c : List Folder)
+    → Keeps relied own may s0 s → Passed (Keeps relied own may s0) a b → Passed (Keeps relied own may s) b c → Passed (Keeps relied own may s0) a c
+passes_on {relied} own may s0 s a b c so_far before passed =
+    then (Keeps relied own may s0) a b c before (weaker (Keeps relied own may s) (Keeps relied own may s0) b c (λ u. keeps_on own may s0 s u so_far) passed)
 
 -- ---- the calls
 
 beside : (u v : Folder) (i : ℕ) → (u.file i).is_finished ≡ false → OtherFilesStay i u v → FinishedStay u v
 beside u v i unfinished files j finished = files j (λ same. differ (sym finished ∙ ap (λ (k : ℕ). (u.file k).is_finished) same ∙ unfinished))
 
-same_all : (own : Name) (may : Name → List ℕ → Type 0) (u v : Folder) → FinishedStay u v → ((name : Name) → SameName u v name) → Keeps own may u v
-same_all own may u v files names = record {
+same_all : {relied : Relied} (own : Name) (may : Name → List ℕ → Type 0) (u v : Folder) → FinishedStay u v → ((name : Name) → SameName u v name) → Keeps relied own may u v
+same_all {relied} own may u v files names = record {
   one_of = λ name one other lasting asked is. same_stays u v name one other files (names name) is;
   owns = λ name apart. (names name).own;
   files = files_stay u v files;
 }
 
-pub changes_so : (may : Name → List ℕ → Type 0) (s : Folder) (own : Name) (i : ℕ) (f : FileState) (change : FileState → FileState)
-    → IsOwn s own i f → f.is_finished ≡ false → KeepsSo own may s (Changes i change)
-changes_so may s own i f change is unfinished u v others step =
+pub changes_so : {relied : Relied} (may : Name → List ℕ → Type 0) (s : Folder) (own : Name) (i : ℕ) (f : FileState) (change : FileState → FileState)
+    → IsOwn s own i f → f.is_finished ≡ false → KeepsSo relied own may s (Changes i change)
+changes_so {relied} may s own i f change is unfinished u v others step =
     same_all own may u v (beside u v i (ap (λ (g : FileState). g.is_finished) (others_own s u own i f others is).file_is ∙ unfinished) step.files) step.names
 
-pub spoils_so : (may : Name → List ℕ → Type 0) (s : Folder) (own : Name) (i : ℕ) (f : FileState)
-    → IsOwn s own i f → f.is_finished ≡ false → KeepsSo own may s (Spoils i)
-spoils_so may s own i f is unfinished u v others step =
+pub spoils_so : {relied : Relied} (may : Name → List ℕ → Type 0) (s : Folder) (own : Name) (i : ℕ) (f : FileState)
+    → IsOwn s own i f → f.is_finished ≡ false → KeepsSo relied own may s (Spoils i)
+spoils_so {relied} may s own i f is unfinished u v others step =
     same_all own may u v (beside u v i (ap (λ (g : FileState). g.is_finished) (others_own s u own i f others is).file_is ∙ unfinished) step.2.files) step.2.names
 
 -- a file is made where nothing stood
-pub makes_so : (own : Name) (may : Name → List ℕ → Type 0) (s : Folder) (i : ℕ) → KeepsSo own may s (Creates own i)
-makes_so own may s i u v others step = record {
+pub makes_so : {relied : Relied} (own : Name) (may : Name → List ℕ → Type 0) (s : Folder) (i : ℕ) → KeepsSo relied own may s (Creates own i)
+makes_so {relied} own may s i u v others step = record {
   one_of = λ name one other lasting asked is. at name one other is (same_or_not name own);
   owns = λ name apart. (step.names name apart).own;
   files = files_stay u v files;
@@ -167,17 +167,17 @@ makes_so own may s i u v others step = record {
     at name one other is (inr apart) = same_stays u v name one other files (step.names name apart) is
 
 -- what is removed is not asked for
-pub removes_so : (own : Name) (may : Name → List ℕ → Type 0) (s : Folder) → ((name : Name) (other : List ℕ) → may name other → name ≢ own)
-    → KeepsSo own may s (Removes own)
-removes_so own may s each u v others step = record {
+pub removes_so : {relied : Relied} (own : Name) (may : Name → List ℕ → Type 0) (s : Folder) → ((name : Name) (other : List ℕ) → may name other → name ≢ own)
+    → KeepsSo relied own may s (Removes own)
+removes_so {relied} own may s each u v others step = record {
   one_of = λ name one other lasting asked is. same_stays u v name one other (λ j finished. step.files j) (step.names name (each name other asked)) is;
   owns = λ name apart. (step.names name apart).own;
   files = files_stay u v (λ j finished. step.files j);
 }
 
 -- the names of the folder were put on the disk
-pub syncs_so : (own : Name) (may : Name → List ℕ → Type 0) (s : Folder) → KeepsSo own may s SyncsFolder
-syncs_so own may s u v others step = record {
+pub syncs_so : {relied : Relied} (own : Name) (may : Name → List ℕ → Type 0) (s : Folder) → KeepsSo relied own may s SyncsFolder
+syncs_so {relied} own may s u v others step = record {
   one_of = λ name one other lasting asked is.
       let stands = one_stays u v one other (λ j finished. step.files j) (u.found name) is.now in
       record {
@@ -188,8 +188,8 @@ syncs_so own may s u v others step = record {
   files = files_stay u v (λ j finished. step.files j);
 }
 
-pub may_sync_so : (own : Name) (may : Name → List ℕ → Type 0) (s : Folder) → KeepsSo own may s MaySyncFolder
-may_sync_so own may s u v others step = record {
+pub may_sync_so : {relied : Relied} (own : Name) (may : Name → List ℕ → Type 0) (s : Folder) → KeepsSo relied own may s MaySyncFolder
+may_sync_so {relied} own may s u v others step = record {
   one_of = λ name one other lasting asked is. record {
     now = subst (StandsForOne v one other) (sym (step.found name)) (one_stays u v one other (λ j finished. step.files j) (u.found name) is.now);
     later = All-weaker (Contains (v.left name)) (StandsForOne v one other)
@@ -200,44 +200,44 @@ may_sync_so own may s u v others step = record {
   files = files_stay u v (λ j finished. step.files j);
 }
 
-pub opened_keep : (own : Name) (may : Name → List ℕ → Type 0) (s t : Folder) → Steps Stays s t → Keeps own may s t
-opened_keep own may s t steps = steps_keep own may Stays s t (stays_so own may s) steps
+pub opened_keep : {relied : Relied} (own : Name) (may : Name → List ℕ → Type 0) (s t : Folder) → Steps relied Stays s t → Keeps relied own may s t
+opened_keep {relied} own may s t steps = steps_keep own may Stays s t (stays_so own may s) steps
 
-pub opened_passes : (own : Name) (may : Name → List ℕ → Type 0) (s : Folder) (a b : List Folder) → Passed (Between Stays s) a b → Passed (Keeps own may s) a b
-opened_passes own may s a b = passes_keep own may Stays s a b (stays_so own may s)
+pub opened_passes : {relied : Relied} (own : Name) (may : Name → List ℕ → Type 0) (s : Folder) (a b : List Folder) → Passed (Between relied Stays s) a b → Passed (Keeps relied own may s) a b
+opened_passes {relied} own may s a b = passes_keep own may Stays s a b (stays_so own may s)
 
-pub sync_so : (own : Name) (may : Name → List ℕ → Type 0) (s : Folder) → KeepsSo own may s (Either SyncsFolder MaySyncFolder)
-sync_so own may s = either_so own may s SyncsFolder MaySyncFolder (syncs_so own may s) (may_sync_so own may s)
+pub sync_so : {relied : Relied} (own : Name) (may : Name → List ℕ → Type 0) (s : Folder) → KeepsSo relied own may s (Either SyncsFolder MaySyncFolder)
+sync_so {relied} own may s = either_so own may s SyncsFolder MaySyncFolder (syncs_so own may s) (may_sync_so own may s)
 
-pub sync_keep : (own : Name) (may : Name → List ℕ → Type 0) (r : Result Unit DiskError) (s t : Folder) → Does SyncsFolder MaySyncFolder r s t → Keeps own may s t
-sync_keep own may r s t = does_keep own may SyncsFolder MaySyncFolder r s t (sync_so own may s)
+pub sync_keep : {relied : Relied} (own : Name) (may : Name → List ℕ → Type 0) (r : Result Unit DiskError) (s t : Folder) → Does relied SyncsFolder MaySyncFolder r s t → Keeps relied own may s t
+sync_keep {relied} own may r s t = does_keep own may SyncsFolder MaySyncFolder r s t (sync_so own may s)
 
-pub sync_passes : (own : Name) (may : Name → List ℕ → Type 0) (s : Folder) (a b : List Folder) → Passed (Between (Either SyncsFolder MaySyncFolder) s) a b → Passed (Keeps own may s) a b
-sync_passes own may s a b = passes_keep own may (Either SyncsFolder MaySyncFolder) s a b (sync_so own may s)
+pub sync_passes : {relied : Relied} (own : Name) (may : Name → List ℕ → Type 0) (s : Folder) (a b : List Folder) → Passed (Between relied (Either SyncsFolder MaySyncFolder) s) a b → Passed (Keeps relied own may s) a b
+sync_passes {relied} own may s a b = passes_keep own may (Either SyncsFolder MaySyncFolder) s a b (sync_so own may s)
 
-pub owns_same : (s t : Folder) (name : Name) → Steps Stays s t → t.own name ≡ s.own name
-owns_same s t name steps = steps.then.own name ∙ ap (λ (u : Folder). u.own name) steps.step ∙ steps.first.own name
+pub owns_same : {relied : Relied} (s t : Folder) (name : Name) → Steps relied Stays s t → t.own name ≡ s.own name
+owns_same {relied} s t name steps = steps.then.own name ∙ ap (λ (u : Folder). u.own name) steps.step ∙ steps.first.own name
 
-pub owns_synced : (r : Result Unit DiskError) (s t : Folder) (name : Name) → Does SyncsFolder MaySyncFolder r s t → t.own name ≡ s.own name
-owns_synced (Ok u) s t name does = does.then.own name ∙ does.step.own name ∙ does.first.own name
-owns_synced (Err e) s t name does = does.then.own name ∙ does.step.own name ∙ does.first.own name
+pub owns_synced : (relied : Relied) (r : Result Unit DiskError) (s t : Folder) (name : Name) → Does relied SyncsFolder MaySyncFolder r s t → t.own name ≡ s.own name
+owns_synced relied (Ok u) s t name does = does.then.own name ∙ does.step.own name ∙ does.first.own name
+owns_synced relied (Err e) s t name does = does.then.own name ∙ does.step.own name ∙ does.first.own name
 
 -- a change of a file of this program's own, which may fail
-pub change_so : (may : Name → List ℕ → Type 0) (s : Folder) (own : Name) (i : ℕ) (f : FileState) (change : FileState → FileState)
-    → IsOwn s own i f → f.is_finished ≡ false → KeepsSo own may s (Either (Changes i change) (Spoils i))
-change_so may s own i f change is unfinished =
+pub change_so : {relied : Relied} (may : Name → List ℕ → Type 0) (s : Folder) (own : Name) (i : ℕ) (f : FileState) (change : FileState → FileState)
+    → IsOwn s own i f → f.is_finished ≡ false → KeepsSo relied own may s (Either (Changes i change) (Spoils i))
+change_so {relied} may s own i f change is unfinished =
     either_so own may s (Changes i change) (Spoils i) (changes_so may s own i f change is unfinished) (spoils_so may s own i f is unfinished)
 
-pub change_keep : (may : Name → List ℕ → Type 0) (s t : Folder) (own : Name) (i : ℕ) (f : FileState) (change : FileState → FileState) (r : Result Unit DiskError)
-    → IsOwn s own i f → f.is_finished ≡ false → Does (Changes i change) (Spoils i) r s t → Keeps own may s t
-change_keep may s t own i f change r is unfinished = does_keep own may (Changes i change) (Spoils i) r s t (change_so may s own i f change is unfinished)
+pub change_keep : {relied : Relied} (may : Name → List ℕ → Type 0) (s t : Folder) (own : Name) (i : ℕ) (f : FileState) (change : FileState → FileState) (r : Result Unit DiskError)
+    → IsOwn s own i f → f.is_finished ≡ false → Does relied (Changes i change) (Spoils i) r s t → Keeps relied own may s t
+change_keep {relied} may s t own i f change r is unfinished = does_keep own may (Changes i change) (Spoils i) r s t (change_so may s own i f change is unfinished)
 
-pub change_passes : (may : Name → List ℕ → Type 0) (s : Folder) (own : Name) (i : ℕ) (f : FileState) (change : FileState → FileState) (a b : List Folder)
-    → IsOwn s own i f → f.is_finished ≡ false → Passed (Between (Either (Changes i change) (Spoils i)) s) a b → Passed (Keeps own may s) a b
-change_passes may s own i f change a b is unfinished = passes_keep own may (Either (Changes i change) (Spoils i)) s a b (change_so may s own i f change is unfinished)
+pub change_passes : {relied : Relied} (may : Name → List ℕ → Type 0) (s : Folder) (own : Name) (i : ℕ) (f : FileState) (change : FileState → FileState) (a b : List Folder)
+    → IsOwn s own i f → f.is_finished ≡ false → Passed (Between relied (Either (Changes i change) (Spoils i)) s) a b → Passed (Keeps relied own may s) a b
+change_passes {relied} may s own i f change a b is unfinished = passes_keep own may (Either (Changes i change) (Spoils i)) s a b (change_so may s own i f change is unfinished)
 
-pub creates_own : (own : Name) (i : ℕ) (s t : Folder) → Steps (Creates own i) s t → IsOwn t own i nothing
-creates_own own i s t steps =
+pub creates_own : {relied : Relied} (own : Name) (i : ℕ) (s t : Folder) → Steps relied (Creates own i) s t → IsOwn t own i nothing
+creates_own {relied} own i s t steps =
     others_own steps.after t own i nothing steps.then (record { own = steps.step.own; found = steps.step.found; file_is = steps.step.file })
 
 -- ---- a file gets its name
@@ -256,9 +256,9 @@ file_at s a b f same is = subst (λ (o : Option ℕ). FileOf s f o) (sym same) i
 abbrev pub Replacing : Name → Name → List ℕ → Name → List ℕ → Type 0
 Replacing own last bytes name other = (name ≢ own) × (name ≡ last → other ≡ bytes)
 
-pub renames_so : (own last : Name) (bytes : List ℕ) (s : Folder) (i : ℕ) → IsOwn s own i (whole bytes)
-    → KeepsSo own (Replacing own last bytes) s (Renames own last)
-renames_so own last bytes s i is u v others step = record {
+pub renames_so : {relied : Relied} (own last : Name) (bytes : List ℕ) (s : Folder) (i : ℕ) → IsOwn s own i (whole bytes)
+    → KeepsSo relied own (Replacing own last bytes) s (Renames own last)
+renames_so {relied} own last bytes s i is u v others step = record {
   one_of = λ name one other lasting asked holds. at name one other asked holds (same_or_not name last);
   owns = λ name apart. owns name apart (same_or_not name last);
   files = files_stay u v files;
@@ -294,9 +294,9 @@ renames_so own last bytes s i is u v others step = record {
     at name one other asked holds (inr apart) = same_stays u v name one other files (step.names name asked.0 apart) holds
 
 -- a further name, where nothing stood
-pub links_so : (own last : Name) (may : Name → List ℕ → Type 0) (s : Folder) (i : ℕ) (f : FileState) → IsOwn s own i f → f.is_finished ≡ false
-    → KeepsSo own may s (Links own last)
-links_so own last may s i f is unfinished u v others step = record {
+pub links_so : {relied : Relied} (own last : Name) (may : Name → List ℕ → Type 0) (s : Folder) (i : ℕ) (f : FileState) → IsOwn s own i f → f.is_finished ≡ false
+    → KeepsSo relied own may s (Links own last)
+links_so {relied} own last may s i f is unfinished u v others step = record {
   one_of = λ name one other lasting asked holds. at name one other holds (same_or_not name last);
   owns = λ name apart. owns name (same_or_not name last);
   files = files_stay u v files;
@@ -322,181 +322,181 @@ links_so own last may s i f is unfinished u v others step = record {
 -- ---- what it says of all names
 
 -- nothing that is durable stood where a file was made
-pub made_free : (s t : Folder) (own : Name) (i : ℕ) → Steps (Creates own i) s t → IsFree s own
-made_free s t own i steps one other lasting is =
+pub made_free : {relied : Relied} (s t : Folder) (own : Name) (i : ℕ) → Steps relied (Creates own i) s t → IsFree relied s own
+made_free {relied} s t own i steps one other lasting is =
     none_there steps.before one other (steps.before.found own) steps.step.free (steps.first.one_of own one other lasting is).now
 
 -- under the own name nothing can be asked for
-pub freed : (own : Name) (may : Name → List ℕ → Type 0) (s t : Folder) → IsFree s own
-    → Keeps own (λ name other. (name ≢ own) × may name other) s t → Keeps own may s t
-freed own may s t free keeps = record {
+pub freed : {relied : Relied} (own : Name) (may : Name → List ℕ → Type 0) (s t : Folder) → IsFree relied s own
+    → Keeps relied own (λ name other. (name ≢ own) × may name other) s t → Keeps relied own may s t
+freed {relied} own may s t free keeps = record {
   one_of = λ name one other lasting asked is. at name one other lasting asked is (same_or_not name own);
   owns = keeps.owns;
   files = keeps.files;
 }
   where
-    at : (name : Name) (one other : List ℕ) → lasts name ≡ true → may name other → IsOneOf s name one other → (name ≡ own) ⊎ (name ≢ own) → IsOneOf t name one other
+    at : (name : Name) (one other : List ℕ) → AreRelied relied name one other → may name other → IsOneOf s name one other → (name ≡ own) ⊎ (name ≢ own) → IsOneOf t name one other
     at name one other lasting asked is (inl same) =
-        absurd (free one other (subst (λ (n : Name). lasts n ≡ true) same lasting) (subst (λ (n : Name). IsOneOf s n one other) same is))
+        absurd (free one other (subst (λ (n : Name). AreRelied relied n one other) same lasting) (subst (λ (n : Name). IsOneOf s n one other) same is))
     at name one other lasting asked is (inr apart) = keeps.one_of name one other lasting (apart, asked) is
 
-pub spares_all : (own : Name) (s t : Folder) → IsFree s own → Keeps own (Beside own) s t → SparesAll s t
-spares_all own s t free keeps =
+pub spares_all : {relied : Relied} (own : Name) (s t : Folder) → IsFree relied s own → Keeps relied own (Beside own) s t → SparesAll relied s t
+spares_all {relied} own s t free keeps =
     let all = freed own Any s t free (keeps_fewer own (Beside own) _ s t (λ name other asked. asked.0) keeps) in
     record {
-      names = λ name bytes lasting durable. durable_of_one t name bytes (all.one_of name bytes bytes lasting tt (one_of_durable s name bytes bytes durable));
+      names = λ name bytes lasting durable. durable_of_one t name bytes (all.one_of name bytes bytes (lasting, lasting) tt (one_of_durable s name bytes bytes durable));
       files = keeps.files;
     }
 
-pub any_spares : (own : Name) (s t : Folder) → Keeps own Any s t → SparesAll s t
-any_spares own s t keeps = record {
-  names = λ name bytes lasting durable. durable_of_one t name bytes (keeps.one_of name bytes bytes lasting tt (one_of_durable s name bytes bytes durable));
+pub any_spares : {relied : Relied} (own : Name) (s t : Folder) → Keeps relied own Any s t → SparesAll relied s t
+any_spares {relied} own s t keeps = record {
+  names = λ name bytes lasting durable. durable_of_one t name bytes (keeps.one_of name bytes bytes (lasting, lasting) tt (one_of_durable s name bytes bytes durable));
   files = keeps.files;
 }
 
-pub spares : (own last : Name) (bytes : List ℕ) (s t : Folder) → IsFree s own → Keeps own (Replacing own last bytes) s t → Spares last bytes s t
-spares own last bytes s t free keeps =
+pub spares : {relied : Relied} (own last : Name) (bytes : List ℕ) (s t : Folder) → IsFree relied s own → Keeps relied own (Replacing own last bytes) s t → Spares relied last bytes s t
+spares {relied} own last bytes s t free keeps =
     let all = freed own (λ name other. name ≡ last → other ≡ bytes) s t free keeps in
     record {
       others = λ name kept lasting apart durable.
-          durable_of_one t name kept (all.one_of name kept kept lasting (λ same. absurd (apart same)) (one_of_durable s name kept kept durable));
+          durable_of_one t name kept (all.one_of name kept kept (lasting, lasting) (λ same. absurd (apart same)) (one_of_durable s name kept kept durable));
       here = λ kept lasting durable. all.one_of last kept bytes lasting (λ same. refl) (one_of_durable s last kept bytes durable);
       files = keeps.files;
     }
 
-pub all_spares : (last : Name) (bytes : List ℕ) (s t : Folder) → SparesAll s t → Spares last bytes s t
-all_spares last bytes s t all = record {
+pub all_spares : {relied : Relied} (last : Name) (bytes : List ℕ) (s t : Folder) → SparesAll relied s t → Spares relied last bytes s t
+all_spares {relied} last bytes s t all = record {
   others = λ name kept lasting apart durable. all.names name kept lasting durable;
-  here = λ kept lasting durable. one_of_durable t last kept bytes (all.names last kept lasting durable);
+  here = λ kept lasting durable. one_of_durable t last kept bytes (all.names last kept lasting.0 durable);
   files = all.files;
 }
 
 -- a file is made, or not
-pub make_passes : (own : Name) (s : Folder) (a b : List Folder) → Passed (Between (Makes own) s) a b → Passed (SparesAll s) a b
-make_passes own s a b =
-    weaker (Between (Makes own) s) (SparesAll s) a b
+pub make_passes : {relied : Relied} (own : Name) (s : Folder) (a b : List Folder) → Passed (Between relied (Makes own) s) a b → Passed (SparesAll relied s) a b
+make_passes {relied} own s a b =
+    weaker (Between relied (Makes own) s) (SparesAll relied s) a b
     (λ u between. any_spares own s u (between_keep own Any (Makes own) s u (λ v w others step. makes_so own Any s step.0 v w others step.1) between))
 
-pub created_keep : (own : Name) (i : ℕ) (s t : Folder) → Steps (Creates own i) s t → Keeps own (Beside own) s t
-created_keep own i s t steps = steps_keep own (Beside own) (Creates own i) s t (makes_so own (Beside own) s i) steps
+pub created_keep : {relied : Relied} (own : Name) (i : ℕ) (s t : Folder) → Steps relied (Creates own i) s t → Keeps relied own (Beside own) s t
+created_keep {relied} own i s t steps = steps_keep own (Beside own) (Creates own i) s t (makes_so own (Beside own) s i) steps
 
 -- and what is kept from then on
-pub then_spares : (own : Name) (s t : Folder) (a b c : List Folder) → IsFree s own → Keeps own (Beside own) s t
-    → Passed (SparesAll s) a b → Passed (Keeps own (Beside own) t) b c → Passed (SparesAll s) a c
-then_spares own s t a b c free kept before passed =
-    then (SparesAll s) a b c before
-    (weaker (Keeps own (Beside own) t) (SparesAll s) b c (λ u keeps. spares_all own s u free (keeps_on own (Beside own) s t u kept keeps)) passed)
+pub then_spares : {relied : Relied} (own : Name) (s t : Folder) (a b c : List Folder) → IsFree relied s own → Keeps relied own (Beside own) s t
+    → Passed (SparesAll relied s) a b → Passed (Keeps relied own (Beside own) t) b c → Passed (SparesAll relied s) a c
+then_spares {relied} own s t a b c free kept before passed =
+    then (SparesAll relied s) a b c before
+    (weaker (Keeps relied own (Beside own) t) (SparesAll relied s) b c (λ u keeps. spares_all own s u free (keeps_on own (Beside own) s t u kept keeps)) passed)
 
 -- ---- a file in the place of another
 
-pub rename_so : (own last : Name) (bytes : List ℕ) (s : Folder) (i : ℕ) → IsOwn s own i (whole bytes)
-    → KeepsSo own (Replacing own last bytes) s (Either (Renames own last) (Either Stays (Renames own last)))
-rename_so own last bytes s i is =
+pub rename_so : {relied : Relied} (own last : Name) (bytes : List ℕ) (s : Folder) (i : ℕ) → IsOwn s own i (whole bytes)
+    → KeepsSo relied own (Replacing own last bytes) s (Either (Renames own last) (Either Stays (Renames own last)))
+rename_so {relied} own last bytes s i is =
     let renames = renames_so own last bytes s i is in
     either_so own (Replacing own last bytes) s (Renames own last) (Either Stays (Renames own last)) renames
     (either_so own (Replacing own last bytes) s Stays (Renames own last) (stays_so own (Replacing own last bytes) s) renames)
 
-pub fewer : (own last : Name) (bytes : List ℕ) (s t : Folder) → Keeps own (Beside own) s t → Keeps own (Replacing own last bytes) s t
-fewer own last bytes s t = keeps_fewer own (Beside own) (Replacing own last bytes) s t (λ name other asked. asked.0)
+pub fewer : {relied : Relied} (own last : Name) (bytes : List ℕ) (s t : Folder) → Keeps relied own (Beside own) s t → Keeps relied own (Replacing own last bytes) s t
+fewer {relied} own last bytes s t = keeps_fewer own (Beside own) (Replacing own last bytes) s t (λ name other asked. asked.0)
 
-pub fewer_of_any : (own last : Name) (bytes : List ℕ) (s t : Folder) → Keeps own Any s t → Keeps own (Replacing own last bytes) s t
-fewer_of_any own last bytes s t = keeps_fewer own Any (Replacing own last bytes) s t (λ name other asked. tt)
+pub fewer_of_any : {relied : Relied} (own last : Name) (bytes : List ℕ) (s t : Folder) → Keeps relied own Any s t → Keeps relied own (Replacing own last bytes) s t
+fewer_of_any {relied} own last bytes s t = keeps_fewer own Any (Replacing own last bytes) s t (λ name other asked. tt)
 
-pub renamed_keep : (own last : Name) (bytes : List ℕ) (s t u : Folder) (i : ℕ) (r : Result Unit DiskError) → Keeps own (Beside own) s t
-    → IsOwn t own i (whole bytes) → Does (Renames own last) (Either Stays (Renames own last)) r t u → Keeps own (Replacing own last bytes) s u
-renamed_keep own last bytes s t u i r made is does =
+pub renamed_keep : {relied : Relied} (own last : Name) (bytes : List ℕ) (s t u : Folder) (i : ℕ) (r : Result Unit DiskError) → Keeps relied own (Beside own) s t
+    → IsOwn t own i (whole bytes) → Does relied (Renames own last) (Either Stays (Renames own last)) r t u → Keeps relied own (Replacing own last bytes) s u
+renamed_keep {relied} own last bytes s t u i r made is does =
     keeps_on own (Replacing own last bytes) s t u (fewer own last bytes s t made)
     (does_keep own (Replacing own last bytes) (Renames own last) (Either Stays (Renames own last)) r t u (rename_so own last bytes t i is) does)
 
 -- what stood there or the new bytes, at each moment
-pub then_replaces : (own last : Name) (bytes : List ℕ) (s t : Folder) (a b c : List Folder) → IsFree s own → Keeps own (Replacing own last bytes) s t
-    → Passed (Spares last bytes s) a b → Passed (Keeps own (Replacing own last bytes) t) b c → Passed (Spares last bytes s) a c
-then_replaces own last bytes s t a b c free kept before passed =
-    then (Spares last bytes s) a b c before
-    (weaker (Keeps own (Replacing own last bytes) t) (Spares last bytes s) b c
+pub then_replaces : {relied : Relied} (own last : Name) (bytes : List ℕ) (s t : Folder) (a b c : List Folder) → IsFree relied s own → Keeps relied own (Replacing own last bytes) s t
+    → Passed (Spares relied last bytes s) a b → Passed (Keeps relied own (Replacing own last bytes) t) b c → Passed (Spares relied last bytes s) a c
+then_replaces {relied} own last bytes s t a b c free kept before passed =
+    then (Spares relied last bytes s) a b c before
+    (weaker (Keeps relied own (Replacing own last bytes) t) (Spares relied last bytes s) b c
     (λ u keeps. spares own last bytes s u free (keeps_on own (Replacing own last bytes) s t u kept keeps)) passed)
 
-pub made_passes : (last : Name) (bytes : List ℕ) (s : Folder) (a b : List Folder) → Passed (SparesAll s) a b → Passed (Spares last bytes s) a b
-made_passes last bytes s a b = weaker (SparesAll s) (Spares last bytes s) a b (λ u all. all_spares last bytes s u all)
+pub made_passes : {relied : Relied} (last : Name) (bytes : List ℕ) (s : Folder) (a b : List Folder) → Passed (SparesAll relied s) a b → Passed (Spares relied last bytes s) a b
+made_passes {relied} last bytes s a b = weaker (SparesAll relied s) (Spares relied last bytes s) a b (λ u all. all_spares last bytes s u all)
 
-pub renamed_passes : (own last : Name) (bytes : List ℕ) (s t : Folder) (i : ℕ) (a b c : List Folder) → IsFree s own → Keeps own (Beside own) s t
-    → IsOwn t own i (whole bytes) → Passed (SparesAll s) a b → Passed (Between (Either (Renames own last) (Either Stays (Renames own last))) t) b c
-    → Passed (Spares last bytes s) a c
-renamed_passes own last bytes s t i a b c free made is before passed =
+pub renamed_passes : {relied : Relied} (own last : Name) (bytes : List ℕ) (s t : Folder) (i : ℕ) (a b c : List Folder) → IsFree relied s own → Keeps relied own (Beside own) s t
+    → IsOwn t own i (whole bytes) → Passed (SparesAll relied s) a b → Passed (Between relied (Either (Renames own last) (Either Stays (Renames own last))) t) b c
+    → Passed (Spares relied last bytes s) a c
+renamed_passes {relied} own last bytes s t i a b c free made is before passed =
     then_replaces own last bytes s t a b c free (fewer own last bytes s t made) (made_passes last bytes s a b before)
     (passes_keep own (Replacing own last bytes) (Either (Renames own last) (Either Stays (Renames own last))) t b c (rename_so own last bytes t i is) passed)
 
 -- ---- a file beside others
 
-pub spares_on : (s t u : Folder) → SparesAll s t → SparesAll t u → SparesAll s u
-spares_on s t u first then = record {
+pub spares_on : {relied : Relied} (s t u : Folder) → SparesAll relied s t → SparesAll relied t u → SparesAll relied s u
+spares_on {relied} s t u first then = record {
   names = λ name bytes lasting durable. then.names name bytes lasting (first.names name bytes lasting durable);
   files = λ i bytes has. then.files i bytes (first.files i bytes has);
 }
 
-pub spared_on : (s t : Folder) (a b c : List Folder) → SparesAll s t → Passed (SparesAll s) a b → Passed (SparesAll t) b c → Passed (SparesAll s) a c
-spared_on s t a b c kept before passed =
-    then (SparesAll s) a b c before (weaker (SparesAll t) (SparesAll s) b c (λ u. spares_on s t u kept) passed)
+pub spared_on : {relied : Relied} (s t : Folder) (a b c : List Folder) → SparesAll relied s t → Passed (SparesAll relied s) a b → Passed (SparesAll relied t) b c → Passed (SparesAll relied s) a c
+spared_on {relied} s t a b c kept before passed =
+    then (SparesAll relied s) a b c before (weaker (SparesAll relied t) (SparesAll relied s) b c (λ u. spares_on s t u kept) passed)
 
-link_so : (own last : Name) (s : Folder) (i : ℕ) (bytes : List ℕ) → IsOwn s own i (whole bytes)
-    → KeepsSo own Any s (Either (Links own last) (Either Stays (Links own last)))
-link_so own last s i bytes is =
+link_so : {relied : Relied} (own last : Name) (s : Folder) (i : ℕ) (bytes : List ℕ) → IsOwn s own i (whole bytes)
+    → KeepsSo relied own Any s (Either (Links own last) (Either Stays (Links own last)))
+link_so {relied} own last s i bytes is =
     let links = links_so own last Any s i (whole bytes) is refl in
     either_so own Any s (Links own last) (Either Stays (Links own last)) links
     (either_so own Any s Stays (Links own last) (stays_so own Any s) links)
 
-pub linked_keep : (own last : Name) (s t : Folder) (i : ℕ) (bytes : List ℕ) (r : Result Unit DiskError) → IsOwn s own i (whole bytes)
-    → Does (Links own last) (Either Stays (Links own last)) r s t → Keeps own Any s t
-linked_keep own last s t i bytes r is = does_keep own Any (Links own last) (Either Stays (Links own last)) r s t (link_so own last s i bytes is)
+pub linked_keep : {relied : Relied} (own last : Name) (s t : Folder) (i : ℕ) (bytes : List ℕ) (r : Result Unit DiskError) → IsOwn s own i (whole bytes)
+    → Does relied (Links own last) (Either Stays (Links own last)) r s t → Keeps relied own Any s t
+linked_keep {relied} own last s t i bytes r is = does_keep own Any (Links own last) (Either Stays (Links own last)) r s t (link_so own last s i bytes is)
 
-pub linked_spares : (own last : Name) (s t : Folder) (i : ℕ) (bytes : List ℕ) (r : Result Unit DiskError) → IsOwn s own i (whole bytes)
-    → Does (Links own last) (Either Stays (Links own last)) r s t → SparesAll s t
-linked_spares own last s t i bytes r is does = any_spares own s t (linked_keep own last s t i bytes r is does)
+pub linked_spares : {relied : Relied} (own last : Name) (s t : Folder) (i : ℕ) (bytes : List ℕ) (r : Result Unit DiskError) → IsOwn s own i (whole bytes)
+    → Does relied (Links own last) (Either Stays (Links own last)) r s t → SparesAll relied s t
+linked_spares {relied} own last s t i bytes r is does = any_spares own s t (linked_keep own last s t i bytes r is does)
 
-pub linked_passes : (own last : Name) (s : Folder) (i : ℕ) (bytes : List ℕ) (a b : List Folder) → IsOwn s own i (whole bytes)
-    → Passed (Between (Either (Links own last) (Either Stays (Links own last))) s) a b → Passed (SparesAll s) a b
-linked_passes own last s i bytes a b is passed =
-    weaker (Keeps own Any s) (SparesAll s) a b (λ u. any_spares own s u)
+pub linked_passes : {relied : Relied} (own last : Name) (s : Folder) (i : ℕ) (bytes : List ℕ) (a b : List Folder) → IsOwn s own i (whole bytes)
+    → Passed (Between relied (Either (Links own last) (Either Stays (Links own last))) s) a b → Passed (SparesAll relied s) a b
+linked_passes {relied} own last s i bytes a b is passed =
+    weaker (Keeps relied own Any s) (SparesAll relied s) a b (λ u. any_spares own s u)
     (passes_keep own Any (Either (Links own last) (Either Stays (Links own last))) s a b (link_so own last s i bytes is) passed)
 
 -- what is durable under other names than the own one stays so
-pub record SparesBeside (own : Name) (s t : Folder) : Type 0 where
-  pub names : (name : Name) (bytes : List ℕ) → lasts name ≡ true → name ≢ own → IsDurable s name bytes → IsDurable t name bytes
+pub record SparesBeside (relied : Relied) (own : Name) (s t : Folder) : Type 0 where
+  pub names : (name : Name) (bytes : List ℕ) → IsRelied relied name bytes → name ≢ own → IsDurable s name bytes → IsDurable t name bytes
   pub files : FilesStay s t
 
-pub beside_all : (own : Name) (s t : Folder) → SparesAll s t → SparesBeside own s t
-beside_all own s t all = record { names = λ name bytes lasting apart durable. all.names name bytes lasting durable; files = all.files }
+pub beside_all : {relied : Relied} (own : Name) (s t : Folder) → SparesAll relied s t → SparesBeside relied own s t
+beside_all {relied} own s t all = record { names = λ name bytes lasting apart durable. all.names name bytes lasting durable; files = all.files }
 
-pub beside_keeps : (own : Name) (s t : Folder) → Keeps own (Beside own) s t → SparesBeside own s t
-beside_keeps own s t keeps = record {
-  names = λ name bytes lasting apart durable. durable_of_one t name bytes (keeps.one_of name bytes bytes lasting apart (one_of_durable s name bytes bytes durable));
+pub beside_keeps : {relied : Relied} (own : Name) (s t : Folder) → Keeps relied own (Beside own) s t → SparesBeside relied own s t
+beside_keeps {relied} own s t keeps = record {
+  names = λ name bytes lasting apart durable. durable_of_one t name bytes (keeps.one_of name bytes bytes (lasting, lasting) apart (one_of_durable s name bytes bytes durable));
   files = keeps.files;
 }
 
-pub beside_any : (own : Name) (s t : Folder) → Keeps own Any s t → SparesBeside own s t
-beside_any own s t keeps = beside_keeps own s t (keeps_fewer own Any (Beside own) s t (λ name other asked. tt) keeps)
+pub beside_any : {relied : Relied} (own : Name) (s t : Folder) → Keeps relied own Any s t → SparesBeside relied own s t
+beside_any {relied} own s t keeps = beside_keeps own s t (keeps_fewer own Any (Beside own) s t (λ name other asked. tt) keeps)
 
-pub beside_on : (own : Name) (s t u : Folder) → SparesBeside own s t → SparesBeside own t u → SparesBeside own s u
-beside_on own s t u first then = record {
+pub beside_on : {relied : Relied} (own : Name) (s t u : Folder) → SparesBeside relied own s t → SparesBeside relied own t u → SparesBeside relied own s u
+beside_on {relied} own s t u first then = record {
   names = λ name bytes lasting apart durable. then.names name bytes lasting apart (first.names name bytes lasting apart durable);
   files = λ i bytes has. then.files i bytes (first.files i bytes has);
 }
 
 -- and under that nothing stood
-pub all_beside : (own : Name) (s t : Folder) → IsFree s own → SparesBeside own s t → SparesAll s t
-all_beside own s t free spares = record {
+pub all_beside : {relied : Relied} (own : Name) (s t : Folder) → IsFree relied s own → SparesBeside relied own s t → SparesAll relied s t
+all_beside {relied} own s t free spares = record {
   names = λ name bytes lasting durable. at name bytes lasting durable (same_or_not name own);
   files = spares.files;
 }
   where
-    at : (name : Name) (bytes : List ℕ) → lasts name ≡ true → IsDurable s name bytes → (name ≡ own) ⊎ (name ≢ own) → IsDurable t name bytes
+    at : (name : Name) (bytes : List ℕ) → IsRelied relied name bytes → IsDurable s name bytes → (name ≡ own) ⊎ (name ≢ own) → IsDurable t name bytes
     at name bytes lasting durable (inl same) =
-        absurd (free bytes bytes (subst (λ (n : Name). lasts n ≡ true) same lasting) (subst (λ (n : Name). IsOneOf s n bytes bytes) same (one_of_durable s name bytes bytes durable)))
+        absurd (free bytes bytes (subst (λ (n : Name). AreRelied relied n bytes bytes) same (lasting, lasting)) (subst (λ (n : Name). IsOneOf s n bytes bytes) same (one_of_durable s name bytes bytes durable)))
     at name bytes lasting durable (inr apart) = spares.names name bytes lasting apart durable
 
 -- at each moment from then on
-pub beside_then : (own : Name) (s t : Folder) (a b c : List Folder) → IsFree s own → SparesBeside own s t → Passed (SparesAll s) a b
-    → Passed (SparesBeside own t) b c → Passed (SparesAll s) a c
-beside_then own s t a b c free kept before passed =
-    then (SparesAll s) a b c before
-    (weaker (SparesBeside own t) (SparesAll s) b c (λ u spares. all_beside own s u free (beside_on own s t u kept spares)) passed)
+pub beside_then : {relied : Relied} (own : Name) (s t : Folder) (a b c : List Folder) → IsFree relied s own → SparesBeside relied own s t → Passed (SparesAll relied s) a b
+    → Passed (SparesBeside relied own t) b c → Passed (SparesAll relied s) a c
+beside_then {relied} own s t a b c free kept before passed =
+    then (SparesAll relied s) a b c before
+    (weaker (SparesBeside relied own t) (SparesAll relied s) b c (λ u spares. all_beside own s u free (beside_on own s t u kept spares)) passed)

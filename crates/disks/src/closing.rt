@@ -10,8 +10,8 @@ use crate::disk::Disk;
 use crate::error::DiskError;
 
 /// Gives a file of this program's own, which has so many bytes, a name that lasts. Where the bytes
-/// were on the disk, so are they and that name once it went well. Nothing asks for memory once the
-/// file is renamed, and the folder is opened before.
+/// were on the disk, so are they and that name once it went well, where it is relied on with them.
+/// Nothing asks for memory once the file is renamed, and the folder is opened before.
 pub fn finish_synced<D: Disk>(
     disk: &mut D,
     file: &D::File,
@@ -26,14 +26,15 @@ pub fn finish_synced<D: Disk>(
     ensures durable { D.honest disk.new → (bytes : List ℕ)
         → IsOwn (D.folder disk.old) own.now (D.inode file.now)
         (record { bytes = bytes; is_synced = true; is_finished = false })
+        → D.relied last.now bytes ≡ true
         → OnOk result (IsDurable (D.folder disk.new) last.now bytes) }
 
-    // However it ends, and at each moment until then, what is durable stays so: under this name
-    // what has the same bytes.
+    // However it ends, and at each moment until then, what is durable and relied on stays so: under
+    // this name what has the same bytes.
     ensures kept { D.honest disk.new → (bytes : List ℕ)
         → IsOwn (D.folder disk.old) own.now (D.inode file.now)
         (record { bytes = bytes; is_synced = true; is_finished = false })
-        → KeepsBut last.now bytes (D.folder disk.old) (D.folder disk.new) }
+        → KeepsBut D.relied last.now bytes (D.folder disk.old) (D.folder disk.new) }
     ensures files { D.honest disk.new → (bytes : List ℕ)
         → IsOwn (D.folder disk.old) own.now (D.inode file.now)
         (record { bytes = bytes; is_synced = true; is_finished = false })
@@ -45,7 +46,7 @@ pub fn finish_synced<D: Disk>(
     ensures any_moment { D.honest disk.new → (bytes : List ℕ)
         → IsOwn (D.folder disk.old) own.now (D.inode file.now)
         (record { bytes = bytes; is_synced = true; is_finished = false })
-        → Passed (KeepsBut last.now bytes (D.folder disk.old)) (D.past disk.old)
+        → Passed (KeepsBut D.relied last.now bytes (D.folder disk.old)) (D.past disk.old)
         (D.past disk.new) }
 {
     let folder = disk.open_folder()?;
@@ -54,7 +55,7 @@ pub fn finish_synced<D: Disk>(
 }
 
 /// The same where nothing is put on the disk: once it went well the name stands for the bytes,
-/// until a crash.
+/// until a crash, where it is relied on with them.
 pub fn finish_unsynced<D: Disk>(
     disk: &mut D,
     file: &D::File,
@@ -69,11 +70,12 @@ pub fn finish_unsynced<D: Disk>(
     ensures held { D.honest disk.new → (bytes : List ℕ) (synced : Bool)
         → IsOwn (D.folder disk.old) own.now (D.inode file.now)
         (record { bytes = bytes; is_synced = synced; is_finished = false })
+        → D.relied last.now bytes ≡ true
         → OnOk result (HasBytes (D.folder disk.new) bytes ((D.folder disk.new).found last.now)) }
     ensures kept { D.honest disk.new → (bytes : List ℕ) (synced : Bool)
         → IsOwn (D.folder disk.old) own.now (D.inode file.now)
         (record { bytes = bytes; is_synced = synced; is_finished = false })
-        → KeepsBeside last.now (D.folder disk.old) (D.folder disk.new) }
+        → KeepsBeside D.relied last.now (D.folder disk.old) (D.folder disk.new) }
     ensures files { D.honest disk.new → (bytes : List ℕ) (synced : Bool)
         → IsOwn (D.folder disk.old) own.now (D.inode file.now)
         (record { bytes = bytes; is_synced = synced; is_finished = false })

@@ -2,6 +2,7 @@
 
 ghost use Rattle.std.specs.Prelude.{◌≡◌, ◌≢◌, ℕ, List, map};
 ghost use Rattle.std.specs.String.{string_bytes};
+ghost use Rattle.disks.specs.Names.{Relied};
 ghost use Rattle.disks.specs.Folder.{Folder};
 ghost use Rattle.disks.specs.Steps.{Creates, Appends, SyncsFile, Spoils, Renames, SyncsFolder};
 ghost use Rattle.disks.specs.Steps.{Makes, MaySyncFolder, Opens, ReadsAt, Finds, Lists, Removes};
@@ -32,6 +33,9 @@ pub trait Disk {
     /// Its calls so far gave what a folder gives. No code can tell.
     ghost honest: { Self → Type 0 };
 
+    /// Which names other programs leave, with which bytes: they may take all others away.
+    ghost relied: { Relied };
+
     /// The number of an open file.
     ghost inode: { Self.File → ℕ };
 
@@ -40,9 +44,9 @@ pub trait Disk {
         ensures place { place self.new ≡ place self.old }
         ensures so_far { honest self.new → honest self.old }
         ensures gives { honest self.new
-            → Gives (λ file. Creates name.now (inode file)) Stays result (folder self.old)
+            → Gives relied (λ file. Creates name.now (inode file)) Stays result (folder self.old)
             (folder self.new) }
-        ensures passes { honest self.new → Passes (Makes name.now) (folder self.old)
+        ensures passes { honest self.new → Passes relied (Makes name.now) (folder self.old)
             (past self.old) (past self.new) };
 
     /// Adds bytes at the end of a file.
@@ -50,20 +54,20 @@ pub trait Disk {
         ensures same { inode file.new ≡ inode file.old }
         ensures place { place self.new ≡ place self.old }
         ensures so_far { honest self.new → honest self.old }
-        ensures gives { honest self.new → Does (Appends (inode file.old) bytes.now)
+        ensures gives { honest self.new → Does relied (Appends (inode file.old) bytes.now)
             (Spoils (inode file.old)) result (folder self.old) (folder self.new) }
         ensures passes { honest self.new
-            → Passes (Either (Appends (inode file.old) bytes.now) (Spoils (inode file.old)))
+            → Passes relied (Either (Appends (inode file.old) bytes.now) (Spoils (inode file.old)))
             (folder self.old) (past self.old) (past self.new) };
 
     /// Puts the bytes of a file on the disk.
     fn sync_file(&mut self, file: &Self::File) -> Result<(), DiskError>
         ensures place { place self.new ≡ place self.old }
         ensures so_far { honest self.new → honest self.old }
-        ensures gives { honest self.new → Does (SyncsFile (inode file.now))
+        ensures gives { honest self.new → Does relied (SyncsFile (inode file.now))
             (Spoils (inode file.now)) result (folder self.old) (folder self.new) }
         ensures passes { honest self.new
-            → Passes (Either (SyncsFile (inode file.now)) (Spoils (inode file.now)))
+            → Passes relied (Either (SyncsFile (inode file.now)) (Spoils (inode file.now)))
             (folder self.old) (past self.old) (past self.new) };
 
     /// Gives what stands under a name another one, in place of what stands there. It is an error
@@ -79,23 +83,24 @@ pub trait Disk {
         requires { from.now ≢ to.now }
         ensures place { place self.new ≡ place self.old }
         ensures so_far { honest self.new → honest self.old }
-        ensures gives { honest self.new → Does (Renames from.now to.now)
+        ensures gives { honest self.new → Does relied (Renames from.now to.now)
             (Either Stays (Renames from.now to.now)) result (folder self.old)
             (folder self.new) }
         ensures passes { honest self.new
-            → Passes (Either (Renames from.now to.now) (Either Stays (Renames from.now to.now)))
-            (folder self.old) (past self.old) (past self.new) };
+            → Passes relied (Either (Renames from.now to.now)
+            (Either Stays (Renames from.now to.now))) (folder self.old) (past self.old)
+            (past self.new) };
 
     /// Gives what stands under a name a further one, under which nothing stands: else the error is
     /// `AlreadyExists`.
     fn link(&mut self, from: &str, to: &str) -> Result<(), DiskError>
         ensures place { place self.new ≡ place self.old }
         ensures so_far { honest self.new → honest self.old }
-        ensures gives { honest self.new → Does (Links from.now to.now)
+        ensures gives { honest self.new → Does relied (Links from.now to.now)
             (Either Stays (Links from.now to.now)) result (folder self.old)
             (folder self.new) }
         ensures passes { honest self.new
-            → Passes (Either (Links from.now to.now) (Either Stays (Links from.now to.now)))
+            → Passes relied (Either (Links from.now to.now) (Either Stays (Links from.now to.now)))
             (folder self.old) (past self.old) (past self.new) };
 
     /// Opens the folder itself.
@@ -103,17 +108,17 @@ pub trait Disk {
         ensures place { place self.new ≡ place self.old }
         ensures so_far { honest self.new → honest self.old }
         ensures gives { honest self.new
-            → Gives (λ opened. Stays) Stays result (folder self.old) (folder self.new) }
-        ensures passes { honest self.new → Passes Stays (folder self.old) (past self.old)
+            → Gives relied (λ opened. Stays) Stays result (folder self.old) (folder self.new) }
+        ensures passes { honest self.new → Passes relied Stays (folder self.old) (past self.old)
             (past self.new) };
 
     /// Puts the names of the folder on the disk.
     fn sync_folder(&mut self, opened: &Self::Folder) -> Result<(), DiskError>
         ensures place { place self.new ≡ place self.old }
         ensures so_far { honest self.new → honest self.old }
-        ensures gives { honest self.new → Does SyncsFolder MaySyncFolder result
+        ensures gives { honest self.new → Does relied SyncsFolder MaySyncFolder result
             (folder self.old) (folder self.new) }
-        ensures passes { honest self.new → Passes (Either SyncsFolder MaySyncFolder)
+        ensures passes { honest self.new → Passes relied (Either SyncsFolder MaySyncFolder)
             (folder self.old) (past self.old) (past self.new) };
 
     /// Opens the regular file under a name.
@@ -121,9 +126,9 @@ pub trait Disk {
         ensures place { place self.new ≡ place self.old }
         ensures so_far { honest self.new → honest self.old }
         ensures gives { honest self.new
-            → Gives (λ file. Opens name.now (inode file)) Stays result (folder self.old)
+            → Gives relied (λ file. Opens name.now (inode file)) Stays result (folder self.old)
             (folder self.new) }
-        ensures passes { honest self.new → Passes Stays (folder self.old) (past self.old)
+        ensures passes { honest self.new → Passes relied Stays (folder self.old) (past self.old)
             (past self.new) };
 
     /// Reads as many bytes of a file as there is room for, from an offset on. It is an error if it
@@ -138,9 +143,9 @@ pub trait Disk {
         ensures place { place self.new ≡ place self.old }
         ensures so_far { honest self.new → honest self.old }
         ensures gives { honest self.new
-            → Does (ReadsAt (inode file.old) offset out.new) Stays result (folder self.old)
+            → Does relied (ReadsAt (inode file.old) offset out.new) Stays result (folder self.old)
             (folder self.new) }
-        ensures passes { honest self.new → Passes Stays (folder self.old) (past self.old)
+        ensures passes { honest self.new → Passes relied Stays (folder self.old) (past self.old)
             (past self.new) };
 
     /// How many bytes the regular file under a name has; `None` where there is none.
@@ -148,8 +153,8 @@ pub trait Disk {
         ensures place { place self.new ≡ place self.old }
         ensures so_far { honest self.new → honest self.old }
         ensures gives { honest self.new
-            → Gives (Finds name.now) Stays result (folder self.old) (folder self.new) }
-        ensures passes { honest self.new → Passes Stays (folder self.old) (past self.old)
+            → Gives relied (Finds name.now) Stays result (folder self.old) (folder self.new) }
+        ensures passes { honest self.new → Passes relied Stays (folder self.old) (past self.old)
             (past self.new) };
 
     /// The names that stand in the folder. Where it is not there the error is `NotFound`.
@@ -157,19 +162,19 @@ pub trait Disk {
         ensures place { place self.new ≡ place self.old }
         ensures so_far { honest self.new → honest self.old }
         ensures gives { honest self.new
-            → Gives (λ names. Lists (map string_bytes names.items)) Stays result
+            → Gives relied (λ names. Lists (map string_bytes names.items)) Stays result
             (folder self.old) (folder self.new) }
-        ensures passes { honest self.new → Passes Stays (folder self.old) (past self.old)
+        ensures passes { honest self.new → Passes relied Stays (folder self.old) (past self.old)
             (past self.new) };
 
     /// Removes the name of a file of this program's own.
     fn remove(&mut self, name: &str) -> Result<(), DiskError>
         ensures place { place self.new ≡ place self.old }
         ensures so_far { honest self.new → honest self.old }
-        ensures gives { honest self.new → Does (Removes name.now)
+        ensures gives { honest self.new → Does relied (Removes name.now)
             (Either Stays (Removes name.now)) result (folder self.old) (folder self.new) }
         ensures passes { honest self.new
-            → Passes (Either (Removes name.now) (Either Stays (Removes name.now)))
+            → Passes relied (Either (Removes name.now) (Either Stays (Removes name.now)))
             (folder self.old) (past self.old) (past self.new) };
 }
 

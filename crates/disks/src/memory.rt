@@ -194,7 +194,7 @@ fn note(events: &mut Vec<Event>, event: Event) -> Result<(), DiskError>
 }
 
 impl Disk for MemoryDisk {
-    ghost use Rattle.std.specs.Prelude.{⊤};
+    ghost use Rattle.std.specs.Prelude.{⊤, true};
     ghost use Rattle.disks.specs.Changed.{empty};
 
     type File = MemoryFile;
@@ -208,6 +208,8 @@ impl Disk for MemoryDisk {
     ghost past = { λ d. states empty d.events.items };
 
     ghost honest = { λ d. ⊤ };
+
+    ghost relied = { λ name bytes. true };
 
     ghost inode = { λ f. f.number };
 

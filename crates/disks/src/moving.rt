@@ -19,7 +19,8 @@ pub struct Unmoved {
     pub is_moved: bool,
 }
 
-/// Gives a finished file another name, in the place of what stands there.
+/// Gives a finished file another name, in the place of what stands there. What is said of it holds
+/// where its names are relied on with its bytes.
 pub fn move_finished<D: Disk>(disk: &mut D, from: &str, to: &str) -> Result<(), Unmoved>
     requires apart { from.now ≢ to.now }
     requires lasting { lasts from.now ≡ true }
@@ -28,15 +29,16 @@ pub fn move_finished<D: Disk>(disk: &mut D, from: &str, to: &str) -> Result<(), 
     ensures so_far { D.honest disk.new → D.honest disk.old }
     ensures durable { D.honest disk.new → (bytes : List ℕ)
         → IsDurable (D.folder disk.old) from.now bytes
+        → D.relied from.now bytes ≡ true → D.relied to.now bytes ≡ true
         → OnOk result (IsDurable (D.folder disk.new) to.now bytes) }
 
     // However it ends, and at each moment until then.
     ensures spared { D.honest disk.new → (bytes : List ℕ)
-        → IsDurable (D.folder disk.old) from.now bytes
-        → SparesMoved from.now to.now bytes (D.folder disk.old) (D.folder disk.new) }
+        → IsDurable (D.folder disk.old) from.now bytes → D.relied from.now bytes ≡ true
+        → SparesMoved D.relied from.now to.now bytes (D.folder disk.old) (D.folder disk.new) }
     ensures any_moment { D.honest disk.new → (bytes : List ℕ)
-        → IsDurable (D.folder disk.old) from.now bytes
-        → Passed (SparesMoved from.now to.now bytes (D.folder disk.old)) (D.past disk.old)
+        → IsDurable (D.folder disk.old) from.now bytes → D.relied from.now bytes ≡ true
+        → Passed (SparesMoved D.relied from.now to.now bytes (D.folder disk.old)) (D.past disk.old)
         (D.past disk.new) }
 {
     let (file, length) = match look_at(disk, from) {
@@ -69,9 +71,9 @@ fn look_at<D: Disk>(disk: &mut D, name: &str) -> Result<(D::File, u64), DiskErro
     ensures place { D.place disk.new ≡ D.place disk.old }
     ensures so_far { D.honest disk.new → D.honest disk.old }
     ensures kept { D.honest disk.new → (own : Name)
-        → Keeps own Any (D.folder disk.old) (D.folder disk.new) }
+        → Keeps D.relied own Any (D.folder disk.old) (D.folder disk.new) }
     ensures any_moment { D.honest disk.new → (own : Name)
-        → Passed (Keeps own Any (D.folder disk.old)) (D.past disk.old) (D.past disk.new) }
+        → Passed (Keeps D.relied own Any (D.folder disk.old)) (D.past disk.old) (D.past disk.new) }
 {
     let file = disk.open(name)?;
     match disk.find(name)? {

@@ -20,7 +20,7 @@ pub fn begin<D: Disk>(disk: &mut D, name: &str) -> Result<D::File, DiskError>
     ensures apart { D.honest disk.new → IfOk result (λ file. (other : Name) (i : ℕ)
         (was : FileState) → other ≢ name.now → IsOwn (D.folder disk.old) other i was
         → i ≢ D.inode file) }
-    ensures kept { D.honest disk.new → StaysHeld (D.folder disk.old) (D.folder disk.new) }
+    ensures kept { D.honest disk.new → StaysHeld D.relied (D.folder disk.old) (D.folder disk.new) }
     ensures others { D.honest disk.new
         → OwnStayBeside name.now (D.folder disk.old) (D.folder disk.new) }
 {
@@ -38,7 +38,7 @@ fn remove_regular<D: Disk>(disk: &mut D, name: &str) -> Result<(), DiskError>
     requires passing { lasts name.now ≡ false }
     ensures place { D.place disk.new ≡ D.place disk.old }
     ensures so_far { D.honest disk.new → D.honest disk.old }
-    ensures kept { D.honest disk.new → StaysHeld (D.folder disk.old) (D.folder disk.new) }
+    ensures kept { D.honest disk.new → StaysHeld D.relied (D.folder disk.old) (D.folder disk.new) }
     ensures others { D.honest disk.new
         → OwnStayBeside name.now (D.folder disk.old) (D.folder disk.new) }
 {
@@ -53,7 +53,7 @@ pub fn discard<D: Disk>(disk: &mut D, name: &str) -> Result<(), DiskError>
     requires passing { lasts name.now ≡ false }
     ensures place { D.place disk.new ≡ D.place disk.old }
     ensures so_far { D.honest disk.new → D.honest disk.old }
-    ensures kept { D.honest disk.new → StaysHeld (D.folder disk.old) (D.folder disk.new) }
+    ensures kept { D.honest disk.new → StaysHeld D.relied (D.folder disk.old) (D.folder disk.new) }
     ensures others { D.honest disk.new
         → OwnStayBeside name.now (D.folder disk.old) (D.folder disk.new) }
 {
@@ -74,7 +74,7 @@ pub fn write<D: Disk>(disk: &mut D, file: &mut D::File, bytes: &[u8]) -> Result<
     ensures kept { D.honest disk.new → (name : Name) (before : FileState)
         → IsOwn (D.folder disk.old) name (D.inode file.old) before
         → before.is_finished ≡ false
-        → StaysHeld (D.folder disk.old) (D.folder disk.new) }
+        → StaysHeld D.relied (D.folder disk.old) (D.folder disk.new) }
     ensures others { D.honest disk.new
         → OwnStayBut (D.inode file.old) (D.folder disk.old) (D.folder disk.new) }
 {
@@ -93,7 +93,7 @@ pub fn sync<D: Disk>(disk: &mut D, file: &D::File) -> Result<(), DiskError>
     ensures kept { D.honest disk.new → (name : Name) (before : FileState)
         → IsOwn (D.folder disk.old) name (D.inode file.now) before
         → before.is_finished ≡ false
-        → StaysHeld (D.folder disk.old) (D.folder disk.new) }
+        → StaysHeld D.relied (D.folder disk.old) (D.folder disk.new) }
     ensures others { D.honest disk.new
         → OwnStayBut (D.inode file.now) (D.folder disk.old) (D.folder disk.new) }
 {

@@ -80,7 +80,7 @@ fn is_same_file(one: &Metadata, other: &Metadata) -> bool {
 }
 
 impl<R: Files + AllocGlobal + Clone + Drop> Disk for SystemDisk<R> {
-    ghost use Rattle.std.specs.Prelude.{[]};
+    ghost use Rattle.std.specs.Prelude.{[], false};
     ghost use Rattle.disks.specs.Changed.{empty};
 
     type File = SystemFile<R::File>;
@@ -94,6 +94,8 @@ impl<R: Files + AllocGlobal + Clone + Drop> Disk for SystemDisk<R> {
     ghost past = { λ d. [] };
 
     ghost honest = { λ d. ⊥ };
+
+    ghost relied = { λ name bytes. false };
 
     ghost inode = { λ f. 0 };
 

@@ -1,7 +1,7 @@
 //! Files that appear whole under their names, with their bytes on the disk.
 
 ghost use Rattle.std.specs.Prelude.{◌≡◌, ◌≢◌, ℕ, List, true, false, IfOk, IfErr, OnOk, Ok};
-ghost use Rattle.disks.specs.Names.{Name, lasts};
+ghost use Rattle.disks.specs.Names.{Name, IsRelied};
 ghost use Rattle.disks.specs.Folder.{IsOwn, IsDurable, StandsFor};
 ghost use Rattle.disks.specs.Past.{Passed};
 ghost use Rattle.disks.specs.Changed.{nothing};
@@ -27,14 +27,14 @@ pub fn replace<D: Disk>(disk: &mut D, own: &str, last: &str, bytes: &[u8]) -> Re
     requires apart { own.now ≢ last.now }
     ensures place { D.place disk.new ≡ D.place disk.old }
     ensures so_far { D.honest disk.new → D.honest disk.old }
-    ensures durable { D.honest disk.new → lasts last.now ≡ true
+    ensures durable { D.honest disk.new → IsRelied D.relied last.now bytes.now
         → OnOk result (IsDurable (D.folder disk.new) last.now bytes.now) }
 
     // However it ends, and at each moment until then.
     ensures spared { D.honest disk.new
-        → Spares last.now bytes.now (D.folder disk.old) (D.folder disk.new) }
+        → Spares D.relied last.now bytes.now (D.folder disk.old) (D.folder disk.new) }
     ensures any_moment { D.honest disk.new
-        → Passed (Spares last.now bytes.now (D.folder disk.old)) (D.past disk.old)
+        → Passed (Spares D.relied last.now bytes.now (D.folder disk.old)) (D.past disk.old)
         (D.past disk.new) }
 
     // No file is left under its own name, but where it could not be removed.
@@ -83,16 +83,17 @@ pub fn publish<D: Disk>(
     requires apart { own.now ≢ last.now }
     ensures place { D.place disk.new ≡ D.place disk.old }
     ensures so_far { D.honest disk.new → D.honest disk.old }
-    ensures durable { D.honest disk.new → lasts last.now ≡ true → IfOk result
-        (λ published. published ≡ Published.Linked
+    ensures durable { D.honest disk.new → IsRelied D.relied last.now bytes.now
+        → IfOk result (λ published. published ≡ Published.Linked
         → IsDurable (D.folder disk.new) last.now bytes.now) }
     ensures written { D.honest disk.new → IfOk result (λ published. published ≡ Published.Written
         → HasOwn (D.folder disk.new) last.now bytes.now) }
 
     // However it ends, and at each moment until then: it never takes the place of another.
-    ensures spared { D.honest disk.new → SparesAll (D.folder disk.old) (D.folder disk.new) }
+    ensures spared { D.honest disk.new
+        → SparesAll D.relied (D.folder disk.old) (D.folder disk.new) }
     ensures any_moment { D.honest disk.new
-        → Passed (SparesAll (D.folder disk.old)) (D.past disk.old) (D.past disk.new) }
+        → Passed (SparesAll D.relied (D.folder disk.old)) (D.past disk.old) (D.past disk.new) }
 
     // No file is left under its own name, but where it could not be removed.
     ensures gone { D.honest disk.new → IfOk result
@@ -117,7 +118,8 @@ fn end_published<D: Disk>(disk: &mut D, published: Published) -> Result<Publishe
     ensures place { D.place disk.new ≡ D.place disk.old }
     ensures so_far { D.honest disk.new → D.honest disk.old }
     ensures same { IfOk result (λ told. told ≡ published) }
-    ensures durable { D.honest disk.new → (name : Name) (bytes : List ℕ) → lasts name ≡ true
+    ensures durable { D.honest disk.new → (name : Name) (bytes : List ℕ)
+        → IsRelied D.relied name bytes
         → StandsFor (D.folder disk.old) bytes ((D.folder disk.old).found name)
         → OnOk result (IsDurable (D.folder disk.new) name bytes) }
     ensures owns { D.honest disk.new → (name : Name)
@@ -125,9 +127,9 @@ fn end_published<D: Disk>(disk: &mut D, published: Published) -> Result<Publishe
     ensures owned { D.honest disk.new → (name : Name) (bytes : List ℕ)
         → HasOwn (D.folder disk.old) name bytes → HasOwn (D.folder disk.new) name bytes }
     ensures kept { D.honest disk.new → (own : Name)
-        → Keeps own Any (D.folder disk.old) (D.folder disk.new) }
+        → Keeps D.relied own Any (D.folder disk.old) (D.folder disk.new) }
     ensures any_moment { D.honest disk.new → (own : Name)
-        → Passed (Keeps own Any (D.folder disk.old)) (D.past disk.old) (D.past disk.new) }
+        → Passed (Keeps D.relied own Any (D.folder disk.old)) (D.past disk.old) (D.past disk.new) }
 {
     let ended = sync_names(disk);
     match ended {
@@ -174,16 +176,17 @@ fn link_or_write<D: Disk>(
     ensures so_far { D.honest disk.new → D.honest disk.old }
     ensures linked { D.honest disk.new → (i : ℕ) → IsOwn (D.folder disk.old) own.now i
         (record { bytes = bytes.now; is_synced = true; is_finished = false })
-        → IfOk result (λ published. published ≡ Published.Linked → lasts last.now ≡ true
+        → IfOk result (λ published. published ≡ Published.Linked
+        → IsRelied D.relied last.now bytes.now
         → StandsFor (D.folder disk.new) bytes.now ((D.folder disk.new).found last.now)) }
     ensures written { D.honest disk.new → IfOk result (λ published. published ≡ Published.Written
         → HasOwn (D.folder disk.new) last.now bytes.now) }
     ensures spared { D.honest disk.new → (i : ℕ) → IsOwn (D.folder disk.old) own.now i
         (record { bytes = bytes.now; is_synced = true; is_finished = false })
-        → SparesAll (D.folder disk.old) (D.folder disk.new) }
+        → SparesAll D.relied (D.folder disk.old) (D.folder disk.new) }
     ensures any_moment { D.honest disk.new → (i : ℕ) → IsOwn (D.folder disk.old) own.now i
         (record { bytes = bytes.now; is_synced = true; is_finished = false })
-        → Passed (SparesAll (D.folder disk.old)) (D.past disk.old) (D.past disk.new) }
+        → Passed (SparesAll D.relied (D.folder disk.old)) (D.past disk.old) (D.past disk.new) }
     ensures owns { D.honest disk.new → (i : ℕ) → IsOwn (D.folder disk.old) own.now i
         (record { bytes = bytes.now; is_synced = true; is_finished = false })
         → (name : Name) → name ≢ own.now → name ≢ last.now
@@ -207,9 +210,10 @@ fn write_alone<D: Disk>(disk: &mut D, last: &str, bytes: &[u8]) -> Result<Publis
     ensures linked { IfOk result (λ published. published ≢ Published.Linked) }
     ensures written { D.honest disk.new → IfOk result (λ published. published ≡ Published.Written
         → HasOwn (D.folder disk.new) last.now bytes.now) }
-    ensures spared { D.honest disk.new → SparesAll (D.folder disk.old) (D.folder disk.new) }
+    ensures spared { D.honest disk.new
+        → SparesAll D.relied (D.folder disk.old) (D.folder disk.new) }
     ensures any_moment { D.honest disk.new
-        → Passed (SparesAll (D.folder disk.old)) (D.past disk.old) (D.past disk.new) }
+        → Passed (SparesAll D.relied (D.folder disk.old)) (D.past disk.old) (D.past disk.new) }
     ensures owns { D.honest disk.new → (name : Name) → name ≢ last.now
         → (D.folder disk.new).own name ≡ (D.folder disk.old).own name }
 {
@@ -232,12 +236,13 @@ fn make_synced<D: Disk>(disk: &mut D, own: &str, bytes: &[u8]) -> Result<D::File
     ensures made { D.honest disk.new → IfOk result
         (λ file. IsOwn (D.folder disk.new) own.now (D.inode file)
         (record { bytes = bytes.now; is_synced = true; is_finished = false })) }
-    ensures free { D.honest disk.new → OnOk result (IsFree (D.folder disk.old) own.now) }
+    ensures free { D.honest disk.new → OnOk result (IsFree D.relied (D.folder disk.old) own.now) }
     ensures kept { D.honest disk.new
-        → Keeps own.now (Beside own.now) (D.folder disk.old) (D.folder disk.new) }
-    ensures spared { D.honest disk.new → SparesAll (D.folder disk.old) (D.folder disk.new) }
+        → Keeps D.relied own.now (Beside own.now) (D.folder disk.old) (D.folder disk.new) }
+    ensures spared { D.honest disk.new
+        → SparesAll D.relied (D.folder disk.old) (D.folder disk.new) }
     ensures any_moment { D.honest disk.new
-        → Passed (SparesAll (D.folder disk.old)) (D.past disk.old) (D.past disk.new) }
+        → Passed (SparesAll D.relied (D.folder disk.old)) (D.past disk.old) (D.past disk.new) }
     ensures left { D.honest disk.new → IfErr result (λ unmade. unmade.is_left ≡ false
         → OwnsNoMore (D.folder disk.old) (D.folder disk.new)) }
 {
@@ -267,10 +272,10 @@ fn write_synced<D: Disk>(disk: &mut D, file: &mut D::File, bytes: &[u8]) -> Resu
         (record { bytes = bytes.now; is_synced = true; is_finished = false })) }
     ensures kept { D.honest disk.new → (name : Name)
         → IsOwn (D.folder disk.old) name (D.inode file.old) nothing
-        → Keeps name (Beside name) (D.folder disk.old) (D.folder disk.new) }
+        → Keeps D.relied name (Beside name) (D.folder disk.old) (D.folder disk.new) }
     ensures any_moment { D.honest disk.new → (name : Name)
         → IsOwn (D.folder disk.old) name (D.inode file.old) nothing
-        → Passed (Keeps name (Beside name) (D.folder disk.old)) (D.past disk.old)
+        → Passed (Keeps D.relied name (Beside name) (D.folder disk.old)) (D.past disk.old)
         (D.past disk.new) }
 {
     disk.append(file, bytes)?;
@@ -283,9 +288,9 @@ fn dropped<D: Disk>(disk: &mut D, own: &str, error: DiskError) -> Unmade
     ensures so_far { D.honest disk.new → D.honest disk.old }
     ensures error { result.error ≡ error }
     ensures kept { D.honest disk.new
-        → Keeps own.now (Beside own.now) (D.folder disk.old) (D.folder disk.new) }
+        → Keeps D.relied own.now (Beside own.now) (D.folder disk.old) (D.folder disk.new) }
     ensures any_moment { D.honest disk.new
-        → Passed (Keeps own.now (Beside own.now) (D.folder disk.old)) (D.past disk.old)
+        → Passed (Keeps D.relied own.now (Beside own.now) (D.folder disk.old)) (D.past disk.old)
         (D.past disk.new) }
     ensures gone { D.honest disk.new → result.is_left ≡ false
         → (D.folder disk.new).own own.now ≡ false }
@@ -301,15 +306,16 @@ fn dropped<D: Disk>(disk: &mut D, own: &str, error: DiskError) -> Unmade
 pub(crate) fn take_away<D: Disk>(disk: &mut D, own: &str) -> Result<(), DiskError>
     ensures place { D.place disk.new ≡ D.place disk.old }
     ensures so_far { D.honest disk.new → D.honest disk.old }
-    ensures stands { D.honest disk.new → (name : Name) (bytes : List ℕ) → lasts name ≡ true
-        → name ≢ own.now → StandsFor (D.folder disk.old) bytes ((D.folder disk.old).found name)
+    ensures stands { D.honest disk.new → (name : Name) (bytes : List ℕ)
+        → IsRelied D.relied name bytes → name ≢ own.now
+        → StandsFor (D.folder disk.old) bytes ((D.folder disk.old).found name)
         → StandsFor (D.folder disk.new) bytes ((D.folder disk.new).found name) }
     ensures owned { D.honest disk.new → (name : Name) (bytes : List ℕ) → name ≢ own.now
         → HasOwn (D.folder disk.old) name bytes → HasOwn (D.folder disk.new) name bytes }
     ensures kept { D.honest disk.new
-        → Keeps own.now (Beside own.now) (D.folder disk.old) (D.folder disk.new) }
+        → Keeps D.relied own.now (Beside own.now) (D.folder disk.old) (D.folder disk.new) }
     ensures any_moment { D.honest disk.new
-        → Passed (Keeps own.now (Beside own.now) (D.folder disk.old)) (D.past disk.old)
+        → Passed (Keeps D.relied own.now (Beside own.now) (D.folder disk.old)) (D.past disk.old)
         (D.past disk.new) }
     ensures gone { D.honest disk.new → OnOk result ((D.folder disk.new).own own.now ≡ false) }
 {

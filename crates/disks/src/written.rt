@@ -2,7 +2,7 @@
 
 ghost use Rattle.std.specs.Prelude.{◌≡◌, ◌≢◌, ◌++◌, [], ℕ, List, true, false};
 ghost use Rattle.std.specs.Prelude.{IfOk, IfErr, OnOk, OnErr, length};
-ghost use Rattle.disks.specs.Names.{Name, lasts};
+ghost use Rattle.disks.specs.Names.{Name, IsRelied};
 ghost use Rattle.disks.specs.Folder.{Folder, FileState, IsOwn, IsDurable, HasBytes};
 ghost use Rattle.disks.specs.Past.{Passed};
 ghost use Rattle.disks.specs.Whole.{SparesAll, Spares, OwnsNoMore};
@@ -20,12 +20,14 @@ pub fn begin<D: Disk>(disk: &mut D, own: &str) -> Result<D::File, DiskError>
     ensures place { D.place disk.new ≡ D.place disk.old }
     ensures so_far { D.honest disk.new → D.honest disk.old }
     ensures begun { D.honest disk.new → IfOk result
-        (λ file. IsWriting (D.folder disk.old) own.now (D.inode file) [] (D.folder disk.new)) }
+        (λ file. IsWriting D.relied (D.folder disk.old) own.now (D.inode file) []
+        (D.folder disk.new)) }
 
     // However it ends, and at each moment until then, nothing else is touched.
-    ensures spared { D.honest disk.new → SparesAll (D.folder disk.old) (D.folder disk.new) }
+    ensures spared { D.honest disk.new
+        → SparesAll D.relied (D.folder disk.old) (D.folder disk.new) }
     ensures any_moment { D.honest disk.new
-        → Passed (SparesAll (D.folder disk.old)) (D.past disk.old) (D.past disk.new) }
+        → Passed (SparesAll D.relied (D.folder disk.old)) (D.past disk.old) (D.past disk.new) }
     ensures refused { D.honest disk.new
         → OnErr result (OwnsNoMore (D.folder disk.old) (D.folder disk.new)) }
 {
@@ -38,20 +40,20 @@ pub fn write<D: Disk>(disk: &mut D, file: &mut D::File, bytes: &[u8]) -> Result<
     ensures place { D.place disk.new ≡ D.place disk.old }
     ensures so_far { D.honest disk.new → D.honest disk.old }
     ensures written { D.honest disk.new → (begun : Folder) (own : Name) (before : List ℕ)
-        → IsWriting begun own (D.inode file.old) before (D.folder disk.old)
-        → OnOk result (IsWriting begun own (D.inode file.new) (before ++ bytes.now)
+        → IsWriting D.relied begun own (D.inode file.old) before (D.folder disk.old)
+        → OnOk result (IsWriting D.relied begun own (D.inode file.new) (before ++ bytes.now)
         (D.folder disk.new)) }
 
     // However it ends, and at each moment until then, nothing else is touched.
     ensures begun { D.honest disk.new → (begun : Folder) (own : Name) (before : List ℕ)
-        → IsWriting begun own (D.inode file.old) before (D.folder disk.old)
-        → IsBegun begun own (D.folder disk.new) }
+        → IsWriting D.relied begun own (D.inode file.old) before (D.folder disk.old)
+        → IsBegun D.relied begun own (D.folder disk.new) }
     ensures spared { D.honest disk.new → (begun : Folder) (own : Name) (before : List ℕ)
-        → IsWriting begun own (D.inode file.old) before (D.folder disk.old)
-        → SparesAll begun (D.folder disk.new) }
+        → IsWriting D.relied begun own (D.inode file.old) before (D.folder disk.old)
+        → SparesAll D.relied begun (D.folder disk.new) }
     ensures any_moment { D.honest disk.new → (begun : Folder) (own : Name) (before : List ℕ)
-        → IsWriting begun own (D.inode file.old) before (D.folder disk.old)
-        → Passed (SparesAll begun) (D.past disk.old) (D.past disk.new) }
+        → IsWriting D.relied begun own (D.inode file.old) before (D.folder disk.old)
+        → Passed (SparesAll D.relied begun) (D.past disk.old) (D.past disk.new) }
 {
     disk.append(file, bytes)
 }
@@ -70,22 +72,23 @@ pub fn finish<D: Disk>(
     ensures place { D.place disk.new ≡ D.place disk.old }
     ensures so_far { D.honest disk.new → D.honest disk.old }
     ensures durable { D.honest disk.new → (begun : Folder) (bytes : List ℕ)
-        → IsWriting begun own.now (D.inode file.now) bytes (D.folder disk.old)
-        → lasts last.now ≡ true → OnOk result (IsDurable (D.folder disk.new) last.now bytes) }
+        → IsWriting D.relied begun own.now (D.inode file.now) bytes (D.folder disk.old)
+        → IsRelied D.relied last.now bytes
+        → OnOk result (IsDurable (D.folder disk.new) last.now bytes) }
     ensures named { D.honest disk.new → (begun : Folder) (bytes : List ℕ)
-        → IsWriting begun own.now (D.inode file.now) bytes (D.folder disk.old)
-        → lasts last.now ≡ true → IfErr result (λ unmoved. unmoved.is_moved ≡ true
+        → IsWriting D.relied begun own.now (D.inode file.now) bytes (D.folder disk.old)
+        → IsRelied D.relied last.now bytes → IfErr result (λ unmoved. unmoved.is_moved ≡ true
         → HasBytes (D.folder disk.new) bytes ((D.folder disk.new).found last.now)) }
 
     // However it ends, and at each moment until then: what stood there, or these bytes.
     ensures spared { D.honest disk.new → (begun : Folder) (bytes : List ℕ)
-        → IsWriting begun own.now (D.inode file.now) bytes (D.folder disk.old)
-        → Spares last.now bytes begun (D.folder disk.new) }
+        → IsWriting D.relied begun own.now (D.inode file.now) bytes (D.folder disk.old)
+        → Spares D.relied last.now bytes begun (D.folder disk.new) }
     ensures any_moment { D.honest disk.new → (begun : Folder) (bytes : List ℕ)
-        → IsWriting begun own.now (D.inode file.now) bytes (D.folder disk.old)
-        → Passed (Spares last.now bytes begun) (D.past disk.old) (D.past disk.new) }
+        → IsWriting D.relied begun own.now (D.inode file.now) bytes (D.folder disk.old)
+        → Passed (Spares D.relied last.now bytes begun) (D.past disk.old) (D.past disk.new) }
     ensures gone { D.honest disk.new → (begun : Folder) (bytes : List ℕ)
-        → IsWriting begun own.now (D.inode file.now) bytes (D.folder disk.old)
+        → IsWriting D.relied begun own.now (D.inode file.now) bytes (D.folder disk.old)
         → OnOk result (OwnsNoMore begun (D.folder disk.new)) }
 {
     match disk.sync_file(file) {
@@ -109,20 +112,21 @@ fn name_synced<D: Disk>(
     ensures place { D.place disk.new ≡ D.place disk.old }
     ensures so_far { D.honest disk.new → D.honest disk.old }
     ensures durable { D.honest disk.new → (begun : Folder) (bytes : List ℕ)
-        → IsFilled begun own.now (D.inode file.now) bytes true (D.folder disk.old)
-        → lasts last.now ≡ true → OnOk result (IsDurable (D.folder disk.new) last.now bytes) }
+        → IsFilled D.relied begun own.now (D.inode file.now) bytes true (D.folder disk.old)
+        → IsRelied D.relied last.now bytes
+        → OnOk result (IsDurable (D.folder disk.new) last.now bytes) }
     ensures named { D.honest disk.new → (begun : Folder) (bytes : List ℕ)
-        → IsFilled begun own.now (D.inode file.now) bytes true (D.folder disk.old)
-        → lasts last.now ≡ true → IfErr result (λ unmoved. unmoved.is_moved ≡ true
+        → IsFilled D.relied begun own.now (D.inode file.now) bytes true (D.folder disk.old)
+        → IsRelied D.relied last.now bytes → IfErr result (λ unmoved. unmoved.is_moved ≡ true
         → HasBytes (D.folder disk.new) bytes ((D.folder disk.new).found last.now)) }
     ensures spared { D.honest disk.new → (begun : Folder) (bytes : List ℕ)
-        → IsFilled begun own.now (D.inode file.now) bytes true (D.folder disk.old)
-        → Spares last.now bytes begun (D.folder disk.new) }
+        → IsFilled D.relied begun own.now (D.inode file.now) bytes true (D.folder disk.old)
+        → Spares D.relied last.now bytes begun (D.folder disk.new) }
     ensures any_moment { D.honest disk.new → (begun : Folder) (bytes : List ℕ)
-        → IsFilled begun own.now (D.inode file.now) bytes true (D.folder disk.old)
-        → Passed (Spares last.now bytes begun) (D.past disk.old) (D.past disk.new) }
+        → IsFilled D.relied begun own.now (D.inode file.now) bytes true (D.folder disk.old)
+        → Passed (Spares D.relied last.now bytes begun) (D.past disk.old) (D.past disk.new) }
     ensures gone { D.honest disk.new → (begun : Folder) (bytes : List ℕ)
-        → IsFilled begun own.now (D.inode file.now) bytes true (D.folder disk.old)
+        → IsFilled D.relied begun own.now (D.inode file.now) bytes true (D.folder disk.old)
         → OnOk result (OwnsNoMore begun (D.folder disk.new)) }
 {
     match disk.rename(file, length, own, last) {
@@ -148,10 +152,11 @@ pub fn give_up<D: Disk>(disk: &mut D, own: &str) -> Result<(), DiskError>
     ensures place { D.place disk.new ≡ D.place disk.old }
     ensures so_far { D.honest disk.new → D.honest disk.old }
     ensures spared { D.honest disk.new → (begun : Folder)
-        → IsBegun begun own.now (D.folder disk.old) → SparesAll begun (D.folder disk.new) }
+        → IsBegun D.relied begun own.now (D.folder disk.old)
+        → SparesAll D.relied begun (D.folder disk.new) }
     ensures any_moment { D.honest disk.new → (begun : Folder)
-        → IsBegun begun own.now (D.folder disk.old)
-        → Passed (SparesAll begun) (D.past disk.old) (D.past disk.new) }
+        → IsBegun D.relied begun own.now (D.folder disk.old)
+        → Passed (SparesAll D.relied begun) (D.past disk.old) (D.past disk.new) }
     ensures left { D.honest disk.new → (i : ℕ) (file : FileState)
         → IsOwn (D.folder disk.old) own.now i file → length file.bytes ≢ 0
         → IsOwn (D.folder disk.new) own.now i file }

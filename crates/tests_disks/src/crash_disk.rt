@@ -24,7 +24,7 @@ pub(crate) struct CrashFile {
 pub(crate) struct CrashFolder;
 
 impl<'a> Disk for CrashDisk<'a> {
-    ghost use Rattle.std.specs.Prelude.{[]};
+    ghost use Rattle.std.specs.Prelude.{[], false};
     ghost use Rattle.disks.specs.Changed.{empty};
 
     type File = CrashFile;
@@ -38,6 +38,8 @@ impl<'a> Disk for CrashDisk<'a> {
     ghost past = { λ d. [] };
 
     ghost honest = { λ d. ⊥ };
+
+    ghost relied = { λ name bytes. false };
 
     ghost inode = { λ f. 0 };
 

@@ -1,7 +1,7 @@
-use Rattle.std.specs.Prelude.{Result, Ok, Err, OnOk, ℕ, List, true}
-use Rattle.std.proofs.Common.{◌≡◌, ◌∙◌}
+use Rattle.std.specs.Prelude.{Result, Ok, Err, OnOk, ℕ, List}
+use Rattle.std.proofs.Common.{◌∙◌}
 use Rattle.disks.specs.declared.error.DiskError.{DiskError}
-use Rattle.disks.specs.Names.{Name, lasts}
+use Rattle.disks.specs.Names.{Name, Relied, IsRelied}
 use Rattle.disks.specs.Folder.{Folder, StandsFor, IsDurable}
 use Rattle.disks.specs.Steps.{SyncsFolder, MaySyncFolder}
 use Rattle.disks.specs.Calls.{Does}
@@ -11,15 +11,15 @@ use Rattle.disks.specs.Whole.{Any}
 use Rattle.disks.proofs.Sparing.{owns_same, owns_synced, keeps_on, opened_keep, opened_passes, passes_on, sync_keep, sync_passes}
 use Rattle.disks.proofs.opening.sync_names.Goals as goal
 
-synced : (r : Result Unit DiskError) (s t : Folder) (name : Name) (bytes : List ℕ) → lasts name ≡ true → Does SyncsFolder MaySyncFolder r s t
+synced : (relied : Relied) (r : Result Unit DiskError) (s t : Folder) (name : Name) (bytes : List ℕ) → IsRelied relied name bytes → Does relied SyncsFolder MaySyncFolder r s t
     → StandsFor s bytes (s.found name) → OnOk r (IsDurable t name bytes)
-synced (Ok u) s t name bytes lasting does stands = syncs_durable s t name bytes lasting does stands
-synced (Err e) s t name bytes lasting does stands = tt
+synced relied (Ok u) s t name bytes lasting does stands = syncs_durable s t name bytes lasting does stands
+synced relied (Err e) s t name bytes lasting does stands = tt
 
 pub returns-clause-durable : goal.returns-clause-durable
 returns-clause-durable g c honest name bytes lasting stands =
     let opened = c.in_ok-folder.ensures.gives (c.sync_folder.ensures.so_far honest) in
-    synced c.sync_folder.result _ _ name bytes lasting (c.sync_folder.ensures.gives honest) (stays_stand _ _ name bytes lasting opened stands)
+    synced _ c.sync_folder.result _ _ name bytes lasting (c.sync_folder.ensures.gives honest) (stays_stand _ _ name bytes lasting opened stands)
 
 pub returns-in_err-folder-clause-stays : goal.returns-in_err-folder-clause-stays
 returns-in_err-folder-clause-stays g c honest = folder_held c.open_folder.result _ _ (c.open_folder.ensures.gives honest)
@@ -40,7 +40,7 @@ returns-in_err-folder-clause-any_moment g c honest own = opened_passes own Any _
 
 pub returns-clause-owns : goal.returns-clause-owns
 returns-clause-owns g c honest name =
-    owns_synced c.sync_folder.result _ _ name (c.sync_folder.ensures.gives honest) ∙ owns_same _ _ name (c.in_ok-folder.ensures.gives (c.sync_folder.ensures.so_far honest))
+    owns_synced _ c.sync_folder.result _ _ name (c.sync_folder.ensures.gives honest) ∙ owns_same _ _ name (c.in_ok-folder.ensures.gives (c.sync_folder.ensures.so_far honest))
 
 pub returns-clause-kept : goal.returns-clause-kept
 returns-clause-kept g c honest own =
@@ -60,6 +60,6 @@ returns-in_err-folder-clause-owned g c honest name bytes is = (is.0, stays_own _
 pub returns-clause-owned : goal.returns-clause-owned
 returns-clause-owned g c honest name bytes is = (
   is.0,
-  synced_own name _ _ c.sync_folder.result _ _ (c.sync_folder.ensures.gives honest)
+  synced_own _ name _ _ c.sync_folder.result _ _ (c.sync_folder.ensures.gives honest)
       (stays_own _ _ name _ _ (c.in_ok-folder.ensures.gives (c.sync_folder.ensures.so_far honest)) is.1),
 )

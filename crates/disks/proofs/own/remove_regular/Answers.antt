@@ -15,4 +15,4 @@ returns-clause-kept g c honest =
 pub returns-clause-others : goal.returns-clause-others
 returns-clause-others g c honest name i file apart own =
     c.discard.ensures.others honest name i file apart
-    (found_own c.args.name.now c.find.result _ _ (c.find.ensures.gives (c.discard.ensures.so_far honest)) name i file own)
+    (found_own _ c.args.name.now c.find.result _ _ (c.find.ensures.gives (c.discard.ensures.so_far honest)) name i file own)

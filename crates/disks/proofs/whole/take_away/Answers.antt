@@ -25,8 +25,8 @@ returns-clause-any_moment g c honest =
 
 pub returns-clause-stands : goal.returns-clause-stands
 returns-clause-stands g c honest name bytes lasting apart stands =
-    removes_stand c.args.own.now name bytes c.remove.result _ _ lasting apart (c.remove.ensures.gives honest) stands
+    removes_stand _ c.args.own.now name bytes c.remove.result _ _ lasting apart (c.remove.ensures.gives honest) stands
 
 pub returns-clause-owned : goal.returns-clause-owned
 returns-clause-owned g c honest name bytes apart is =
-    (is.0, removes_own c.args.own.now name is.0 _ c.remove.result _ _ apart (c.remove.ensures.gives honest) is.1)
+    (is.0, removes_own _ c.args.own.now name is.0 _ c.remove.result _ _ apart (c.remove.ensures.gives honest) is.1)

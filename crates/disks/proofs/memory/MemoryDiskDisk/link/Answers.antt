@@ -23,7 +23,7 @@ returns-clause-gives c = λ honest.
     let free : s.found c.args.to.now ≡ None = none_of _ (search rules) in
     let step = subst (λ (n : List ℕ). Links c.args.from.now c.args.to.now s (linked n c.in-Some.number s)) (sym c.in_ok-to.ensures.ok)
     (links c.args.from.now c.args.to.now c.in-Some.number s was free) in
-    does_noted _ _ c.note.result _ _ _ c.note.ensures.ok c.note.ensures.err step (inl refl)
+    does_noted _ _ _ c.note.result _ _ _ c.note.ensures.ok c.note.ensures.err step (inl refl)
 
 pub returns-clause-passes : goal.returns-clause-passes
 returns-clause-passes c = λ honest. passes_noted _ c.note.result _ _ _ c.note.ensures.ok c.note.ensures.err

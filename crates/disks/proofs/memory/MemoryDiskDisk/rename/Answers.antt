@@ -30,7 +30,7 @@ returns-clause-gives c = λ honest.
     let step = subst (λ (n : List ℕ). Renames c.args.from.now c.args.to.now s (renamed n (string_bytes c.in_ok-to.to) c.in-Some.number s)) (sym c.in_ok-from.ensures.ok)
     (subst (λ (n : List ℕ). Renames c.args.from.now c.args.to.now s (renamed c.args.from.now n c.in-Some.number s)) (sym c.in_ok-to.ensures.ok)
     (renames c.args.from.now c.args.to.now c.in-Some.number s c.requires was)) in
-    does_noted _ _ c.note.result _ _ _ c.note.ensures.ok c.note.ensures.err step (inl refl)
+    does_noted _ _ _ c.note.result _ _ _ c.note.ensures.ok c.note.ensures.err step (inl refl)
 
 pub returns-clause-passes : goal.returns-clause-passes
 returns-clause-passes c = λ honest. passes_noted _ c.note.result _ _ _ c.note.ensures.ok c.note.ensures.err
