@@ -3,7 +3,7 @@ use Rattle.proved_parts.specs.Parts.{IsSegmentBy}
 use Rattle.download_segments.specs.Handout.{handed_out, next_end}
 use Rattle.download_segments.specs.State.{HandoutState, IsHandout, ProvesSegment, handout_state}
 use Rattle.download_segments.proofs.HandoutLemmas.{next_fits, next_within, right_handed}
-use Rattle.download_segments.proofs.TreeLemmas.{at_some, refutes}
+use Rattle.download_segments.proofs.TreeLemmas.{at_some, grow_same, refutes}
 use Rattle.download_segments.proofs.handout.Handout.hand_out.Goals as goal
 
 pub path_by_hash-requires-clause-there : goal.path_by_hash-requires-clause-there
@@ -40,3 +40,9 @@ invariant_of-self-2 c =
 
 pub returns-clause-right : goal.returns-clause-right
 returns-clause-right c = invariant_of-self-2 c
+
+pub returns-in_err-push_back-clause-grow : goal.returns-in_err-push_back-clause-grow
+returns-in_err-push_back-clause-grow c = grow_same _ _ (ap (λ (h : HandoutState). h.trees) c.self.view_is)
+
+pub returns-clause-grow : goal.returns-clause-grow
+returns-clause-grow c = grow_same _ _ (ap (λ (h : HandoutState). h.trees) c.self.view_is)
