@@ -2,7 +2,7 @@
 use Rattle.std.proofs.Common.{◌≡◌, ℕ, List, sym, subst, ap}
 use Rattle.std.specs.Prelude.{Option, Some, None, Bool, true, false, Result, Ok, Err, IfOk, OnOk, IsErr}
 use Rattle.disks.specs.declared.error.DiskError.{DiskError}
-use Rattle.disks.specs.Names.{Name}
+use Rattle.disks.specs.Names.{Name, Relied}
 use Rattle.disks.specs.Folder.{Folder, FileState, HasBytes, StandsFor, IsDurable}
 use Rattle.disks.specs.Laws.{KeepsBut, KeepsBeside, FilesStay, StaysHeld}
 use Rattle.share_store.specs.declared.error.StoreError.{StoreError}
@@ -30,12 +30,12 @@ has_bytes : (s : Folder) (bytes : List ℕ) (o : Option ℕ) → StandsFor s byt
 has_bytes s bytes None stands = stands
 has_bytes s bytes (Some i) stands = (ap (λ (f : FileState). f.bytes) stands, ap (λ (f : FileState). f.is_finished) stands)
 
-pub synced_closes : (closed : Name) (bytes : List ℕ) (d : Result Unit DiskError) (r : Result Unit StoreError) (s m t : Folder) → IsAs d r
-    → StaysHeld s m → OnOk d (IsDurable t closed bytes) → KeepsBut closed bytes m t → FilesStay m t → FileCloses Synced closed bytes r s t
-synced_closes closed bytes d r s m t is held durable keeps files = record {
-  stands = as_ok d r (HasBytes t bytes (t.found closed)) is
-      (more_ok d (IsDurable t closed bytes) (HasBytes t bytes (t.found closed)) (λ there. has_bytes t bytes (t.found closed) there.now) durable);
-  durable = λ synced. as_ok d r (IsDurable t closed bytes) is durable;
+pub synced_closes : {relied : Relied} (closed : Name) (bytes : List ℕ) (d : Result Unit DiskError) (r : Result Unit StoreError) (s m t : Folder) → IsAs d r
+    → StaysHeld relied s m → (relied closed bytes ≡ true → OnOk d (IsDurable t closed bytes)) → KeepsBut relied closed bytes m t → FilesStay m t → FileCloses relied Synced closed bytes r s t
+synced_closes {relied} closed bytes d r s m t is held durable keeps files = record {
+  stands = λ relies. as_ok d r (HasBytes t bytes (t.found closed)) is
+      (more_ok d (IsDurable t closed bytes) (HasBytes t bytes (t.found closed)) (λ there. has_bytes t bytes (t.found closed) there.now) (durable relies));
+  durable = λ synced relies. as_ok d r (IsDurable t closed bytes) is (durable relies);
   kept = λ synced name kept lasting but there. keeps name kept lasting but (held.durable name kept lasting there);
   beside = λ name kept lasting apart there. keeps name kept lasting (λ same. absurd (apart same)) (held.durable name kept lasting there);
   files = λ i kept has. files i kept (held.files i kept has);
@@ -48,10 +48,10 @@ unlike same = subst IsUnsynced same tt
     IsUnsynced Synced = ⊥
     IsUnsynced Unsynced = Unit {0}
 
-pub unsynced_closes : (closed : Name) (bytes : List ℕ) (d : Result Unit DiskError) (r : Result Unit StoreError) (s t : Folder) → IsAs d r
-    → OnOk d (HasBytes t bytes (t.found closed)) → KeepsBeside closed s t → FilesStay s t → FileCloses Unsynced closed bytes r s t
-unsynced_closes closed bytes d r s t is stands keeps files = record {
-  stands = as_ok d r (HasBytes t bytes (t.found closed)) is stands;
+pub unsynced_closes : {relied : Relied} (closed : Name) (bytes : List ℕ) (d : Result Unit DiskError) (r : Result Unit StoreError) (s t : Folder) → IsAs d r
+    → (relied closed bytes ≡ true → OnOk d (HasBytes t bytes (t.found closed))) → KeepsBeside relied closed s t → FilesStay s t → FileCloses relied Unsynced closed bytes r s t
+unsynced_closes {relied} closed bytes d r s t is stands keeps files = record {
+  stands = λ relies. as_ok d r (HasBytes t bytes (t.found closed)) is (stands relies);
   durable = λ same. absurd (unlike same);
   kept = λ same. absurd (unlike same);
   beside = keeps;
@@ -66,21 +66,21 @@ false_true e = subst (λ (b : Bool). IsIt b) (sym e) tt
     IsIt false = ⊥
 
 -- where nothing was closed, what was held is so still
-pub failed_closes : (durability : Durability) (closed : Name) (bytes : List ℕ) (r : Result Unit StoreError) (s t : Folder) → IsErr r → StaysHeld s t
-    → FileCloses durability closed bytes r s t
-failed_closes durability closed bytes (Ok u) s t is held = absurd (false_true is)
-failed_closes durability closed bytes (Err e) s t is held = record {
-  stands = tt;
-  durable = λ synced. tt;
+pub failed_closes : {relied : Relied} (durability : Durability) (closed : Name) (bytes : List ℕ) (r : Result Unit StoreError) (s t : Folder) → IsErr r → StaysHeld relied s t
+    → FileCloses relied durability closed bytes r s t
+failed_closes {relied} durability closed bytes (Ok u) s t is held = absurd (false_true is)
+failed_closes {relied} durability closed bytes (Err e) s t is held = record {
+  stands = λ relies. tt;
+  durable = λ synced relies. tt;
   kept = λ synced name kept lasting but there. held.durable name kept lasting there;
   beside = λ name kept lasting apart there. held.durable name kept lasting there;
   files = held.files;
 }
 
 -- what is held before a close
-pub closes_later : (durability : Durability) (closed : Name) (bytes : List ℕ) (r : Result Unit StoreError) (s m t : Folder) → StaysHeld s m
-    → FileCloses durability closed bytes r m t → FileCloses durability closed bytes r s t
-closes_later durability closed bytes r s m t held closes = record {
+pub closes_later : {relied : Relied} (durability : Durability) (closed : Name) (bytes : List ℕ) (r : Result Unit StoreError) (s m t : Folder) → StaysHeld relied s m
+    → FileCloses relied durability closed bytes r m t → FileCloses relied durability closed bytes r s t
+closes_later {relied} durability closed bytes r s m t held closes = record {
   stands = closes.stands;
   durable = closes.durable;
   kept = λ synced name kept lasting but there. closes.kept synced name kept lasting but (held.durable name kept lasting there);
@@ -88,15 +88,15 @@ closes_later durability closed bytes r s m t held closes = record {
   files = λ i kept has. closes.files i kept (held.files i kept has);
 }
 
-pub held_same : (s : Folder) → StaysHeld s s
-held_same s = record {
+pub held_same : {relied : Relied} (s : Folder) → StaysHeld relied s s
+held_same {relied} s = record {
   names = λ name bytes lasting has. has;
   files = λ i bytes has. has;
   durable = λ name bytes lasting durable. durable;
 }
 
-pub held_on : (s t u : Folder) → StaysHeld s t → StaysHeld t u → StaysHeld s u
-held_on s t u first then = record {
+pub held_on : {relied : Relied} (s t u : Folder) → StaysHeld relied s t → StaysHeld relied t u → StaysHeld relied s u
+held_on {relied} s t u first then = record {
   names = λ name bytes lasting has. then.names name bytes lasting (first.names name bytes lasting has);
   files = λ i bytes has. then.files i bytes (first.files i bytes has);
   durable = λ name bytes lasting durable. then.durable name bytes lasting (first.durable name bytes lasting durable);

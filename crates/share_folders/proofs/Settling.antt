@@ -3,7 +3,7 @@ use Rattle.std.proofs.Common.{◌≡◌, ℕ, List, [], ◌∷◌, ◌++◌, tru
 use Rattle.std.specs.Prelude.{Result, Ok, Err, OnOk}
 use Rattle.std.proofs.lemmas.List.Elements.{Contains-push_cases}
 use Rattle.disks.specs.declared.error.DiskError.{DiskError}
-use Rattle.disks.specs.Names.{Name, lasts}
+use Rattle.disks.specs.Names.{Name, Relied, IsRelied}
 use Rattle.disks.specs.Folder.{Folder, IsDurable, StandsFor}
 use Rattle.disks.specs.Laws.{StaysHeld}
 use Rattle.share_store.specs.Shelf.{ShareKey}
@@ -11,18 +11,18 @@ use Rattle.share_folders.specs.Listed.{AreSettled, HaveNoClosed}
 use Rattle.share_folders.specs.Names.{IsNamed, closed_name}
 use Rattle.share_folders.proofs.Lasting.{closed_lasts}
 
-pub settled_by : (d : Result Unit DiskError) (names : List Name) (s t : Folder)
-    → ((name : Name) (bytes : List ℕ) → lasts name ≡ true → StandsFor s bytes (s.found name) → OnOk d (IsDurable t name bytes)) → OnOk d (AreSettled names s t)
-settled_by (Ok u) names s t durable = λ key digest bytes named there stands. durable (closed_name key digest) bytes (closed_lasts key digest named.2.len) stands
-settled_by (Err e) names s t durable = tt
+pub settled_by : {relied : Relied} (d : Result Unit DiskError) (names : List Name) (s t : Folder)
+    → ((name : Name) (bytes : List ℕ) → IsRelied relied name bytes → StandsFor s bytes (s.found name) → OnOk d (IsDurable t name bytes)) → OnOk d (AreSettled relied names s t)
+settled_by {relied} (Ok u) names s t durable = λ key digest bytes named there relies stands. durable (closed_name key digest) bytes (closed_lasts key digest named.2.len, relies) stands
+settled_by {relied} (Err e) names s t durable = tt
 
 -- where there are none, all are settled
-pub none_settled : (names : List Name) (s t : Folder) → HaveNoClosed names → AreSettled names s t
-none_settled names s t none key digest bytes named there stands = absurd (none key digest named there)
+pub none_settled : (relied : Relied) (names : List Name) (s t : Folder) → HaveNoClosed names → AreSettled relied names s t
+none_settled relied names s t none key digest bytes named there relies stands = absurd (none key digest named there)
 
-pub settled_later : (names : List Name) (s m t : Folder) → AreSettled names s m → StaysHeld m t → AreSettled names s t
-settled_later names s m t settled held key digest bytes named there stands =
-    held.durable (closed_name key digest) bytes (closed_lasts key digest named.2.len) (settled key digest bytes named there stands)
+pub settled_later : {relied : Relied} (names : List Name) (s m t : Folder) → AreSettled relied names s m → StaysHeld relied m t → AreSettled relied names s t
+settled_later {relied} names s m t settled held key digest bytes named there relies stands =
+    held.durable (closed_name key digest) bytes (closed_lasts key digest named.2.len, relies) (settled key digest bytes named there relies stands)
 
 pub none_at_first : HaveNoClosed []
 none_at_first key digest named there = absurd (omega (arith, there.1))

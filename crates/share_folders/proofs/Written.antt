@@ -1,7 +1,7 @@
 -- What was written to open shares.
 use Rattle.std.proofs.Common.{◌≡◌, ℕ, List, [], ◌∷◌, length, refl, sym, ◌∙◌, ap, subst, arith, inl, inr}
 use Rattle.std.specs.Prelude.{Option, Some, None, Result, Ok, Err, OnOk, option_map, unwrap_or, ◌⊎◌, ◌==◌, if◌then◌else◌, true, false}
-use Rattle.disks.specs.Names.{Name}
+use Rattle.disks.specs.Names.{Name, Relied}
 use Rattle.disks.specs.Folder.{Folder}
 use Rattle.share_store.specs.declared.error.StoreError.{StoreError}
 use Rattle.share_store.specs.Shelf.{ShareKey, at}
@@ -51,10 +51,10 @@ pub begun_anew : (n : ℕ) (before : List ℕ) → (n ≡ 0) ⊎ (before ≡ [])
 begun_anew n before (inl none) = ap (λ (m : ℕ). if m == 0 then [] else before) none
 begun_anew n before (inr empty) = elim (n == 0) as (λ b. (if b then [] else before) ≡ []) [ true ↦ refl | false ↦ empty ]
 
-pub same_closes : (durability : Durability) (n m : Name) (bytes : List ℕ) (r q : Result Unit StoreError) (s t : Folder) → n ≡ m → r ≡ q
-    → FileCloses durability n bytes r s t → FileCloses durability m bytes q s t
-same_closes durability n m bytes r q s t same is closes =
-    subst (λ (x : Result Unit StoreError). FileCloses durability m bytes x s t) is (subst (λ (x : Name). FileCloses durability x bytes r s t) same closes)
+pub same_closes : {relied : Relied} (durability : Durability) (n m : Name) (bytes : List ℕ) (r q : Result Unit StoreError) (s t : Folder) → n ≡ m → r ≡ q
+    → FileCloses relied durability n bytes r s t → FileCloses relied durability m bytes q s t
+same_closes {relied} durability n m bytes r q s t same is closes =
+    subst (λ (x : Result Unit StoreError). FileCloses relied durability m bytes x s t) is (subst (λ (x : Name). FileCloses relied durability x bytes r s t) same closes)
 
 -- where nothing is open, nothing was written
 pub nothing_written : {F : Type 0} (inode : F → ℕ) (s : Folder) (name : Name) (key : ShareKey) (opened : List (ShareKey × OpenShare F)) → opened ≡ []

@@ -3,4 +3,5 @@ pub mod Names
 pub mod Table
 pub mod Folder
 pub mod Stored
+pub mod Relied
 pub mod Listed

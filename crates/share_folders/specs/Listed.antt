@@ -1,6 +1,6 @@
 -- What an opened store finds by the names in its folder.
-use Rattle.std.specs.Prelude.{◌≡◌, ◌⊎◌, List, ℕ, Option, Some, None, Contains, ⊤}
-use Rattle.disks.specs.Names.{Name}
+use Rattle.std.specs.Prelude.{◌≡◌, ◌⊎◌, List, ℕ, Option, Some, None, Contains, true, ⊤}
+use Rattle.disks.specs.Names.{Name, Relied}
 use Rattle.disks.specs.Folder.{Folder, IsDurable, StandsFor}
 use Rattle.share_store.specs.Shelf.{ShareKey, at}
 use Rattle.share_folders.specs.declared.table.KeptShare.{KeptShare}
@@ -22,10 +22,11 @@ abbrev pub HaveNoClosed : List Name → Type 0
 HaveNoClosed names = (key : ShareKey) (digest : List ℕ) → IsNamed key digest
     → Contains names (closed_name key digest) → ⊥
 
--- Each closed name of these that stands for bytes on the disk is durable.
-abbrev pub AreSettled : List Name → Folder → Folder → Type 0
-AreSettled names s t = (key : ShareKey) (digest bytes : List ℕ) → IsNamed key digest
-    → Contains names (closed_name key digest)
+-- Each closed name of these that stands for bytes on the disk, and is relied on with them, is
+-- durable.
+abbrev pub AreSettled : Relied → List Name → Folder → Folder → Type 0
+AreSettled relied names s t = (key : ShareKey) (digest bytes : List ℕ) → IsNamed key digest
+    → Contains names (closed_name key digest) → relied (closed_name key digest) bytes ≡ true
     → StandsFor s bytes (s.found (closed_name key digest))
     → IsDurable t (closed_name key digest) bytes
 

@@ -1,7 +1,7 @@
 -- What the files of a store hold, as far as its disk is honest.
-use Rattle.std.specs.Prelude.{◌≡◌, ◌≢◌, ◌⊎◌, ℕ, List, length, false, Option, Some, None, ⊤}
+use Rattle.std.specs.Prelude.{◌≡◌, ◌≢◌, ◌⊎◌, ℕ, List, length, true, false, Option, Some, None, ⊤}
 use Rattle.std.specs.Prelude.{Bool, [], Result, Ok, Err, OnOk, IfSome}
-use Rattle.disks.specs.Names.{Name, lasts}
+use Rattle.disks.specs.Names.{Name, Relied, lasts}
 use Rattle.disks.specs.Folder.{Folder, FileState, HasBytes, IsDurable, IsOwn}
 use Rattle.disks.specs.Laws.{KeepsBut, KeepsBeside, FilesStay}
 use Rattle.disks.specs.declared.error.DiskError.{DiskError}
@@ -37,14 +37,16 @@ abbrev pub IsReady : {F : Type 0} → (F → ℕ) → ℕ → Folder → Name �
 IsReady inode offset s name share bytes = (offset ≡ 0) ⊎ WasWritten inode s name share bytes
 
 -- What a close does to the folder where these bytes were written. Once it went well they stand
--- under the closed name, and synced they do so after each crash. However it ends, what is durable
--- stays so: under the closed name only what has these bytes, and only in a synced store.
-pub record FileCloses (durability : Durability) (closed : Name) (bytes : List ℕ)
+-- under the closed name, where it is relied on with them, and synced they do so after each crash.
+-- However it ends, what is durable and relied on stays so: under the closed name only what has
+-- these bytes, and only in a synced store.
+pub record FileCloses (relied : Relied) (durability : Durability) (closed : Name) (bytes : List ℕ)
     (r : Result Unit StoreError) (s t : Folder) : Type 0 where
-  pub stands : OnOk r (HasBytes t bytes (t.found closed))
-  pub durable : durability ≡ Synced → OnOk r (IsDurable t closed bytes)
-  pub kept : durability ≡ Synced → KeepsBut closed bytes s t
-  pub beside : KeepsBeside closed s t
+  pub stands : relied closed bytes ≡ true → OnOk r (HasBytes t bytes (t.found closed))
+  pub durable : durability ≡ Synced → relied closed bytes ≡ true
+      → OnOk r (IsDurable t closed bytes)
+  pub kept : durability ≡ Synced → KeepsBut relied closed bytes s t
+  pub beside : KeepsBeside relied closed s t
   pub files : FilesStay s t
 
 -- The number is not that of an open share's file.
@@ -97,28 +99,32 @@ pub record IsNoted (closed : List (ShareKey × KeptShare)) (key : ShareKey) (dig
   pub there : at key closed ≡ Some (record { length = long; digest = digest })
   pub right : IfSome long (λ n. n ≡ length bytes)
 
--- A closed share has these bytes: it is in the table, and they stand under its name in the folder.
-pub record IsKept (s : Folder) (closed : List (ShareKey × KeptShare)) (key : ShareKey)
-    (digest bytes : List ℕ) : Type 0 where
+-- A closed share has these bytes: it is in the table, and they stand under its name in the folder,
+-- where they are relied on.
+pub record IsKept (relied : Relied) (s : Folder) (closed : List (ShareKey × KeptShare))
+    (key : ShareKey) (digest bytes : List ℕ) : Type 0 where
   pub size : length digest ≡ 32
+  pub relies : relied (closed_name key digest) bytes ≡ true
   pub noted : IsNoted closed key digest bytes
   pub stands : HasBytes s bytes (s.found (closed_name key digest))
 
 -- Each closed share of which the bytes stand stays in the table, and they stand still.
-abbrev pub StayKept : Folder → List (ShareKey × KeptShare) → Folder
+abbrev pub StayKept : Relied → Folder → List (ShareKey × KeptShare) → Folder
     → List (ShareKey × KeptShare) → Type 0
-StayKept s old t new = (key : ShareKey) (digest bytes : List ℕ)
-    → IsKept s old key digest bytes → IsKept t new key digest bytes
+StayKept relied s old t new = (key : ShareKey) (digest bytes : List ℕ)
+    → IsKept relied s old key digest bytes → IsKept relied t new key digest bytes
 
 -- A store has a closed share of these bytes. The file that was read last has them too, if it is
 -- this share's.
-pub record HasShare {F : Type 0} (inode : F → ℕ) (s : Folder) (closed : List (ShareKey × KeptShare))
-    (recent : Option (RecentFile F)) (key : ShareKey) (digest bytes : List ℕ) : Type 0 where
-  pub kept : IsKept s closed key digest bytes
+pub record HasShare {F : Type 0} (relied : Relied) (inode : F → ℕ) (s : Folder)
+    (closed : List (ShareKey × KeptShare)) (recent : Option (RecentFile F)) (key : ShareKey)
+    (digest bytes : List ℕ) : Type 0 where
+  pub kept : IsKept relied s closed key digest bytes
   pub last : RecentHas inode s key recent bytes
 
 -- Each share that a store has it has still.
-abbrev pub StayHeld : {F : Type 0} → (F → ℕ) → Folder → List (ShareKey × KeptShare)
+abbrev pub StayHeld : {F : Type 0} → Relied → (F → ℕ) → Folder → List (ShareKey × KeptShare)
     → Option (RecentFile F) → Folder → List (ShareKey × KeptShare) → Option (RecentFile F) → Type 0
-StayHeld inode s old recent t new latest = (key : ShareKey) (digest bytes : List ℕ)
-    → HasShare inode s old recent key digest bytes → HasShare inode t new latest key digest bytes
+StayHeld relied inode s old recent t new latest = (key : ShareKey) (digest bytes : List ℕ)
+    → HasShare relied inode s old recent key digest bytes
+    → HasShare relied inode t new latest key digest bytes

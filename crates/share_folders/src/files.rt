@@ -3,7 +3,7 @@
 
 ghost use Rattle.std.specs.Prelude.{◌≡◌, ◌+◌, ◌++◌, ◌≤◌, ℕ, List, [], Some, true, false, length};
 ghost use Rattle.std.specs.Prelude.{◌≢◌, take, drop, IfOk, OnOk};
-ghost use Rattle.disks.specs.Names.{Name, lasts};
+ghost use Rattle.disks.specs.Names.{Name, IsRelied, lasts};
 ghost use Rattle.disks.specs.Folder.{FileState, HasBytes, IsOwn};
 ghost use Rattle.disks.specs.Laws.{OwnStay, OwnStayBeside, OwnStayBut, StaysHeld};
 ghost use Rattle.share_store.specs.declared.error.StoreError.{StoreError};
@@ -49,10 +49,11 @@ fn as_fault(outcome: Result<(), DiskError>) -> Result<(), StoreError>
 pub(crate) fn regular_length<D: Disk>(disk: &mut D, name: &str) -> Result<Option<u64>, StoreError>
     ensures place { D.place disk.new ≡ D.place disk.old }
     ensures so_far { D.honest disk.new → D.honest disk.old }
-    ensures right { D.honest disk.new → (bytes : List ℕ) → lasts name.now ≡ true
+    ensures right { D.honest disk.new → (bytes : List ℕ)
+        → IsRelied D.relied name.now bytes
         → HasBytes (D.folder disk.old) bytes ((D.folder disk.old).found name.now)
         → IfOk result (λ found. found ≡ Some (length bytes)) }
-    ensures held { D.honest disk.new → StaysHeld (D.folder disk.old) (D.folder disk.new) }
+    ensures held { D.honest disk.new → StaysHeld D.relied (D.folder disk.old) (D.folder disk.new) }
     ensures opened { D.honest disk.new → OwnStay (D.folder disk.old) (D.folder disk.new) }
 {
     as_stored(find_finished(disk, name))
@@ -84,7 +85,7 @@ pub(crate) fn begin_share<D: Disk>(
     ensures so_far { D.honest disk.new → D.honest disk.old }
     ensures begun { D.honest disk.new → IfOk result
         (λ share. WasWritten D.inode (D.folder disk.new) name.now (Some share) []) }
-    ensures held { D.honest disk.new → StaysHeld (D.folder disk.old) (D.folder disk.new) }
+    ensures held { D.honest disk.new → StaysHeld D.relied (D.folder disk.old) (D.folder disk.new) }
     ensures apart { D.honest disk.new → IfOk result (λ share. (other : Name) (i : ℕ)
         (was : FileState) → other ≢ name.now → IsOwn (D.folder disk.old) other i was
         → i ≢ D.inode share.file) }
@@ -118,7 +119,7 @@ pub(crate) fn append<D: Disk>(
         (before ++ bytes.now)) }
     ensures held { D.honest disk.new → (name : Name) (before : List ℕ)
         → WasWritten D.inode (D.folder disk.old) name (Some share.old) before
-        → StaysHeld (D.folder disk.old) (D.folder disk.new) }
+        → StaysHeld D.relied (D.folder disk.old) (D.folder disk.new) }
     ensures same { D.inode share.new.file ≡ D.inode share.old.file }
     ensures others { D.honest disk.new
         → OwnStayBut (D.inode share.old.file) (D.folder disk.old) (D.folder disk.new) }
@@ -158,7 +159,7 @@ pub(crate) fn close_share<D: Disk>(
     ensures so_far { D.honest disk.new → D.honest disk.old }
     ensures closes { D.honest disk.new → (bytes : List ℕ)
         → WasWritten D.inode (D.folder disk.old) closing.now.open.now (Some share.now) bytes
-        → FileCloses closing.now.durability closing.now.closed.now bytes result
+        → FileCloses D.relied closing.now.durability closing.now.closed.now bytes result
         (D.folder disk.old) (D.folder disk.new) }
     ensures others { D.honest disk.new → (bytes : List ℕ)
         → WasWritten D.inode (D.folder disk.old) closing.now.open.now (Some share.now) bytes
@@ -182,7 +183,7 @@ fn close_synced<D: Disk>(
     ensures so_far { D.honest disk.new → D.honest disk.old }
     ensures closes { D.honest disk.new → (bytes : List ℕ)
         → WasWritten D.inode (D.folder disk.old) closing.now.open.now (Some share.now) bytes
-        → FileCloses Durability.Synced closing.now.closed.now bytes result
+        → FileCloses D.relied Durability.Synced closing.now.closed.now bytes result
         (D.folder disk.old) (D.folder disk.new) }
     ensures others { D.honest disk.new → (bytes : List ℕ)
         → WasWritten D.inode (D.folder disk.old) closing.now.open.now (Some share.now) bytes
@@ -204,7 +205,7 @@ fn close_unsynced<D: Disk>(
     ensures so_far { D.honest disk.new → D.honest disk.old }
     ensures closes { D.honest disk.new → (bytes : List ℕ)
         → WasWritten D.inode (D.folder disk.old) closing.now.open.now (Some share.now) bytes
-        → FileCloses Durability.Unsynced closing.now.closed.now bytes result
+        → FileCloses D.relied Durability.Unsynced closing.now.closed.now bytes result
         (D.folder disk.old) (D.folder disk.new) }
     ensures others { D.honest disk.new → (bytes : List ℕ)
         → WasWritten D.inode (D.folder disk.old) closing.now.open.now (Some share.now) bytes
@@ -226,7 +227,7 @@ fn sync_share<D: Disk>(disk: &mut D, share: &OpenShare<D::File>) -> Result<(), S
     ensures held { D.honest disk.new → (name : Name) (before : FileState)
         → IsOwn (D.folder disk.old) name (D.inode share.now.file) before
         → before.is_finished ≡ false
-        → StaysHeld (D.folder disk.old) (D.folder disk.new) }
+        → StaysHeld D.relied (D.folder disk.old) (D.folder disk.new) }
     ensures others { D.honest disk.new
         → OwnStayBut (D.inode share.now.file) (D.folder disk.old) (D.folder disk.new) }
 {
@@ -254,10 +255,11 @@ pub(crate) fn open_closed<D: Disk>(
     ensures key { IfOk result (λ recent. recent.key ≡ key.now) }
     ensures place { D.place disk.new ≡ D.place disk.old }
     ensures so_far { D.honest disk.new → D.honest disk.old }
-    ensures bytes { D.honest disk.new → (bytes : List ℕ) → lasts name.now ≡ true
+    ensures bytes { D.honest disk.new → (bytes : List ℕ)
+        → IsRelied D.relied name.now bytes
         → HasBytes (D.folder disk.old) bytes ((D.folder disk.old).found name.now)
         → IfOk result (λ recent. HasBytes (D.folder disk.new) bytes (Some (D.inode recent.file))) }
-    ensures held { D.honest disk.new → StaysHeld (D.folder disk.old) (D.folder disk.new) }
+    ensures held { D.honest disk.new → StaysHeld D.relied (D.folder disk.old) (D.folder disk.new) }
     ensures opened { D.honest disk.new → OwnStay (D.folder disk.old) (D.folder disk.new) }
 {
     let file = as_stored(open_finished(disk, name))?;
@@ -282,7 +284,7 @@ pub(crate) fn read_at<D: Disk>(
     ensures given { D.honest disk.new → (bytes : List ℕ)
         → HasBytes (D.folder disk.old) bytes (Some (D.inode recent.old.file))
         → IfOk result (λ got. got ≡ take count (drop position bytes)) }
-    ensures held { D.honest disk.new → StaysHeld (D.folder disk.old) (D.folder disk.new) }
+    ensures held { D.honest disk.new → StaysHeld D.relied (D.folder disk.old) (D.folder disk.new) }
     ensures opened { D.honest disk.new → OwnStay (D.folder disk.old) (D.folder disk.new) }
 {
     let mut bytes = vec![in alloc; 0u8; count as usize]?;

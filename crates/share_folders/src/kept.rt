@@ -108,7 +108,7 @@ impl<D: Disk + Drop> DiskStore<D> {
             (D.folder self.new.disk) (open_name name.now.key name.now.own)
             (at name.now.key self.new.opened.entries) []) }
         ensures held { D.honest self.new.disk
-            → StaysHeld (D.folder self.old.disk) (D.folder self.new.disk) }
+            → StaysHeld D.relied (D.folder self.old.disk) (D.folder self.new.disk) }
         ensures beside { D.honest self.new.disk → StayOpen D.inode name.now.own name.now.key ⊤
             result (D.folder self.old.disk) self.old.opened.entries (D.folder self.new.disk)
             self.new.opened.entries }
@@ -138,7 +138,7 @@ impl<D: Disk + Drop> DiskStore<D> {
             (D.folder self.new.disk) (open_name name.now.key name.now.own)
             (at name.now.key self.new.opened.entries) (if offset == 0 then [] else before)) }
         ensures held { D.honest self.new.disk
-            → StaysHeld (D.folder self.old.disk) (D.folder self.new.disk) }
+            → StaysHeld D.relied (D.folder self.old.disk) (D.folder self.new.disk) }
         ensures beside { D.honest self.new.disk → StayOpen D.inode name.now.own name.now.key
             (offset ≡ 0) result (D.folder self.old.disk) self.old.opened.entries
             (D.folder self.new.disk) self.new.opened.entries }
@@ -175,7 +175,7 @@ impl<D: Disk + Drop> DiskStore<D> {
         ensures held { D.honest self.new.disk → (before : List ℕ) → IsReady D.inode
             offset (D.folder self.old.disk) (open_name (key_of id.now) self.old.own)
             (at (key_of id.now) self.old.opened.entries) before
-            → StaysHeld (D.folder self.old.disk) (D.folder self.new.disk) }
+            → StaysHeld D.relied (D.folder self.old.disk) (D.folder self.new.disk) }
         ensures beside { D.honest self.new.disk → StayOpen D.inode self.old.own (key_of id.now)
             (offset ≡ 0) result (D.folder self.old.disk) self.old.opened.entries
             (D.folder self.new.disk) self.new.opened.entries }
@@ -199,7 +199,7 @@ impl<D: Disk + Drop> DiskStore<D> {
         ensures place { D.place self.new.disk ≡ D.place self.old.disk }
         ensures so_far { D.honest self.new.disk → D.honest self.old.disk }
         ensures held { D.honest self.new.disk
-            → StaysHeld (D.folder self.old.disk) (D.folder self.new.disk) }
+            → StaysHeld D.relied (D.folder self.old.disk) (D.folder self.new.disk) }
         ensures beside { D.honest self.new.disk → OwnStayBeside
             (open_name name.now.key name.now.own) (D.folder self.old.disk)
             (D.folder self.new.disk) }
@@ -232,8 +232,8 @@ impl<D: Disk + Drop> DiskStore<D> {
         ensures closes { D.honest self.new.disk → (bytes : List ℕ) → WasWritten D.inode
             (D.folder self.old.disk) (open_name (key_of id.now) self.old.own)
             (at (key_of id.now) self.old.opened.entries) bytes
-            → FileCloses self.old.durability (closed_name (key_of id.now) digest.now) bytes result
-            (D.folder self.old.disk) (D.folder self.new.disk) }
+            → FileCloses D.relied self.old.durability (closed_name (key_of id.now) digest.now)
+            bytes result (D.folder self.old.disk) (D.folder self.new.disk) }
         ensures beside { D.honest self.new.disk → (bytes : List ℕ) → WasWritten D.inode
             (D.folder self.old.disk) (open_name (key_of id.now) self.old.own)
             (at (key_of id.now) self.old.opened.entries) bytes
@@ -283,14 +283,14 @@ impl<D: Disk + Drop> DiskStore<D> {
             (length_of (at (id.now.index, id.now.share) self.new.closed.entries) - offset)) }
         ensures place { D.place self.new.disk ≡ D.place self.old.disk }
         ensures so_far { D.honest self.new.disk → D.honest self.old.disk }
-        ensures given { D.honest self.new.disk → (digest bytes : List ℕ) → HasShare D.inode
+        ensures given { D.honest self.new.disk → (digest bytes : List ℕ) → HasShare D.relied D.inode
             (D.folder self.old.disk) self.old.closed.entries self.old.recent (key_of id.now) digest
             bytes → IfOk result (λ got. got ≡ take count (drop offset bytes)) }
-        ensures still { D.honest self.new.disk → StayHeld D.inode
+        ensures still { D.honest self.new.disk → StayHeld D.relied D.inode
             (D.folder self.old.disk) self.old.closed.entries self.old.recent
             (D.folder self.new.disk) self.new.closed.entries self.new.recent }
         ensures held { D.honest self.new.disk
-            → StaysHeld (D.folder self.old.disk) (D.folder self.new.disk) }
+            → StaysHeld D.relied (D.folder self.old.disk) (D.folder self.new.disk) }
         ensures beside { D.honest self.new.disk
             → OwnStay (D.folder self.old.disk) (D.folder self.new.disk) }
     {
@@ -327,16 +327,16 @@ impl<D: Disk + Drop> DiskStore<D> {
         ensures cause { IsErrOf result StoreError.StoreFault
             → HasUnasked index.now self.old.closed.entries }
         ensures each { D.honest self.new.disk → (key : ShareKey) (digest bytes : List ℕ)
-            → HasShare D.inode (D.folder self.old.disk) self.old.closed.entries self.old.recent key
-            digest bytes → is_under index.now key ≡ true → IfOk result
+            → HasShare D.relied D.inode (D.folder self.old.disk) self.old.closed.entries
+            self.old.recent key digest bytes → is_under index.now key ≡ true → IfOk result
             (λ found. Contains found (record { share = key.1; digest = digest })) }
         ensures place { D.place self.new.disk ≡ D.place self.old.disk }
         ensures so_far { D.honest self.new.disk → D.honest self.old.disk }
-        ensures still { D.honest self.new.disk → StayHeld D.inode
+        ensures still { D.honest self.new.disk → StayHeld D.relied D.inode
             (D.folder self.old.disk) self.old.closed.entries self.old.recent
             (D.folder self.new.disk) self.new.closed.entries self.new.recent }
         ensures held { D.honest self.new.disk
-            → StaysHeld (D.folder self.old.disk) (D.folder self.new.disk) }
+            → StaysHeld D.relied (D.folder self.old.disk) (D.folder self.new.disk) }
         ensures beside { D.honest self.new.disk
             → OwnStay (D.folder self.old.disk) (D.folder self.new.disk) }
     {
@@ -361,16 +361,20 @@ fn read_named<D: Disk>(
     ensures long { IfOk result (λ got. length got ≡ count) }
     ensures place { D.place disk.new ≡ D.place disk.old }
     ensures so_far { D.honest disk.new → D.honest disk.old }
-    ensures given { D.honest disk.new → (bytes : List ℕ) → HasBytes (D.folder disk.old) bytes
+    ensures given { D.honest disk.new → (bytes : List ℕ)
+        → D.relied (closed_name named.now.key named.now.digest) bytes ≡ true
+        → HasBytes (D.folder disk.old) bytes
         ((D.folder disk.old).found (closed_name named.now.key named.now.digest))
         → RecentHas D.inode (D.folder disk.old) named.now.key recent.old bytes
         → IfOk result (λ got. got ≡ take count (drop offset bytes)) }
-    ensures recent { D.honest disk.new → (bytes : List ℕ) → HasBytes (D.folder disk.old) bytes
+    ensures recent { D.honest disk.new → (bytes : List ℕ)
+        → D.relied (closed_name named.now.key named.now.digest) bytes ≡ true
+        → HasBytes (D.folder disk.old) bytes
         ((D.folder disk.old).found (closed_name named.now.key named.now.digest))
         → RecentHas D.inode (D.folder disk.old) named.now.key recent.old bytes
         → RecentHas D.inode (D.folder disk.new) named.now.key recent.new bytes }
     ensures latest { IsLatest named.now.key recent.old recent.new }
-    ensures held { D.honest disk.new → StaysHeld (D.folder disk.old) (D.folder disk.new) }
+    ensures held { D.honest disk.new → StaysHeld D.relied (D.folder disk.old) (D.folder disk.new) }
     ensures beside { D.honest disk.new → OwnStay (D.folder disk.old) (D.folder disk.new) }
 {
     if count == 0 {
@@ -393,11 +397,13 @@ fn take_file<D: Disk>(
     ensures none { recent.new ≡ None }
     ensures place { D.place disk.new ≡ D.place disk.old }
     ensures so_far { D.honest disk.new → D.honest disk.old }
-    ensures bytes { D.honest disk.new → (bytes : List ℕ) → HasBytes (D.folder disk.old) bytes
+    ensures bytes { D.honest disk.new → (bytes : List ℕ)
+        → D.relied (closed_name named.now.key named.now.digest) bytes ≡ true
+        → HasBytes (D.folder disk.old) bytes
         ((D.folder disk.old).found (closed_name named.now.key named.now.digest))
         → RecentHas D.inode (D.folder disk.old) named.now.key recent.old bytes
         → IfOk result (λ file. HasBytes (D.folder disk.new) bytes (Some (D.inode file.file))) }
-    ensures held { D.honest disk.new → StaysHeld (D.folder disk.old) (D.folder disk.new) }
+    ensures held { D.honest disk.new → StaysHeld D.relied (D.folder disk.old) (D.folder disk.new) }
     ensures beside { D.honest disk.new → OwnStay (D.folder disk.old) (D.folder disk.new) }
 {
     match recent.take() {
@@ -415,10 +421,12 @@ fn open_named<D: Disk>(
     ensures key { IfOk result (λ recent. recent.key ≡ named.now.key) }
     ensures place { D.place disk.new ≡ D.place disk.old }
     ensures so_far { D.honest disk.new → D.honest disk.old }
-    ensures bytes { D.honest disk.new → (bytes : List ℕ) → HasBytes (D.folder disk.old) bytes
+    ensures bytes { D.honest disk.new → (bytes : List ℕ)
+        → D.relied (closed_name named.now.key named.now.digest) bytes ≡ true
+        → HasBytes (D.folder disk.old) bytes
         ((D.folder disk.old).found (closed_name named.now.key named.now.digest))
         → IfOk result (λ recent. HasBytes (D.folder disk.new) bytes (Some (D.inode recent.file))) }
-    ensures held { D.honest disk.new → StaysHeld (D.folder disk.old) (D.folder disk.new) }
+    ensures held { D.honest disk.new → StaysHeld D.relied (D.folder disk.old) (D.folder disk.new) }
     ensures beside { D.honest disk.new → OwnStay (D.folder disk.old) (D.folder disk.new) }
 {
     let text = named.text(alloc)?;

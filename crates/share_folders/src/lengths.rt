@@ -36,12 +36,12 @@ pub(crate) fn look_at<D: Disk>(
     ensures place { D.place disk.new ≡ D.place disk.old }
     ensures so_far { D.honest disk.new → D.honest disk.old }
     ensures right { D.honest disk.new → (digest bytes : List ℕ)
-        → IsKept (D.folder disk.old) closed.old.entries key.now digest bytes
+        → IsKept D.relied (D.folder disk.old) closed.old.entries key.now digest bytes
         → OnOk result (at key.now closed.new.entries
         ≡ Some (record { length = Some (length bytes); digest = digest })) }
-    ensures kept { D.honest disk.new → StayKept (D.folder disk.old) closed.old.entries
+    ensures kept { D.honest disk.new → StayKept D.relied (D.folder disk.old) closed.old.entries
         (D.folder disk.new) closed.new.entries }
-    ensures held { D.honest disk.new → StaysHeld (D.folder disk.old) (D.folder disk.new) }
+    ensures held { D.honest disk.new → StaysHeld D.relied (D.folder disk.old) (D.folder disk.new) }
     ensures opened { D.honest disk.new → OwnStay (D.folder disk.old) (D.folder disk.new) }
 {
     let Some(digest) = digest_to_look_at(closed, key) else {
@@ -72,9 +72,9 @@ pub(crate) fn look_at_all<D: Disk>(
         → HasUnasked index.now closed.old.entries }
     ensures place { D.place disk.new ≡ D.place disk.old }
     ensures so_far { D.honest disk.new → D.honest disk.old }
-    ensures kept { D.honest disk.new → StayKept (D.folder disk.old) closed.old.entries
+    ensures kept { D.honest disk.new → StayKept D.relied (D.folder disk.old) closed.old.entries
         (D.folder disk.new) closed.new.entries }
-    ensures held { D.honest disk.new → StaysHeld (D.folder disk.old) (D.folder disk.new) }
+    ensures held { D.honest disk.new → StaysHeld D.relied (D.folder disk.old) (D.folder disk.new) }
     ensures opened { D.honest disk.new → OwnStay (D.folder disk.old) (D.folder disk.new) }
 {
     for held in shares {

@@ -151,9 +151,9 @@ pub fn take_names<D: Disk>(
     ensures taken { IfOk result (λ closed. AreTaken (map string_bytes names.now) closed.entries) }
     ensures place { D.place disk.new ≡ D.place disk.old }
     ensures so_far { D.honest disk.new → D.honest disk.old }
-    ensures held { D.honest disk.new → StaysHeld (D.folder disk.old) (D.folder disk.new) }
+    ensures held { D.honest disk.new → StaysHeld D.relied (D.folder disk.old) (D.folder disk.new) }
     ensures settled { D.honest disk.new → durability ≡ Durability.Synced → OnOk result
-        (AreSettled (map string_bytes names.now) (D.folder disk.old) (D.folder disk.new)) }
+        (AreSettled D.relied (map string_bytes names.now) (D.folder disk.old) (D.folder disk.new)) }
 {
     settle_names(disk, durability, names)?;
     note_names(alloc, disk, names)
@@ -168,9 +168,9 @@ fn settle_names<D: Disk>(
 ) -> Result<(), StoreError>
     ensures place { D.place disk.new ≡ D.place disk.old }
     ensures so_far { D.honest disk.new → D.honest disk.old }
-    ensures held { D.honest disk.new → StaysHeld (D.folder disk.old) (D.folder disk.new) }
+    ensures held { D.honest disk.new → StaysHeld D.relied (D.folder disk.old) (D.folder disk.new) }
     ensures settled { D.honest disk.new → durability ≡ Durability.Synced → OnOk result
-        (AreSettled (map string_bytes names.now) (D.folder disk.old) (D.folder disk.new)) }
+        (AreSettled D.relied (map string_bytes names.now) (D.folder disk.old) (D.folder disk.new)) }
 {
     match durability {
         Durability::Unsynced => Ok(()),
@@ -183,9 +183,9 @@ fn settle_names<D: Disk>(
 fn settle_closed<D: Disk>(disk: &mut D, names: &[String]) -> Result<(), StoreError>
     ensures place { D.place disk.new ≡ D.place disk.old }
     ensures so_far { D.honest disk.new → D.honest disk.old }
-    ensures held { D.honest disk.new → StaysHeld (D.folder disk.old) (D.folder disk.new) }
+    ensures held { D.honest disk.new → StaysHeld D.relied (D.folder disk.old) (D.folder disk.new) }
     ensures settled { D.honest disk.new → OnOk result
-        (AreSettled (map string_bytes names.now) (D.folder disk.old) (D.folder disk.new)) }
+        (AreSettled D.relied (map string_bytes names.now) (D.folder disk.old) (D.folder disk.new)) }
 {
     if !has_closed(names) {
         return Ok(());
@@ -223,7 +223,7 @@ fn note_names<D: Disk>(
     ensures taken { IfOk result (λ closed. AreTaken (map string_bytes names.now) closed.entries) }
     ensures place { D.place disk.new ≡ D.place disk.old }
     ensures so_far { D.honest disk.new → D.honest disk.old }
-    ensures held { D.honest disk.new → StaysHeld (D.folder disk.old) (D.folder disk.new) }
+    ensures held { D.honest disk.new → StaysHeld D.relied (D.folder disk.old) (D.folder disk.new) }
 {
     let mut closed = BTreeMap::new(alloc);
     for name in names {
@@ -244,7 +244,7 @@ fn take_name<D: Disk>(
         → AreTaken (names ++ name.now ∷ []) closed.new.entries) }
     ensures place { D.place disk.new ≡ D.place disk.old }
     ensures so_far { D.honest disk.new → D.honest disk.old }
-    ensures held { D.honest disk.new → StaysHeld (D.folder disk.old) (D.folder disk.new) }
+    ensures held { D.honest disk.new → StaysHeld D.relied (D.folder disk.old) (D.folder disk.new) }
 {
     match ClosedName::read(name.as_bytes()) {
         Some(named) => take_named(alloc, disk, closed, &named, name),
@@ -272,7 +272,7 @@ fn take_named<D: Disk>(
         → at other closed.new.entries ≡ at other closed.old.entries) }
     ensures place { D.place disk.new ≡ D.place disk.old }
     ensures so_far { D.honest disk.new → D.honest disk.old }
-    ensures held { D.honest disk.new → StaysHeld (D.folder disk.old) (D.folder disk.new) }
+    ensures held { D.honest disk.new → StaysHeld D.relied (D.folder disk.old) (D.folder disk.new) }
 {
     match closed.get(&named.key) {
         None => {
@@ -308,7 +308,7 @@ fn take_second<D: Disk>(
         → at other closed.new.entries ≡ at other closed.old.entries) }
     ensures place { D.place disk.new ≡ D.place disk.old }
     ensures so_far { D.honest disk.new → D.honest disk.old }
-    ensures held { D.honest disk.new → StaysHeld (D.folder disk.old) (D.folder disk.new) }
+    ensures held { D.honest disk.new → StaysHeld D.relied (D.folder disk.old) (D.folder disk.new) }
 {
     look_at(alloc, disk, closed, &named.key)?;
     match regular_length(disk, name)? {

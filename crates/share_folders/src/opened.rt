@@ -68,7 +68,7 @@ fn append_there<D: Disk>(
         (at key.now opened.new.entries) (before ++ bytes.now)) }
     ensures held { D.honest disk.new → (name : Name) (before : List ℕ)
         → WasWritten D.inode (D.folder disk.old) name (at key.now opened.old.entries) before
-        → StaysHeld (D.folder disk.old) (D.folder disk.new) }
+        → StaysHeld D.relied (D.folder disk.old) (D.folder disk.new) }
     ensures beside { D.honest disk.new → (own : Option (List ℕ)) → StayOpen D.inode own key.now ⊥
         result (D.folder disk.old) opened.old.entries (D.folder disk.new) opened.new.entries }
 {
@@ -96,7 +96,7 @@ pub(crate) fn append_to<D: Disk>(
         (at key.now opened.new.entries) (before ++ bytes.now)) }
     ensures held { D.honest disk.new → (name : Name) (before : List ℕ)
         → WasWritten D.inode (D.folder disk.old) name (at key.now opened.old.entries) before
-        → StaysHeld (D.folder disk.old) (D.folder disk.new) }
+        → StaysHeld D.relied (D.folder disk.old) (D.folder disk.new) }
     ensures beside { D.honest disk.new → (own : Option (List ℕ)) → StayOpen D.inode own key.now ⊥
         result (D.folder disk.old) opened.old.entries (D.folder disk.new) opened.new.entries }
 {
@@ -130,7 +130,7 @@ fn close_file<D: Disk>(
     ensures closes { D.honest disk.new → (bytes : List ℕ)
         → WasWritten D.inode (D.folder disk.old) closing.now.open.now
         (at key.now opened.now.entries) bytes
-        → FileCloses closing.now.durability closing.now.closed.now bytes result
+        → FileCloses D.relied closing.now.durability closing.now.closed.now bytes result
         (D.folder disk.old) (D.folder disk.new) }
     ensures beside { D.honest disk.new → (bytes : List ℕ)
         → WasWritten D.inode (D.folder disk.old) closing.now.open.now
@@ -167,7 +167,7 @@ pub(crate) fn put_closed<D: Disk>(
     ensures closes { D.honest disk.new → (bytes : List ℕ)
         → WasWritten D.inode (D.folder disk.old) closing.now.open.now
         (at key.now opened.now.entries) bytes
-        → FileCloses closing.now.durability closing.now.closed.now bytes result
+        → FileCloses D.relied closing.now.durability closing.now.closed.now bytes result
         (D.folder disk.old) (D.folder disk.new) }
     ensures beside { D.honest disk.new → (bytes : List ℕ)
         → WasWritten D.inode (D.folder disk.old) closing.now.open.now

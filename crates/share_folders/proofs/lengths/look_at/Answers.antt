@@ -24,9 +24,10 @@ returns-in-Some-2-clause-right g c honest digest bytes kept =
     let same : c.in-Some.digest ≡ digest = one_digest c.args.closed.now.entries c.args.key.now c.in-Some.digest digest bytes _ c.in-Some.ensures.unknown kept.noted in
     let name : c.as_str.result.now ≡ closed_name c.args.key.now digest = c.as_str.ensures.value ∙ c.in_ok-name.ensures.text ∙ ap (closed_name c.args.key.now) same in
     let lasting : lasts c.as_str.result.now ≡ true = ap lasts c.as_str.ensures.value ∙ c.in_ok-name.ensures.lasting in
+    let relies = subst (λ (n : Name). g.D.Disk.relied n bytes ≡ true) (sym name) kept.relies in
     let there = subst (λ (n : Name). HasBytes s bytes (s.found n)) (sym name) kept.stands in
     right_noted c.note_length.result c.in-Some-2.length c.in-Some.digest digest bytes _ same
-    (some_right c.in-Some-2.length c.in_ok-length.field-0 bytes c.in-Some-2.is (c.in_ok-length.ensures.right honest bytes lasting there))
+    (some_right c.in-Some-2.length c.in_ok-length.field-0 bytes c.in-Some-2.is (c.in_ok-length.ensures.right honest bytes (lasting, relies) there))
     c.note_length.ensures.noted
 
 pub returns-in-Some-2-clause-kept : goal.returns-in-Some-2-clause-kept
@@ -45,6 +46,7 @@ returns-clause-kept g c honest =
     let same : c.in-Some.digest ≡ digest = one_digest c.args.closed.now.entries c.args.key.now c.in-Some.digest digest bytes _ c.in-Some.ensures.unknown kept.noted in
     let name : c.as_str.result.now ≡ closed_name c.args.key.now digest = c.as_str.ensures.value ∙ c.in_ok-name.ensures.text ∙ ap (closed_name c.args.key.now) same in
     let lasting : lasts c.as_str.result.now ≡ true = ap lasts c.as_str.ensures.value ∙ c.in_ok-name.ensures.lasting in
+    let relies = subst (λ (n : Name). g.D.Disk.relied n bytes ≡ true) (sym name) kept.relies in
     let there = subst (λ (n : Name). HasBytes s bytes (s.found n)) (sym name) kept.stands in
-    none_right c.in_ok-length.field-0 bytes c.in-None.is (c.in_ok-length.ensures.right honest bytes lasting there))
+    none_right c.in_ok-length.field-0 bytes c.in-None.is (c.in_ok-length.ensures.right honest bytes (lasting, relies) there))
     c.forget_closed.ensures.others

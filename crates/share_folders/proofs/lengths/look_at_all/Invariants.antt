@@ -11,7 +11,7 @@ invariant-loop-held g l = record {
   others : StayBeside (has_index l.index) l.fn.closed.entries l.closed.entries;
   place : g.D.Disk.place l.disk ≡ g.D.Disk.place l.fn.disk;
   so_far : g.D.Disk.honest l.disk → g.D.Disk.honest l.fn.disk;
-  kept : g.D.Disk.honest l.disk → StayKept (g.D.Disk.folder l.fn.disk) l.fn.closed.entries (g.D.Disk.folder l.disk) l.closed.entries;
-  held : g.D.Disk.honest l.disk → StaysHeld (g.D.Disk.folder l.fn.disk) (g.D.Disk.folder l.disk);
+  kept : g.D.Disk.honest l.disk → StayKept g.D.Disk.relied (g.D.Disk.folder l.fn.disk) l.fn.closed.entries (g.D.Disk.folder l.disk) l.closed.entries;
+  held : g.D.Disk.honest l.disk → StaysHeld g.D.Disk.relied (g.D.Disk.folder l.fn.disk) (g.D.Disk.folder l.disk);
   opened : g.D.Disk.honest l.disk → OwnStay (g.D.Disk.folder l.fn.disk) (g.D.Disk.folder l.disk);
 }

@@ -10,5 +10,5 @@ invariant-loop-name g l = record {
   taken : AreTaken (map string_bytes (take l.name-index l.names)) l.closed.entries;
   place : g.D.Disk.place l.disk ≡ g.D.Disk.place l.fn.disk;
   so_far : g.D.Disk.honest l.disk → g.D.Disk.honest l.fn.disk;
-  held : g.D.Disk.honest l.disk → StaysHeld (g.D.Disk.folder l.fn.disk) (g.D.Disk.folder l.disk);
+  held : g.D.Disk.honest l.disk → StaysHeld g.D.Disk.relied (g.D.Disk.folder l.fn.disk) (g.D.Disk.folder l.disk);
 }

@@ -11,5 +11,5 @@ returns-clause-settled g c honest synced =
     let s = g.D.Disk.folder c.args.disk.now in
     let m = g.D.Disk.folder c.settle_names.new.disk in
     let t = g.D.Disk.folder c.note_names.new.disk in
-    on_ok c.note_names.result (AreSettled names s t)
+    on_ok c.note_names.result (AreSettled g.D.Disk.relied names s t)
     (settled_later names s m t (c.in_ok-settle_names.ensures.settled (c.note_names.ensures.so_far honest) synced) (c.note_names.ensures.held honest))
