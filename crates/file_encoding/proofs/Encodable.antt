@@ -28,7 +28,7 @@ has_shape size p chosen not_small encodable =
     is_geometry size p.needed p.total p.max_segment record { parameters = parameters; not_large = encodable.not_large; few = encodable.few } in
     let near = (div_ceil_times (min p.max_segment size) p.needed chosen.some_needed).1 in
     record {
-      file = record { some_needed = g.some_needed; enough = g.enough; shares = g.shares; not_small = not_small; not_large = g.not_large };
+      file = record { some_needed = g.some_needed; enough = g.enough; shares = g.shares; not_small = not_small; not_large = encodable.not_large };
       segments = record {
         some = g.some_segment;
         multiple = g.multiple;

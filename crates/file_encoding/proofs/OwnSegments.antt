@@ -19,7 +19,7 @@ use Rattle.share_verify.proofs.ChunkLemmas.{get_or-first_chunks, pieces_are_chun
 use Rattle.file_encoding.specs.Encoding.{block_of, blocks_of, padded_segment}
 use Rattle.file_encoding.proofs.Bytes.{AreBytes, bytes-append, bytes-drop, bytes-take, bytes-zeros}
 use Rattle.file_encoding.proofs.Decode.{length-block_at}
-use Rattle.file_encoding.proofs.OwnShares.{blocks_are_joined}
+use Rattle.file_encoding.proofs.OwnShares.{blocks_are_joined, geometry_is}
 use Rattle.file_encoding.proofs.Padding.{padded-whole}
 use Rattle.proved_parts.proofs.Files.{length-pieces}
 
@@ -63,7 +63,7 @@ module _ (g : Geometry) (ciphertext : List ℕ) (shape : IsShape g.needed g.tota
       let all : List ℕ = joined (blocks_of g.needed i segments) in
       let count : length segments ≡ segment_count g = length-pieces (segment_count g) g.segment_size ciphertext in
       sym (piece_at (segment_count g) (block_size g) all number there)
-      ∙ ap (λ (l : List (List ℕ)). get_or l number []) (blocks_are_joined g ciphertext shape whole i low).again
+      ∙ ap (λ (l : List (List ℕ)). get_or l number []) (blocks_are_joined g ciphertext (geometry_is g ciphertext shape whole) whole i low).again
       ∙ get_or-map (block_of g.needed i) segments number [] [] (omega (arith, there, count))
       ∙ ap (block_of g.needed i) (piece_at (segment_count g) g.segment_size ciphertext number there)
 
@@ -82,7 +82,7 @@ module _ (g : Geometry) (ciphertext : List ℕ) (shape : IsShape g.needed g.tota
       let share = block_is_share g.needed 0 segment shape.file.some_needed few (bytes-take g.segment_size _ (bytes-drop (number * g.segment_size) ciphertext bytes)) in
       share.blocks
       ∙ ap (λ (b : List ℕ). g.needed * length b) (sym (block_is 0 number low there))
-      ∙ ap (λ n. g.needed * n) (length-block_at g number (joined (blocks_of g.needed 0 (segments_of g ciphertext))) (blocks_are_joined g ciphertext shape whole 0 low).size)
+      ∙ ap (λ n. g.needed * n) (length-block_at g number (joined (blocks_of g.needed 0 (segments_of g ciphertext))) (blocks_are_joined g ciphertext (geometry_is g ciphertext shape whole) whole 0 low).size)
 
   -- what blocks of the encoding decode to is the segment
   pub decoded_is : (number : ℕ) (numbers : List ℕ) (blocks : List (List ℕ)) (padded segment : List ℕ) → number < segment_count g

@@ -26,7 +26,7 @@ use Rattle.file_encoding.specs.Encoding.{sections_of, share_leaves}
 use Rattle.file_encoding.specs.Inputs.{ciphertext_inputs}
 use Rattle.file_encoding.proofs.BoundOwn.{block_among, block_leaves, block_tree_among, blocks_among, ciphertext_tree_among, leaf_is, leaves_of_shares, length-block_leaves, length-segment_leaves, length-share_leaves, own_blocks, said, segment_leaves, share_tree_among}
 use Rattle.file_encoding.proofs.OwnHashes.{siblings_found}
-use Rattle.file_encoding.proofs.OwnShares.{blocks_are_joined}
+use Rattle.file_encoding.proofs.OwnShares.{blocks_are_joined, geometry_is}
 
 module _ (g : Geometry) (ciphertext : List ℕ) (shape : IsShape g.needed g.total g.size g.segment_size) (whole : length ciphertext ≡ g.size) (num : ℕ) (low : num < g.total) where
   abbrev segments : List (List ℕ)
@@ -44,7 +44,7 @@ module _ (g : Geometry) (ciphertext : List ℕ) (shape : IsShape g.needed g.tota
   own_tree = record { hashes = block_leaves g ciphertext num; nodes = refl }
 
   pub blocks_are : blocks_in (said g ciphertext) sections ≡ own_blocks g ciphertext num
-  blocks_are = (blocks_are_joined g ciphertext shape whole num low).again
+  blocks_are = (blocks_are_joined g ciphertext (geometry_is g ciphertext shape whole) whole num low).again
 
   pub ciphertext_leaves : leaves_of (said g ciphertext) sections.ciphertext_tree ≡ segment_hashes segments
   ciphertext_leaves =

@@ -15,7 +15,7 @@ use Rattle.cap_text.specs.Cap.{verify_cap_of}
 use Rattle.ueb.proofs.Written.{is_written}
 use Rattle.ueb.specs.Block.{IsUeb, ueb_text}
 use Rattle.ueb.specs.Shape.{AreContents, Contents, IsShape}
-use Rattle.share_layout.specs.Geometry.{Geometry, block_size, geometry_of, segment_count, share_data_size, tree_size}
+use Rattle.share_layout.specs.Geometry.{Geometry, IsGeometry, block_size, geometry_of, segment_count, share_data_size, tree_size}
 use Rattle.share_layout.specs.Share.{CarriesNumbers, HaveLengths, IsShare, Sections, share_bytes}
 use Rattle.aes_ctr.specs.CounterMode.{xored}
 use Rattle.aes_ctr.proofs.StreamLemmas.{length-xored_from}
@@ -56,7 +56,7 @@ length-tree_section leaves hashes =
     length-joined 32 (tree_nodes leaves) (tree_nodes_are_hashes leaves hashes)
     ∙ ap (λ (n : ℕ). n * 32) (omega (arith, length-tree_nodes leaves, next_power (height (length leaves))))
 
-module _ (g : Geometry) (ciphertext : List ℕ) (shape : IsShape g.needed g.total g.size g.segment_size) (whole : length ciphertext ≡ g.size) where
+module _ (g : Geometry) (ciphertext : List ℕ) where
   abbrev segments : List (List ℕ)
   segments = segments_of g ciphertext
 
@@ -86,19 +86,23 @@ module _ (g : Geometry) (ciphertext : List ℕ) (shape : IsShape g.needed g.tota
   length-share_leaves : length (share_leaves g segments) ≡ g.total
   length-share_leaves = length-map-range_with_len (λ i. tree_root (block_hashes (blocks_of g.needed i segments))) 0 g.total
 
-  -- the extension block is one of the grammar
-  pub valid : AreContents contents
-  valid = record {
-    shape = shape;
-    crypttext_hash = length-double_sha256 _;
-    crypttext_root_hash = length-tree_root (segment_hashes segments) segment_leaves;
-    share_root_hash = length-tree_root (share_leaves g segments) leaves_of_shares;
-  }
+  module _ (shape : IsShape g.needed g.total g.size g.segment_size) (whole : length ciphertext ≡ g.size) where
+    -- the extension block is one of the grammar
+    pub valid : AreContents contents
+    valid = record {
+      shape = shape;
+      crypttext_hash = length-double_sha256 _;
+      crypttext_root_hash = length-tree_root (segment_hashes segments) segment_leaves;
+      share_root_hash = length-tree_root (share_leaves g segments) leaves_of_shares;
+    }
 
-  pub written : IsUeb (ueb_text contents) contents
-  written = is_written contents (ueb_text contents) valid refl
+    pub written : IsUeb (ueb_text contents) contents
+    written = is_written contents (ueb_text contents) valid refl
 
-  module _ (i : ℕ) (low : i < g.total) where
+    pub geometry_is : IsGeometry g
+    geometry_is = is_geometry contents valid
+
+  module _ (is : IsGeometry g) (whole : length ciphertext ≡ g.size) (i : ℕ) (low : i < g.total) where
     -- the blocks, joined and cut
     pub record AreJoined : Type 0 where
       pub size : length (joined (blocks_of g.needed i segments)) ≡ share_data_size g
@@ -109,9 +113,9 @@ module _ (g : Geometry) (ciphertext : List ℕ) (shape : IsShape g.needed g.tota
         let k : ℕ = g.needed in
         let b : ℕ = g.segment_size / k in
         let n : ℕ = segment_count g in
-        let some = shape.file.some_needed in
-        let cut_size : g.segment_size ≡ b * k = omega (arith, div-add-mod' g.segment_size k, shape.segments.multiple) in
-        let ceil = div_ceil_times g.size g.segment_size shape.segments.some in
+        let some = is.some_needed in
+        let cut_size : g.segment_size ≡ b * k = omega (arith, div-add-mod' g.segment_size k, is.multiple) in
+        let ceil = div_ceil_times g.size g.segment_size is.some_segment in
         let below : length ciphertext ≤ n * (b * k) = subst (λ (s : ℕ). length ciphertext ≤ n * s) cut_size (omega (arith, ceil.0, whole)) in
         let above : n * (b * k) < length ciphertext + b * k = subst (λ (s : ℕ). n * s < length ciphertext + s) cut_size (omega (arith, ceil.1, whole)) in
         let cut = are_cut b k i some n ciphertext below above in
@@ -122,7 +126,7 @@ module _ (g : Geometry) (ciphertext : List ℕ) (shape : IsShape g.needed g.tota
         }
 
     few : length (share_leaves g segments) ≤ 2 ^ 8
-    few = omega (arith, length-share_leaves, shape.file.shares)
+    few = omega (arith, length-share_leaves, is.shares)
 
     inside : i < length (share_leaves g segments)
     inside = omega (arith, length-share_leaves)
@@ -179,12 +183,12 @@ accepted_shares_pass cap block u ciphertext ueb whole ciphertext_root share_root
     let g = geometry_by u in
     let segments = segments_of g ciphertext in
     let s = sections_of g segments block i in
-    let shape = ueb.grammar.contents.shape in
-    let is = layout g ciphertext shape whole i low block ueb.grammar.short in
-    let own = own_sections g ciphertext shape whole i low block in
+    let geometry = is_geometry u ueb.grammar.contents in
+    let is = layout g ciphertext geometry whole i low block ueb.grammar.short in
+    let own = own_sections g ciphertext geometry whole i low block in
     record {
       reads = record {
-        located = locates_own g i (share_of g segments block i) s (is_geometry u ueb.grammar.contents) is;
+        located = locates_own g i (share_of g segments block i) s geometry is;
         ueb = ueb;
         layout = is;
       };
@@ -234,10 +238,11 @@ shares_have_one_length file secret p shape i j low other =
     let segments = segments_of g ciphertext in
     let block = ueb_text (extension_block_contents g ciphertext segments) in
     let short = (written g ciphertext shape whole).short in
+    let is = geometry_is g ciphertext shape whole in
     let at : (n : ℕ) → n < g.total → get_or (map (share_of g segments block) (range_with_len 0 g.total)) n [] ≡ share_of g segments block n =
     λ n below. get_or-map-range_with_len (share_of g segments block) 0 g.total n n [] below (zero-add n) in
     ap length (at i low)
-    ∙ same_length g (sections_of g segments block i) (sections_of g segments block j) (lengths g ciphertext shape whole i low block short) (lengths g ciphertext shape whole j other block short) refl
+    ∙ same_length g (sections_of g segments block i) (sections_of g segments block j) (lengths g ciphertext is whole i low block short) (lengths g ciphertext is whole j other block short) refl
     ∙ sym (ap length (at j other))
 
 -- and so is each share of a file's

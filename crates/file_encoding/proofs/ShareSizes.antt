@@ -15,10 +15,9 @@ use Rattle.share_layout.specs.Pieces.{segments_of}
 use Rattle.share_layout.specs.Share.{HaveLengths, Sections, share_bytes}
 use Rattle.share_layout.proofs.LawLemmas.{have_bounds}
 use Rattle.share_layout.proofs.LayoutLemmas.{length-header}
-use Rattle.share_verify.proofs.GeometryOfUeb.{is_geometry}
 use Rattle.file_encoding.specs.Encoding.{ciphertext_encoding, encoding_of, extension_block_contents, sections_of, share_of}
 use Rattle.file_encoding.specs.Laws.{SharesAreNotLong}
-use Rattle.file_encoding.proofs.OwnShares.{lengths, valid, written}
+use Rattle.file_encoding.proofs.OwnShares.{geometry_is, lengths, written}
 
 header_short : (l : Layout) → (4 ≤ header_size l) × (header_size l ≤ 68)
 header_short One = (omega arith, omega arith)
@@ -59,4 +58,4 @@ shares_are_not_long file secret p shape i low =
     let at : get_or (map (share_of g segments block) (range_with_len 0 g.total)) i [] ≡ share_of g segments block i =
     get_or-map-range_with_len (share_of g segments block) 0 g.total i i [] low (zero-add i) in
     subst (λ (share : List ℕ). (1 ≤ length share) × (length share ≤ 2 ^ 41)) (sym at)
-    (not_long g (sections_of g segments block i) (is_geometry _ (valid g ciphertext shape whole)) (lengths g ciphertext shape whole i low block short))
+    (not_long g (sections_of g segments block i) (geometry_is g ciphertext shape whole) (lengths g ciphertext (geometry_is g ciphertext shape whole) whole i low block short))

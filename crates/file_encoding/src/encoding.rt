@@ -143,7 +143,7 @@ fn write_extension_block(
 
 // The cap of a file.
 fn file_cap(geometry: &Geometry, key: [u8; 16], ueb_hash: [u8; 32]) -> ReadCap
-    requires { min_file_size ≤ geometry.now.size }
+    requires { IsFile geometry.now.needed geometry.now.total geometry.now.size }
     ensures { result ≡ read_cap_value key ueb_hash geometry.now.needed geometry.now.total
         geometry.now.size }
 {
@@ -195,7 +195,7 @@ fn finish_ciphertext(
     begun: BegunFile,
 ) -> Result<Encoded, AllocError>
     requires begun { (ciphertext : List ℕ) × IsBegun geometry.now ciphertext begun }
-    requires least { min_file_size ≤ geometry.now.size }
+    requires file { IsFile geometry.now.needed geometry.now.total geometry.now.size }
     requires segments { IsSegmentSize geometry.now.needed geometry.now.size
         geometry.now.segment_size }
     ensures cap { (ciphertext : List ℕ) → IsBegun geometry.now ciphertext begun
@@ -228,7 +228,7 @@ fn encode_ciphertext(
     ciphertext: Vec<u8>,
 ) -> Result<Encoded, AllocError>
     requires size { length ciphertext.items ≡ geometry.now.size }
-    requires least { min_file_size ≤ geometry.now.size }
+    requires file { IsFile geometry.now.needed geometry.now.total geometry.now.size }
     requires segments { IsSegmentSize geometry.now.needed geometry.now.size
         geometry.now.segment_size }
     ensures cap { IfOk result (λ e. e.cap ≡ Chk

@@ -44,11 +44,6 @@ build_share_tree-requires-clause-few c =
     let is = c.requires.begun.1 in
     omega (arith, ap length c.deref.ensures.value, count c.args.geometry.now c.requires.begun.0 c.args.begun is, is.valid.shares)
 
-pub write_extension_block-requires-clause-file : goal.write_extension_block-requires-clause-file
-write_extension_block-requires-clause-file c =
-    let valid = c.requires.begun.1.valid in
-    record { some_needed = valid.some_needed; enough = valid.enough; shares = valid.shares; not_small = c.requires.least; not_large = valid.not_large }
-
 -- how many leaves the share tree has
 leaves : (g : Geometry) (text : List ℕ) (begun : BegunFile) (slice : List Begun) (tree : List (List ℕ)) → IsBegun g text begun → slice ≡ begun.shares.items
     → tree ≡ map (λ (b : Begun). b.root) slice → (tree ≡ share_leaves g (segments_of g text)) × (length tree ≡ g.total)
