@@ -11,11 +11,10 @@ use Rattle.share_layout.specs.Geometry.{Geometry, IsGeometry, hashes_size, share
 use Rattle.share_layout.specs.Layout.{header, header_size, layout_of, offsets_of, spelled, width}
 use Rattle.share_layout.specs.Pieces.{segments_of}
 use Rattle.share_layout.proofs.LawLemmas.{have_bounds}
-use Rattle.share_verify.proofs.GeometryOfUeb.{is_geometry}
 use Rattle.share_layout.proofs.LayoutLemmas.{length-header, length-spelled}
 use Rattle.share_verify.specs.Pieces.{block_hashes, joined}
 use Rattle.file_encoding.specs.Encoding.{blocks_of, share_hashes, share_leaves}
-use Rattle.file_encoding.proofs.OwnShares.{lengths, valid}
+use Rattle.file_encoding.proofs.OwnShares.{lengths}
 use Rattle.share_gathering.specs.Gathered.{behind_blocks}
 use Rattle.share_gathering.specs.Kept.{IsKept}
 use Rattle.block_making.specs.Making.{HasBlocks, IsMaking, IsPieceOf, Making, ciphertext_from, making_with, put_at}
@@ -65,7 +64,7 @@ module _ (p : KeptFile) (hashes : List (List ℕ)) (e : Encoder) (b : Buffers) (
   roots_are = ap (map tree_root) block_leaves_are ∙ map-map tree_root own_leaves (range_with_len 0 g.total)
 
   pub geometry_valid : IsGeometry g
-  geometry_valid = is_geometry _ (valid g ciphertext kept.shape whole)
+  geometry_valid = kept.valid
 
   pub share_some : 1 ≤ kept_length p
   share_some = omega (arith, (have_bounds g geometry_valid).some_blocks)
@@ -105,7 +104,7 @@ module _ (p : KeptFile) (hashes : List (List ℕ)) (e : Encoder) (b : Buffers) (
 
     pub sizes : HaveSizes
     sizes =
-        let own = lengths g ciphertext kept.shape whole share low p.extension_block kept.short in
+        let own = lengths g ciphertext kept.valid whole share low p.extension_block kept.short in
         record {
           ciphertext_tree = kept.tree;
           block_tree = ap (λ (l : List (List ℕ)). length (joined (tree_nodes l))) leaves_are ∙ own.block_tree;

@@ -3,8 +3,7 @@ use Rattle.std.specs.Prelude.{◌≡◌, ℕ, ◌≤◌, List, length, map}
 use Rattle.std.specs.List.{range_with_len}
 use Rattle.merkle.specs.Tree.{tree_nodes, tree_root}
 use Rattle.ueb.specs.Limits.{max_length}
-use Rattle.ueb.specs.Shape.{IsShape}
-use Rattle.share_layout.specs.Geometry.{tree_size}
+use Rattle.share_layout.specs.Geometry.{IsGeometry, tree_size}
 use Rattle.share_verify.specs.Pieces.{joined}
 use Rattle.file_encoding.specs.Encoding.{share_hashes}
 use Rattle.block_making.specs.Making.{AreSlots}
@@ -19,7 +18,7 @@ use Rattle.share_gathering.specs.declared.buffers.Buffers.{Buffers}
 pub record IsKept (k : KeptFile) (hashes : List (List ℕ)) (e : Encoder) (b : Buffers) : Type 0 where
   pub bytes : List ℕ
   pub of : IsKeptOf k bytes
-  pub shape : IsShape k.geometry.needed k.geometry.total k.geometry.size k.geometry.segment_size
+  pub valid : IsGeometry k.geometry
   pub tree : length (joined (tree_nodes k.leaves)) ≡ tree_size k.geometry
   pub short : length k.extension_block ≤ max_length
   pub digests : length k.digests ≡ k.geometry.total

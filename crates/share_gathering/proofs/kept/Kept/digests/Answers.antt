@@ -8,4 +8,4 @@ pub returns-clause-few : goal.returns-clause-few
 returns-clause-few c =
     let p : KeptFile = c.args.self.now in
     let kept = subst (λ (p : KeptFile). IsKept p (texts_of c.self.inside.share_hashes.items) c.self.inside.encoder c.self.inside.buffers) c.self.view_is c.self.invariant.kept in
-    omega (arith, kept.digests, kept.shape.file.shares)
+    omega (arith, kept.digests, kept.valid.shares)

@@ -38,7 +38,7 @@ kept_again : (i : Inside) (segment lanes : List ℕ) → IsKept (seen i) (texts_
 kept_again i segment lanes kept = record {
   bytes = kept.bytes;
   of = kept.of;
-  shape = kept.shape;
+  valid = kept.valid;
   tree = kept.tree;
   short = kept.short;
   digests = kept.digests;
