@@ -1,36 +1,31 @@
 -- A padded ciphertext: its geometry, its segments and the shares that are made of it.
-use Rattle.std.proofs.Common.{◌≡◌, ℕ, zero, suc, ◌+◌, ◌-◌, ◌*◌, ◌/◌, ◌%◌, ◌^◌, ◌<◌, ◌≤◌, List, [], ◌∷◌, ◌++◌, length, take, drop, map, min, replicate, inl, inr, refl, ap, subst, sym, ◌∙◌, arith}
+use Rattle.std.proofs.Common.{◌≡◌, ℕ, zero, suc, ◌+◌, ◌-◌, ◌*◌, ◌/◌, ◌%◌, ◌^◌, ◌<◌, ◌≤◌, List, [], ◌∷◌, ◌++◌, length, take, drop, map, replicate, inl, inr, refl, ap, sym, ◌∙◌, arith}
 use Rattle.std.specs.Prelude.{nat_lt, if◌then◌else◌}
 use Rattle.std.specs.Int.{w32, div_ceil, to_be_bytes}
 use Rattle.std.specs.List.{flat_map, list_all}
-use Rattle.std.proofs.Math.Nat.{add-mul, div-mul_cancel, dvd_of_mod-eq-zero, mul-div_cancel, mul-le-mul_right, mul-mod_left, mul_assoc}
+use Rattle.std.proofs.Math.Nat.{add-mul, div-mul_cancel, dvd_of_mod-eq-zero, mul-div_cancel, mul-le-mul_right, mul-mod_left}
 use Rattle.std.proofs.lemmas.Bool.{cases_lt}
-use Rattle.std.proofs.lemmas.Grind.{div_ceil_times}
 use Rattle.std.proofs.lemmas.List.{append-nil, length-drop, length-take}
 use Rattle.std.proofs.lemmas.List.FromFn.{fill_by_all}
-use Rattle.lemmas.proofs.Numbers.{div_ceil_le}
 use Rattle.merkle.specs.Tree.{height, tree_nodes}
 use Rattle.zfec_code.specs.ShareValue.{share_block}
 use Rattle.ueb.specs.Shape.{rounded_up}
-use Rattle.ueb.specs.Limits.{max_file_size, max_segment_size, max_segments}
-use Rattle.share_layout.specs.Geometry.{Geometry, HasGeometry, IsGeometry, block_size, geometry_of, geometry_with, hashes_size, segment_count, share_data_size, tree_size}
+use Rattle.share_layout.specs.Geometry.{Geometry, IsGeometry, block_size, hashes_size, segment_count, share_data_size, tree_size, with_padding}
 use Rattle.share_layout.specs.Layout.{header, header_size, layout_of, spelled, version}
 use Rattle.share_layout.specs.Pieces.{pieces, segment_at, segment_length, segments_of}
 use Rattle.share_layout.specs.declared.layout.Layout.{Layout}
 use Rattle.share_layout.specs.declared.layout.Layout.TheVariants.{One, Two}
 use Rattle.share_layout.proofs.CutLemmas.{piece_at}
-use Rattle.share_layout.proofs.GeometryLemmas.{rounded_up_multiple}
+use Rattle.share_layout.proofs.GeometryLemmas.{padding_count, rounded_up_multiple}
 use Rattle.share_verify.specs.Pieces.{block_hashes, joined}
 use Rattle.proved_parts.specs.FileOf.{segment_hashes}
 use Rattle.proved_parts.proofs.Files.{length-pieces}
 use Rattle.file_encoding.specs.Blocks.{padded_block, padded_blocks}
 use Rattle.file_encoding.specs.Encoding.{block_of, blocks_of, padded_segment, share_hashes}
 use Rattle.file_encoding.specs.Padded.{padded_leaves, padded_share, plain_segments}
-use Rattle.file_encoding.proofs.OwnBlocks.{div_ceil_within}
 use Rattle.file_encoding.proofs.PlainText.{plain_segment}
-use Rattle.block_making.proofs.MadeBlocks.{begins-before, data_within}
+use Rattle.block_making.proofs.MadeBlocks.{begins-before}
 use Rattle.share_gathering.specs.Gathered.{behind_blocks}
-use Rattle.file_remaking.specs.Remade.{padded}
 use Rattle.share_gathering.proofs.OneByOne.{behind}
 
 -- ---- the numbers of a header, by the lengths that they follow from
@@ -55,31 +50,19 @@ module _ (g : Geometry) (valid : IsGeometry g) where
   cut : block_size g * g.needed ≡ g.segment_size
   cut = div-mul_cancel g.needed (dvd_of_mod-eq-zero g.needed valid.multiple)
 
-  pub data_same : share_data_size (padded g) ≡ share_data_size g
+  pub data_same : share_data_size (with_padding g) ≡ share_data_size g
   data_same =
       let d : ℕ = share_data_size g in
       sym (mul-div_cancel (div_ceil (d * g.needed) g.needed) valid.some_needed)
       ∙ ap (λ n. n / g.needed) (rounded_up_multiple (d * g.needed) g.needed (mul-mod_left d g.needed)) ∙ mul-div_cancel d valid.some_needed
 
-  -- it ends where the last segment would, or before
-  pub within_segments : rounded_up g.size g.needed ≤ segment_count g * g.segment_size
-  within_segments =
-      let times : share_data_size g * g.needed ≤ segment_count g * block_size g * g.needed = mul-le-mul_right {m = share_data_size g} {n = segment_count g * block_size g} g.needed (data_within g valid) in
-      omega (arith, times, mul_assoc (segment_count g) (block_size g) g.needed, ap (λ n. segment_count g * n) cut)
+  pub tree_same : tree_size (with_padding g) ≡ tree_size g
+  tree_same = λ i. (2 * 2 ^ height (padding_count g valid i) - 1) * 32
 
-  pub count_same : segment_count (padded g) ≡ segment_count g
-  count_same =
-      let above : segment_count g ≤ segment_count (padded g) = div_ceil_le g.size (rounded_up g.size g.needed) g.segment_size valid.some_segment (div_ceil_times g.size g.needed valid.some_needed).0 in
-      let below : segment_count (padded g) ≤ segment_count g = div_ceil_within (segment_count g) g.segment_size 0 valid.some_segment (rounded_up g.size g.needed) within_segments in
-      omega (arith, above, below)
-
-  pub tree_same : tree_size (padded g) ≡ tree_size g
-  tree_same = λ i. (2 * 2 ^ height (count_same i) - 1) * 32
-
-  pub header_same : header (padded g) ≡ header g
+  pub header_same : header (with_padding g) ≡ header g
   header_same = λ i. header_with (block_size g) (data_same i) (tree_same i) (hashes_size g)
 
-  pub layout_same : layout_of (padded g) ≡ layout_of g
+  pub layout_same : layout_of (with_padding g) ≡ layout_of g
   layout_same = λ i. layout_with (block_size g) (data_same i) (tree_same i) (hashes_size g)
 
   -- ---- its segments
@@ -121,9 +104,9 @@ blocks_below k i b (suc n) m text some long =
     ]
 
 module _ (g : Geometry) (valid : IsGeometry g) (text : List ℕ) (long : length text ≡ rounded_up g.size g.needed) where
-  pub blocks_same : (i : ℕ) → blocks_of g.needed i (segments_of (padded g) text) ≡ padded_blocks g i text
+  pub blocks_same : (i : ℕ) → blocks_of g.needed i (segments_of (with_padding g) text) ≡ padded_blocks g i text
   blocks_same i =
-      (λ p. map (block_of g.needed i) (pieces (count_same g valid p) (sym (cut g valid) p) text))
+      (λ p. map (block_of g.needed i) (pieces (padding_count g valid p) (sym (cut g valid) p) text))
       ∙ blocks_below g.needed i (block_size g) (segment_count g) (share_data_size g) text valid.some_needed long
       ∙ λ p. map (padded_block g.needed i) (pieces (segment_count g) (cut g valid p) text)
 
@@ -131,8 +114,8 @@ module _ (g : Geometry) (valid : IsGeometry g) (text : List ℕ) (long : length 
 
   -- a share is its header and blocks, and what follows from the leaves of all trees
   pub padded_in_two : (extension_block : List ℕ) (i : ℕ) → padded_share g text extension_block i
-      ≡ header (padded g) ++ joined (padded_blocks g i text)
-      ++ behind_blocks (padded g) (segment_hashes (plain_segments g text)) (block_hashes (padded_blocks g i text)) (padded_leaves g text) extension_block i
+      ≡ header (with_padding g) ++ joined (padded_blocks g i text)
+      ++ behind_blocks (with_padding g) (segment_hashes (plain_segments g text)) (block_hashes (padded_blocks g i text)) (padded_leaves g text) extension_block i
   padded_in_two extension_block i =
       let blocks : List (List ℕ) = padded_blocks g i text in
       let plain : List (List ℕ) = segment_hashes (plain_segments g text) in
@@ -140,30 +123,3 @@ module _ (g : Geometry) (valid : IsGeometry g) (text : List ℕ) (long : length 
       (share_hashes (padded_leaves g text) i) (spelled (layout_of g) (length extension_block)) extension_block
       ∙ λ p. sym (header_same g valid) p ++ joined blocks ++ (replicate (sym (tree_same g valid) p) 0 ++ joined (tree_nodes plain) ++ joined (tree_nodes (block_hashes blocks))
       ++ share_hashes (padded_leaves g text) i ++ (spelled (sym (layout_same g valid) p) (length extension_block) ++ extension_block))
-
--- ---- the padded text has a geometry where it is not too large
-
-module _ (g : Geometry) (valid : IsGeometry g) where
-  -- the segment size, as a greatest length, gives itself
-  segment_same : rounded_up (min g.segment_size (rounded_up g.size g.needed)) g.needed ≡ g.segment_size
-  segment_same =
-      let least : min g.segment_size (rounded_up g.size g.needed) ≡ g.segment_size = omega (arith, valid.within) in
-      ap (λ n. rounded_up n g.needed) least ∙ rounded_up_multiple g.segment_size g.needed valid.multiple
-
-  pub padded_is : geometry_of (rounded_up g.size g.needed) g.needed g.total g.segment_size ≡ padded g
-  padded_is = ap (geometry_with (rounded_up g.size g.needed) g.needed g.total) segment_same
-
-  pub has_padded : rounded_up g.size g.needed ≤ max_file_size → g.segment_size ≤ max_segment_size
-      → HasGeometry (rounded_up g.size g.needed) g.needed g.total g.segment_size
-  has_padded low small = record {
-    parameters = record {
-      some = omega (arith, valid.some, (div_ceil_times g.size g.needed valid.some_needed).0);
-      some_needed = valid.some_needed;
-      enough = valid.enough;
-      shares = valid.shares;
-      some_max = valid.some_segment;
-      max_not_large = small;
-    };
-    not_large = low;
-    few = subst (λ n. n ≤ max_segments) (sym (ap segment_count padded_is ∙ count_same g valid)) valid.few;
-  }

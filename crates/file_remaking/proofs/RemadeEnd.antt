@@ -11,7 +11,8 @@ use Rattle.merkle.specs.Tree.{tree_nodes, tree_root}
 use Rattle.tagged_hash.specs.TaggedHash.{share_digest, tagged_hash}
 use Rattle.tagged_hash.specs.declared.tag.Tag.TheVariants.{Block, CiphertextSegment, WholeShare}
 use Rattle.ueb.specs.Shape.{Contents}
-use Rattle.share_layout.specs.Geometry.{Geometry, IsGeometry, segment_count, tree_size}
+use Rattle.share_layout.specs.Geometry.{Geometry, IsGeometry, segment_count, tree_size, with_padding}
+use Rattle.share_layout.proofs.GeometryLemmas.{padding_count}
 use Rattle.share_layout.specs.Layout.{header}
 use Rattle.share_layout.specs.Pieces.{pieces, segments_of}
 use Rattle.share_layout.specs.Writing.{ending}
@@ -25,24 +26,23 @@ use Rattle.file_encoding.specs.Padded.{padded_leaves, padded_share, padded_share
 use Rattle.file_encoding.proofs.Making.{some_segments}
 use Rattle.share_gathering.specs.Finishing.{HaveLeaves, bytes_behind}
 use Rattle.share_gathering.specs.Gathered.{Gathered, gathered_none, gathered_segments}
-use Rattle.file_remaking.specs.Remade.{padded}
 use Rattle.file_remaking.specs.Remaking.{IsRemaking}
 use Rattle.share_gathering.specs.declared.finishing.Behind.{Behind}
 use Rattle.file_remaking.specs.declared.remaking.Remaking.{Remaking}
 use Rattle.share_gathering.specs.declared.shares.ShareSoFar.{ShareSoFar}
 use Rattle.share_gathering.proofs.OneByOne.{block_leaves-all, written-all}
-use Rattle.file_remaking.proofs.PaddedTexts.{blocks_same, count_same, padded_in_two, plain_same}
+use Rattle.file_remaking.proofs.PaddedTexts.{blocks_same, padded_in_two, plain_same}
 
 -- what is gathered of a padded text with this geometry
 abbrev pub gathered_padded : Geometry → List ℕ → Gathered
 gathered_padded p text = gathered_segments p (segments_of p text) (gathered_none p)
 
-module _ (u : Contents) (valid : IsGeometry (geometry_by u)) (text : List ℕ) (x : Remaking) (is : IsRemaking (padded (geometry_by u)) u.size text x) where
+module _ (u : Contents) (valid : IsGeometry (geometry_by u)) (text : List ℕ) (x : Remaking) (is : IsRemaking (with_padding (geometry_by u)) u.size text x) where
   abbrev g : Geometry
   g = geometry_by u
 
   abbrev pub p : Geometry
-  p = padded g
+  p = with_padding g
 
   abbrev s : Gathered
   s = gathered_padded p text
@@ -51,7 +51,7 @@ module _ (u : Contents) (valid : IsGeometry (geometry_by u)) (text : List ℕ) (
   own i = block_hashes (padded_blocks g i text)
 
   pub leaves_are : x.leaves.items ≡ segment_hashes (plain_segments g text)
-  leaves_are = is.leaves ∙ (λ i. segment_hashes (pieces (count_same g valid i) g.segment_size (take g.size text))) ∙ ap segment_hashes (plain_same g valid text)
+  leaves_are = is.leaves ∙ (λ i. segment_hashes (pieces (padding_count g valid i) g.segment_size (take g.size text))) ∙ ap segment_hashes (plain_same g valid text)
 
   leaves_long : length x.leaves.items ≡ segment_count g
   leaves_long = ap length leaves_are ∙ length-map (plain_segments g text) (tagged_hash CiphertextSegment) ∙ length-map-range_with_len _ 0 (segment_count g)

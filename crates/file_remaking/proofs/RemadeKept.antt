@@ -2,18 +2,16 @@
 use Rattle.std.proofs.Common.{◌≡◌, ℕ, ◌<◌, ◌≤◌, List, length, map, ap, subst, sym, ◌∙◌, arith}
 use Rattle.std.specs.Prelude.{None}
 use Rattle.std.specs.List.{range_with_len}
-use Rattle.std.proofs.Math.Nat.{mul-mod_left}
-use Rattle.std.proofs.lemmas.Grind.{div_ceil_times}
 use Rattle.std.proofs.lemmas.List.{length-map}
 use Rattle.std.proofs.lemmas.List.FromFn.{length-map-range_with_len}
 use Rattle.std.proofs.lemmas.Simd.{map-map}
 use Rattle.tagged_hash.specs.TaggedHash.{share_digest}
 use Rattle.merkle.specs.Tree.{tree_nodes, tree_root}
 use Rattle.cap_text.specs.Cap.{VerifyCapValue}
-use Rattle.ueb.specs.Limits.{max_file_size, max_length, max_segments}
-use Rattle.ueb.specs.Shape.{Contents, IsShape, rounded_up}
-use Rattle.share_layout.specs.Geometry.{Geometry, IsGeometry}
-use Rattle.share_layout.proofs.GeometryLemmas.{rounded_up_multiple}
+use Rattle.ueb.specs.Limits.{max_length}
+use Rattle.ueb.specs.Shape.{Contents, rounded_up}
+use Rattle.share_layout.specs.Geometry.{Geometry, IsGeometry, with_padding}
+use Rattle.share_layout.proofs.GeometryLemmas.{is_padded}
 use Rattle.share_verify.specs.CapBlock.{geometry_by}
 use Rattle.share_verify.specs.Pieces.{block_hashes, joined}
 use Rattle.file_encoding.specs.Blocks.{padded_blocks}
@@ -24,13 +22,13 @@ use Rattle.block_making.specs.declared.encoder.Encoder.{Encoder}
 use Rattle.share_gathering.specs.Buffers.{AreBuffers}
 use Rattle.share_gathering.specs.Kept.{IsKept}
 use Rattle.share_gathering.specs.KeptFile.{KeptFile, kept_with}
-use Rattle.file_remaking.specs.Remade.{padded, remade_by}
+use Rattle.file_remaking.specs.Remade.{remade_by}
 use Rattle.file_remaking.specs.Remaking.{IsRemadeFinished}
 use Rattle.share_gathering.specs.declared.finishing.Finished.{Finished}
 use Rattle.share_gathering.specs.declared.buffers.Buffers.{Buffers}
-use Rattle.file_remaking.proofs.PaddedTexts.{blocks_same, count_same, tree_same}
+use Rattle.file_remaking.proofs.PaddedTexts.{blocks_same, tree_same}
 
-module _ (u : Contents) (valid : IsGeometry (geometry_by u)) (shape : IsShape u.needed_shares u.total_shares u.size u.segment_size)
+module _ (u : Contents) (valid : IsGeometry (geometry_by u))
     (text block : List ℕ) (long : length text ≡ rounded_up u.size u.needed_shares) (short : length block ≤ max_length) (f : Finished) (is : IsRemadeFinished u text block f) where
   abbrev g : Geometry
   g = geometry_by u
@@ -39,9 +37,9 @@ module _ (u : Contents) (valid : IsGeometry (geometry_by u)) (shape : IsShape u.
   abbrev pub kept_by : Geometry → KeptFile
   kept_by h = kept_with h None f.behind.extension_block.items f.behind.ciphertext_tree f.behind.block_trees.items f.digests.items
 
-  pub kept_is : (cap : VerifyCapValue) → kept_by (padded g) ≡ (remade_by g cap block text).kept
+  pub kept_is : (cap : VerifyCapValue) → kept_by (with_padding g) ≡ (remade_by g cap block text).kept
   kept_is cap = λ i. record {
-    geometry = padded g;
+    geometry = with_padding g;
     key = None;
     extension_block = is.copied i;
     leaves = is.leaves i;
@@ -49,32 +47,9 @@ module _ (u : Contents) (valid : IsGeometry (geometry_by u)) (shape : IsShape u.
     digests = is.digests i;
   }
 
-  -- the padded text has a shape too
-  shape_of : rounded_up u.size u.needed_shares ≤ max_file_size → IsShape u.needed_shares u.total_shares (rounded_up u.size u.needed_shares) u.segment_size
-  shape_of low =
-      let over = (div_ceil_times u.size u.needed_shares valid.some_needed).0 in
-      let again : rounded_up (rounded_up u.size u.needed_shares) u.needed_shares ≡ rounded_up u.size u.needed_shares =
-      rounded_up_multiple (rounded_up u.size u.needed_shares) u.needed_shares (mul-mod_left _ u.needed_shares) in
-      record {
-        file = record {
-          some_needed = shape.file.some_needed;
-          enough = shape.file.enough;
-          shares = shape.file.shares;
-          not_small = omega (arith, shape.file.not_small, over);
-          not_large = low;
-        };
-        segments = record {
-          some = shape.segments.some;
-          multiple = shape.segments.multiple;
-          not_large = shape.segments.not_large;
-          within = omega (arith, shape.segments.within, again);
-          few = subst (λ n. n ≤ max_segments) (sym (count_same g valid)) shape.segments.few;
-        };
-      }
-
-  pub is_kept : rounded_up u.size u.needed_shares ≤ max_file_size → (e : Encoder) (b : Buffers) → e.cipher ≡ None → e.code.k ≡ u.needed_shares → e.code.n ≡ u.total_shares
-      → AreBuffers (padded g) b → IsKept (kept_by (padded g)) (map (λ (h : _). h.items) f.behind.share_hashes.items) e b
-  is_kept low e b cipher needed total buffers =
+  pub is_kept : (e : Encoder) (b : Buffers) → e.cipher ≡ None → e.code.k ≡ u.needed_shares → e.code.n ≡ u.total_shares
+      → AreBuffers (with_padding g) b → IsKept (kept_by (with_padding g)) (map (λ (h : _). h.items) f.behind.share_hashes.items) e b
+  is_kept e b cipher needed total buffers =
       let some : 0 < u.total_shares = omega (arith, valid.some_needed, valid.enough) in
       let own = lengths g text block valid long short 0 some in
       let roots : map tree_root f.behind.block_trees.items ≡ padded_leaves g text =
@@ -85,7 +60,7 @@ module _ (u : Contents) (valid : IsGeometry (geometry_by u)) (shape : IsShape u.
           long = long;
           block_leaves = is.block_leaves ∙ λ i. map (λ j. block_hashes (sym (blocks_same g valid text long j) i)) (range_with_len 0 g.total);
         };
-        shape = shape_of low;
+        valid = is_padded g valid;
         tree = ap (λ (l : List (List ℕ)). length (joined (tree_nodes l))) is.leaves ∙ own.ciphertext_tree ∙ sym (tree_same g valid);
         short = subst (λ (l : List ℕ). length l ≤ max_length) (sym is.copied) short;
         digests =

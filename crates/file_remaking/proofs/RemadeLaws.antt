@@ -6,7 +6,7 @@ use Rattle.std.proofs.lemmas.Simd.{map-map}
 use Rattle.merkle.specs.Tree.{tree_root}
 use Rattle.cap_text.specs.Cap.{VerifyCapValue}
 use Rattle.ueb.specs.Shape.{Contents}
-use Rattle.share_layout.specs.Geometry.{Geometry, share_data_size}
+use Rattle.share_layout.specs.Geometry.{Geometry, share_data_size, with_padding}
 use Rattle.share_layout.specs.Layout.{header}
 use Rattle.share_verify.specs.CapBlock.{geometry_by}
 use Rattle.share_verify.specs.Pieces.{block_hashes, joined}
@@ -18,7 +18,7 @@ use Rattle.file_encoding.proofs.RemadePassing.{padded_pass}
 use Rattle.share_gathering.specs.Gathered.{behind_blocks}
 use Rattle.share_gathering.specs.KeptFile.{GivesKept, IsKeptOf, KeptFile, kept_leaves, kept_share}
 use Rattle.share_gathering.specs.Clash.{HaveClash}
-use Rattle.file_remaking.specs.Remade.{IsTextOf, PiecesAreRemade, RemadeFile, TextsPass, padded, remade_by}
+use Rattle.file_remaking.specs.Remade.{IsTextOf, PiecesAreRemade, RemadeFile, TextsPass, remade_by}
 use Rattle.share_gathering.proofs.Blocks.{blocks_or_clash}
 use Rattle.file_remaking.proofs.PaddedTexts.{blocks_same, padded_in_two}
 
@@ -36,7 +36,7 @@ module _ (cap : VerifyCapValue) (extension_block : List ℕ) (u : Contents) (tex
   -- the share with its own blocks is that of the text
   share_is : kept_share kept (padded_blocks g share text) share ≡ slice_index_or (padded_shares g text extension_block) share []
   share_is =
-      (λ p. header (padded g) ++ joined (padded_blocks g share text) ++ behind_blocks (padded g) (segment_hashes (plain_segments g text)) (leaves_are p)
+      (λ p. header (with_padding g) ++ joined (padded_blocks g share text) ++ behind_blocks (with_padding g) (segment_hashes (plain_segments g text)) (leaves_are p)
       (map-map tree_root (λ i. block_hashes (padded_blocks g i text)) (range_with_len 0 g.total) p) extension_block share)
       ∙ sym (padded_in_two g (is_geometry u is.ueb.grammar.contents) text is.size extension_block share)
       ∙ sym (get_or-map-range_with_len (padded_share g text extension_block) 0 g.total share share [] there (zero-add share))

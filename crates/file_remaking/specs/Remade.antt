@@ -6,7 +6,7 @@ use Rattle.tagged_hash.specs.TaggedHash.{share_digest}
 use Rattle.merkle.specs.Tree.{tree_root}
 use Rattle.cap_text.specs.Cap.{VerifyCapValue}
 use Rattle.ueb.specs.Shape.{Contents, rounded_up}
-use Rattle.share_layout.specs.Geometry.{Geometry}
+use Rattle.share_layout.specs.Geometry.{Geometry, with_padding}
 use Rattle.share_verify.specs.CapBlock.{IsUebFor, geometry_by}
 use Rattle.share_verify.specs.Pieces.{block_hashes}
 use Rattle.proved_parts.specs.FileOf.{segment_hashes}
@@ -19,10 +19,6 @@ use Rattle.share_gathering.specs.KeptFile.{GivesKept, KeptFile}
 use Rattle.share_gathering.specs.Clash.{HaveClash}
 
 -- ---- the padded ciphertext of a cap's file
-
--- the geometry of a file's ciphertext with its padding: its size is a multiple of the shares needed
-abbrev pub padded : Geometry → Geometry
-padded g = record g { size = rounded_up g.size g.needed }
 
 -- The text is a padded ciphertext of the cap's file, by an extension block of the cap: the roots
 -- over its segments and over its shares are those that the block tells.
@@ -52,7 +48,7 @@ abbrev pub remade_by : Geometry → VerifyCapValue → List ℕ → List ℕ →
 remade_by g cap extension_block text = record {
   cap = cap;
   kept = record {
-    geometry = padded g;
+    geometry = with_padding g;
     key = None;
     extension_block = extension_block;
     leaves = segment_hashes (plain_segments g text);

@@ -5,11 +5,9 @@ use Rattle.sources.specs.declared.error.PartFault.TheVariants.{Ended, Unreadable
 use Rattle.file_remaking.specs.declared.error.RemakeError.{RemakeError}
 use Rattle.file_remaking.specs.declared.error.RemakeError.TheVariants.{Inconsistent, OutOfMemory}
 use Rattle.file_remaking.specs.declared.error.RemakeError.TheVariants.{SourceChanged, SourceFault}
-use Rattle.file_remaking.specs.declared.error.RemakeError.TheVariants.{TooLarge}
 
 abbrev pub remake_number : RemakeError → ℕ
 remake_number OutOfMemory = 1
-remake_number TooLarge = 30
 remake_number Inconsistent = 72
 remake_number SourceChanged = 74
 remake_number SourceFault = 75

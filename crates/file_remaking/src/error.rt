@@ -11,8 +11,6 @@ use std::alloc::{AllocError, AllocFailed};
 pub enum RemakeError {
     /// No memory was left.
     OutOfMemory,
-    /// The padded ciphertext has more than `ueb::MAX_FILE_SIZE` bytes.
-    TooLarge,
     /// The root over the segments, or over the shares, is not the one that the extension block
     /// tells.
     Inconsistent,
@@ -29,7 +27,6 @@ impl RemakeError {
     {
         match self {
             RemakeError::OutOfMemory => 1,
-            RemakeError::TooLarge => 30,
             RemakeError::Inconsistent => 72,
             RemakeError::SourceChanged => 74,
             RemakeError::SourceFault => 75,

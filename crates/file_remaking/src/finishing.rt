@@ -1,11 +1,9 @@
 // What follows from the leaves that a pass over a padded ciphertext gathered.
 
 ghost use Rattle.std.specs.Prelude.{◌≡◌, ◌⊎◌, ◌<◌, ◌≤◌, ℕ, List, length, IfErr, IfOk, IsErrOf};
-ghost use Rattle.ueb.specs.Limits.{max_file_size, max_length, max_segment_size};
-ghost use Rattle.ueb.specs.Shape.{rounded_up};
-ghost use Rattle.share_layout.specs.Geometry.{IsGeometry};
+ghost use Rattle.ueb.specs.Limits.{max_length};
+ghost use Rattle.share_layout.specs.Geometry.{IsGeometry, with_padding};
 ghost use Rattle.share_verify.specs.CapBlock.{geometry_by};
-ghost use Rattle.file_remaking.specs.Remade.{padded};
 ghost use Rattle.file_remaking.specs.Remaking.{HasOtherRoot, IsRemadeFinished, IsRemaking};
 
 use crate::error::RemakeError;
@@ -13,29 +11,7 @@ use crate::remaking::Remaking;
 use share_gathering::{Behind, Finished, build_trees, finish_digests, write_all_hashes};
 use share_layout::Geometry;
 use std::alloc::Global;
-use ueb::{MAX_FILE_SIZE, Ueb};
-
-/// The geometry of a file's ciphertext with its padding. Refuses `TooLarge` where that has more
-/// than `ueb::MAX_FILE_SIZE` bytes.
-pub(crate) fn padded_geometry(file: &Geometry) -> Result<Geometry, RemakeError>
-    requires small { file.now.segment_size ≤ max_segment_size }
-    ensures padded { IfOk result (λ g. g ≡ padded file.now) }
-    ensures fits { IfOk result
-        (λ _. rounded_up file.now.size file.now.needed ≤ max_file_size) }
-    ensures too_large { IsErrOf result RemakeError.TooLarge
-        → max_file_size < rounded_up file.now.size file.now.needed }
-    ensures no_other { IfErr result (λ e. e ≡ RemakeError.TooLarge) }
-{
-    let needed = u64::from(file.needed());
-    let size = file.size().div_ceil(needed) * needed;
-    if size > MAX_FILE_SIZE {
-        return Err(RemakeError::TooLarge);
-    }
-    match Geometry::of(size, file.needed(), file.total(), file.segment_size()) {
-        Ok(geometry) => Ok(geometry),
-        Err(_) => unreachable!(),
-    }
-}
+use ueb::Ueb;
 
 /// What is kept of a padded ciphertext whose segments are gathered. Refuses `Inconsistent` where
 /// the root over them, or over the shares, is not the one that the extension block tells, and
@@ -47,7 +23,7 @@ pub(crate) fn finish_remade(
     ueb: &Ueb,
     extension_block: Vec<u8>,
 ) -> Result<Finished, RemakeError>
-    requires geometry { geometry.now ≡ padded (geometry_by ueb.now) }
+    requires geometry { geometry.now ≡ with_padding (geometry_by ueb.now) }
     requires valid { IsGeometry (geometry_by ueb.now) }
     requires text { (text : List ℕ) × IsRemaking geometry.now ueb.now.size text remaking }
     requires short { length extension_block.items ≤ max_length }

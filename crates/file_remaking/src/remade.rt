@@ -2,7 +2,6 @@
 
 ghost use Rattle.std.specs.Prelude.{◌≡◌, ◌+◌, ◌<◌, ◌≤◌, ◌^◌, length, IfOk};
 ghost use Rattle.std.specs.Prelude.{IsErrOf, OnOk};
-ghost use Rattle.ueb.specs.Limits.{max_file_size};
 ghost use Rattle.ueb.specs.Shape.{rounded_up};
 ghost use Rattle.share_verify.specs.CapBlock.{IsUebFor};
 ghost use Rattle.sources.specs.Change.{HasEndedEarly};
@@ -12,7 +11,7 @@ ghost use Rattle.share_gathering.specs.KeptFile.{GivesKept, kept_length};
 ghost use Rattle.file_remaking.specs.Remade.{IsOfNoText, IsOtherText, IsRemadeFrom};
 
 use crate::error::RemakeError;
-use crate::finishing::{finish_remade, padded_geometry};
+use crate::finishing::finish_remade;
 use crate::remaking::remake;
 use block_making::{Encoder, PieceError};
 use cap_text::VerifyCap;
@@ -108,10 +107,9 @@ pub fn padded_size(ueb: &Ueb) -> u64
 /// its shares are made of. The extension block is copied into them: it is one of the cap, with
 /// these contents. The source has as many bytes as the file has with its padding.
 ///
-/// Refuses `TooLarge` before the first read where these are more than `ueb::MAX_FILE_SIZE`; then
-/// `SourceChanged` where the source ended early, `SourceFault` where a read failed, `Inconsistent`
-/// where the root over the segments, or over the shares, is not the one that the extension block
-/// tells, and `OutOfMemory`.
+/// Refuses `SourceChanged` where the source ended early, `SourceFault` where a read failed,
+/// `Inconsistent` where the root over the segments, or over the shares, is not the one that the
+/// extension block tells, and `OutOfMemory`.
 pub fn prepare_remade<S: Source>(
     alloc: Global,
     source: &mut S,
@@ -125,9 +123,6 @@ pub fn prepare_remade<S: Source>(
         extension_block.items ueb.now remade source.new) }
     ensures size { S.size source.new ≡ S.size source.old }
     // When each refusal comes.
-    ensures too_large { IsErrOf result RemakeError.TooLarge
-        → max_file_size < rounded_up ueb.now.size ueb.now.needed_shares }
-    ensures early { IsErrOf result RemakeError.TooLarge → source.new ≡ source.old }
     ensures inconsistent { IsErrOf result RemakeError.Inconsistent
         → IsOtherText S.gives source.old ueb.now source.new }
     ensures changed { IsErrOf result RemakeError.SourceChanged
@@ -136,7 +131,7 @@ pub fn prepare_remade<S: Source>(
         → HasFailedMore (S.failures source.old) (S.failures source.new) }
 {
     let file = geometry_of(ueb);
-    let geometry = padded_geometry(&file)?;
+    let geometry = file.padded();
     let code = file_code(alloc, &geometry)?;
     let mut buffers = Buffers::of(alloc, &geometry)?;
     let remaking = remake(

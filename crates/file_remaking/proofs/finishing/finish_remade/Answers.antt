@@ -7,12 +7,11 @@ use Rattle.merkle.proofs.PartialLemmas.{same_hash}
 use Rattle.tagged_hash.specs.TaggedHash.{tagged_hash}
 use Rattle.tagged_hash.specs.declared.tag.Tag.TheVariants.{WholeShare}
 use Rattle.ueb.specs.Shape.{Contents}
-use Rattle.share_layout.specs.Geometry.{Geometry}
+use Rattle.share_layout.specs.Geometry.{Geometry, with_padding}
 use Rattle.share_verify.specs.CapBlock.{geometry_by}
 use Rattle.file_encoding.specs.Encoding.{share_hashes}
 use Rattle.block_making.proofs.MadeBlocks.{other_hash}
 use Rattle.share_gathering.specs.Finishing.{HaveLeaves, bytes_behind, hashes_length}
-use Rattle.file_remaking.specs.Remade.{padded}
 use Rattle.file_remaking.specs.Remaking.{IsRemaking}
 use Rattle.share_gathering.specs.Wholes.{AreGiven}
 use Rattle.share_gathering.specs.declared.finishing.Behind.{Behind}
@@ -24,14 +23,14 @@ pub build_trees-requires-clause-leaves : goal.build_trees-requires-clause-leaves
 build_trees-requires-clause-leaves c =
     let u : Contents = c.args.ueb.now in
     let text : List ℕ = c.requires.text.0 in
-    let is : IsRemaking (padded (geometry_by u)) u.size text c.args.remaking = subst (λ (g : Geometry). IsRemaking g u.size text c.args.remaking) c.requires.geometry c.requires.text.1 in
+    let is : IsRemaking (with_padding (geometry_by u)) u.size text c.args.remaking = subst (λ (g : Geometry). IsRemaking g u.size text c.args.remaking) c.requires.geometry c.requires.text.1 in
     subst HaveLeaves (sym c.deref.ensures.value) (leaves_fit u c.requires.valid text c.args.remaking is)
 
 pub build_trees-requires-clause-all : goal.build_trees-requires-clause-all
 build_trees-requires-clause-all c =
     let u : Contents = c.args.ueb.now in
     let text : List ℕ = c.requires.text.0 in
-    let is : IsRemaking (padded (geometry_by u)) u.size text c.args.remaking = subst (λ (g : Geometry). IsRemaking g u.size text c.args.remaking) c.requires.geometry c.requires.text.1 in
+    let is : IsRemaking (with_padding (geometry_by u)) u.size text c.args.remaking = subst (λ (g : Geometry). IsRemaking g u.size text c.args.remaking) c.requires.geometry c.requires.text.1 in
     all_fit u c.requires.valid text c.args.remaking is
 
 pub build_trees-requires-clause-some : goal.build_trees-requires-clause-some
@@ -45,7 +44,7 @@ build_trees-requires-clause-few c = omega (arith, c.requires.text.1.holds.count,
 pub returns-then-ne-clause-inconsistent : goal.returns-then-ne-clause-inconsistent
 returns-then-ne-clause-inconsistent c = λ text held _.
     let u : Contents = c.args.ueb.now in
-    let is : IsRemaking (padded (geometry_by u)) u.size text c.args.remaking = subst (λ (g : Geometry). IsRemaking g u.size text c.args.remaking) c.requires.geometry held in
+    let is : IsRemaking (with_padding (geometry_by u)) u.size text c.args.remaking = subst (λ (g : Geometry). IsRemaking g u.size text c.args.remaking) c.requires.geometry held in
     let root : c.root.result ≡ tree_root c.args.remaking.leaves.items = c.root.ensures ∙ ap tree_root (c.in_ok-trees.ensures.ciphertext ∙ c.deref.ensures.value) in
     inl (λ same. other_hash c.root.result c.crypttext_root_hash.result.now c.ne.result c.ne.ensures c.if-ne.true
     (root ∙ ap tree_root (leaves_are u c.requires.valid text c.args.remaking is) ∙ same ∙ sym c.crypttext_root_hash.ensures))
@@ -53,7 +52,7 @@ returns-then-ne-clause-inconsistent c = λ text held _.
 pub returns-then-ne-2-clause-inconsistent : goal.returns-then-ne-2-clause-inconsistent
 returns-then-ne-2-clause-inconsistent c = λ text held _.
     let u : Contents = c.args.ueb.now in
-    let is : IsRemaking (padded (geometry_by u)) u.size text c.args.remaking = subst (λ (g : Geometry). IsRemaking g u.size text c.args.remaking) c.requires.geometry held in
+    let is : IsRemaking (with_padding (geometry_by u)) u.size text c.args.remaking = subst (λ (g : Geometry). IsRemaking g u.size text c.args.remaking) c.requires.geometry held in
     let roots = roots_are u c.requires.valid text c.args.remaking is c.in_ok-trees.trees.blocks.items c.in_ok-trees.ensures.blocks in
     inr (λ same. other_hash c.root-2.result c.share_root_hash.result.now c.ne-2.result c.ne-2.ensures c.if-ne-2.true
     (c.root-2.ensures ∙ ap tree_root (c.in_ok-trees.ensures.shares ∙ roots) ∙ same ∙ sym c.share_root_hash.ensures))
@@ -67,7 +66,7 @@ pub finish_digests-requires-clause-alike : goal.finish_digests-requires-clause-a
 finish_digests-requires-clause-alike c =
     let u : Contents = c.args.ueb.now in
     let text : List ℕ = c.requires.text.0 in
-    let is : IsRemaking (padded (geometry_by u)) u.size text c.args.remaking = subst (λ (g : Geometry). IsRemaking g u.size text c.args.remaking) c.requires.geometry c.requires.text.1 in
+    let is : IsRemaking (with_padding (geometry_by u)) u.size text c.args.remaking = subst (λ (g : Geometry). IsRemaking g u.size text c.args.remaking) c.requires.geometry c.requires.text.1 in
     all_alike u c.requires.valid text c.args.remaking is c.in_ok-trees.trees.blocks.items c.in_ok-trees.trees.ciphertext c.in_ok-trees.ensures.blocks
     (c.in_ok-trees.ensures.ciphertext ∙ c.deref.ensures.value)
 
@@ -78,13 +77,13 @@ pub returns-clause-finished : goal.returns-clause-finished
 returns-clause-finished c = λ text held.
     let u : Contents = c.args.ueb.now in
     let x : Remaking = c.args.remaking in
-    let is : IsRemaking (padded (geometry_by u)) u.size text x = subst (λ (g : Geometry). IsRemaking g u.size text x) c.requires.geometry held in
+    let is : IsRemaking (with_padding (geometry_by u)) u.size text x = subst (λ (g : Geometry). IsRemaking g u.size text x) c.requires.geometry held in
     let total : c.total.result ≡ u.total_shares = c.total.ensures.value ∙ ap (λ (g : Geometry). g.total) c.requires.geometry in
     let leaves = c.in_ok-trees.ensures.ciphertext ∙ c.deref.ensures.value ∙ leaves_are u c.requires.valid text x is in
     let roots = c.in_ok-trees.ensures.shares ∙ roots_are u c.requires.valid text x is c.in_ok-trees.trees.blocks.items c.in_ok-trees.ensures.blocks in
     let trees = c.in_ok-trees.ensures.blocks ∙ block_leaves_are u c.requires.valid text x is in
     let hashes = c.in_ok-share_hashes.ensures.value ∙ λ q. map (share_hashes (roots q)) (range_with_len 0 (total q)) in
-    let written : ℕ → List ℕ = (gathered_padded (padded (geometry_by u)) text).written in
+    let written : ℕ → List ℕ = (gathered_padded (with_padding (geometry_by u)) text).written in
     let behind : Behind = record {
       ciphertext_tree = c.in_ok-trees.trees.ciphertext;
       block_trees = c.in_ok-trees.trees.blocks;

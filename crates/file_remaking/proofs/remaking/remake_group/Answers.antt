@@ -1,5 +1,6 @@
 use Rattle.std.proofs.Common.{◌≡◌, ℕ, ◌+◌, List, length, drop, take, subst, sym, ◌∙◌, arith}
 use Rattle.std.proofs.lemmas.List.{length-take, length-take-le, take_at}
+use Rattle.share_layout.proofs.GeometryLemmas.{size_low}
 use Rattle.block_making.proofs.ReadRuns.{ended-wider}
 use Rattle.file_remaking.specs.Remaking.{HasMore}
 use Rattle.share_gathering.proofs.GroupSteps.{has_first, has_offset}
@@ -15,6 +16,11 @@ pub slice_bounds-read_part-end-2 : goal.slice_bounds-read_part-end-2
 slice_bounds-read_part-end-2 g c =
     let at = has_offset c.args.geometry.now c.args.group 0 c.requires.group (has_first c.args.geometry.now c.args.group c.requires.group) in
     sym (length-take-le c.args.group.len c.args.segments.now (omega (arith, at.fits, c.requires.segments)))
+
+pub read_part-requires : goal.read_part-requires
+read_part-requires g c =
+    let at = has_offset c.args.geometry.now c.args.group 0 c.requires.group (has_first c.args.geometry.now c.args.group c.requires.group) in
+    omega (arith, at.file, size_low c.args.geometry.now c.requires.group.valid, length-take c.args.group.len c.args.segments.now)
 
 pub returns-in_err-read_part-clause-ended : goal.returns-in_err-read_part-clause-ended
 returns-in_err-read_part-clause-ended g c = λ e.
