@@ -1,5 +1,5 @@
 -- What follows from the leaves and hashers of the shares of a padded ciphertext.
-use Rattle.std.proofs.Common.{◌≡◌, ℕ, ◌<◌, ◌≤◌, ◌^◌, List, [], ◌++◌, length, map, take, replicate, slice_index_or, get_or, ap, subst, sym, ◌∙◌, arith, zero-add}
+use Rattle.std.proofs.Common.{◌≡◌, ℕ, ◌<◌, ◌≤◌, ◌^◌, List, [], ◌++◌, length, map, take, replicate, slice_index_or, ap, subst, sym, ◌∙◌, arith, zero-add}
 use Rattle.std.specs.List.{range_with_len}
 use Rattle.std.proofs.lemmas.List.{get_or-map, length-map}
 use Rattle.std.proofs.lemmas.List.FromFn.{fill_by_all, get_or-map-range_with_len, length-map-range_with_len}
@@ -98,14 +98,6 @@ module _ (u : Contents) (valid : IsGeometry (geometry_by u)) (text : List ℕ) (
       let within : k < length x.shares.items = omega (arith, low, share_count) in
       let share : ShareSoFar = (get_of x.shares.items k within).0 in
       get_or-map leaves_of x.shares.items k share [] within ∙ share_leaves_are k share within)
-
-  -- the trees over them are of one size
-  pub all_alike : (trees : List (List (List ℕ))) (tree : List (List ℕ)) → trees ≡ map leaves_of x.shares.items → tree ≡ x.leaves.items
-      → (k : ℕ) (d : List (List ℕ)) → k < length trees → length (slice_index_or trees k d) ≡ length tree
-  all_alike trees tree are is_tree k d low =
-      let within : k < u.total_shares = omega (arith, low, ap length are, length-map x.shares.items leaves_of, share_count) in
-      ap (λ (l : List (List (List ℕ))). length (get_or l k d)) (are ∙ block_leaves_are)
-      ∙ ap length (get_or-map-range_with_len own 0 u.total_shares k k d within (zero-add k)) ∙ length-own k ∙ sym (ap length is_tree ∙ leaves_long)
 
   -- and their roots the leaves of the share tree
   pub roots_are : (trees : List (List (List ℕ))) → trees ≡ map leaves_of x.shares.items → map tree_root trees ≡ padded_leaves g text

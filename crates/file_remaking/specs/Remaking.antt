@@ -26,7 +26,7 @@ use Rattle.file_remaking.specs.declared.remaking.Remaking.{Remaking}
 pub record HoldsShares (g : Geometry) (s : Gathered) (x : Remaking) : Type 0 where
   pub count : length x.shares.items ≡ g.total
   pub shares : HoldShares s x.shares.items
-  pub groups : length x.wholes.items ≡ div_ceil g.total 8
+  pub groups : length x.wholes.items ≡ div_ceil g.total 7
   pub wholes : AreGiven g.total s.written x.wholes.items
 
 -- the segments of a group were gathered, without what is padding behind a size

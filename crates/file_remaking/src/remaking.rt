@@ -63,7 +63,7 @@ impl Remaking {
         requires segments { length segments.old ≡ 8 * geometry.now.segment_size }
         requires lanes { length lanes.old ≡ 8 * (at_once geometry.now * block_size geometry.now) }
         requires shares { length self.old.shares.items ≡ geometry.now.total }
-        requires wholes { length self.old.wholes.items ≡ div_ceil geometry.now.total 8 }
+        requires wholes { length self.old.wholes.items ≡ div_ceil geometry.now.total 7 }
         ensures shares { OnOk result
             (length self.new.shares.items ≡ length self.old.shares.items) }
         ensures wholes { OnOk result
@@ -112,10 +112,10 @@ fn remake_group<S: Source>(
     requires segments { length segments.old ≡ 8 * geometry.now.segment_size }
     requires lanes { length lanes.old ≡ 8 * (at_once geometry.now * block_size geometry.now) }
     requires shares { length remaking.old.shares.items ≡ geometry.now.total }
-    requires wholes { length remaking.old.wholes.items ≡ div_ceil geometry.now.total 8 }
+    requires wholes { length remaking.old.wholes.items ≡ div_ceil geometry.now.total 7 }
     ensures shares { OnOk result (length remaking.new.shares.items ≡ geometry.now.total) }
     ensures wholes { OnOk result
-        (length remaking.new.wholes.items ≡ div_ceil geometry.now.total 8) }
+        (length remaking.new.wholes.items ≡ div_ceil geometry.now.total 7) }
     ensures remade { OnOk result (IsGroupRemade S.gives source.old geometry.now size group
         remaking.old remaking.new source.new) }
     ensures ended { IsErrOf result RemakeError.SourceChanged

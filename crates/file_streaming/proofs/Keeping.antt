@@ -93,9 +93,6 @@ module _ (g : Geometry) (file : List ℕ) (p : Passes) (pass : IsPassOf g file p
   pub all_fit : (k : ℕ) (d : ShareSoFar) → k < length p.shares.items → HaveLeaves (slice_index_or p.shares.items k d).leaves.items
   all_fit k d low = have_leaves (slice_index_or p.shares.items k d).leaves.items (share_long k d low)
 
-  pub all_alike : (k : ℕ) (d : ShareSoFar) → k < length p.shares.items → length (slice_index_or p.shares.items k d).leaves.items ≡ length p.leaves.items
-  all_alike k d low = share_long k d low ∙ sym leaves_long
-
   module _ (f : Finished) (is : IsFinished g text f) (ueb_hash : List ℕ) (cap : ReadCapValue) (hashed : ueb_hash ≡ tagged_hash ExtensionBlock f.behind.extension_block.items)
       (made : cap ≡ read_cap_value p.key ueb_hash g.needed g.total g.size) where
     pub kept_is : kept_of g cap f ≡ prepared_by g p.key text

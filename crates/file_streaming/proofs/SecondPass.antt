@@ -46,7 +46,7 @@ pub gathered-parts : (g : Geometry) (group : Group) (s : Gathered) (secret file 
     → HoldsFile y.key g.needed g.total g.segment_size secret (file ++ text) → Holds y.ciphertext Ciphertext (s.ciphertext ++ encrypted)
     → y.leaves.items ≡ x.leaves.items ++ segment_hashes (pieces group.count g.segment_size encrypted)
     → length y.shares.items ≡ g.total → HoldShares (gathered_group g group encrypted s) y.shares.items
-    → length y.wholes.items ≡ div_ceil g.total 8 → AreGiven g.total (gathered_group g group encrypted s).written y.wholes.items
+    → length y.wholes.items ≡ div_ceil g.total 7 → AreGiven g.total (gathered_group g group encrypted s).written y.wholes.items
     → HasGathered g (gathered_group g group encrypted s) secret (file ++ text) y
 gathered-parts g group s secret file text encrypted x y has fits key ciphertext leaves count shares groups wholes =
     let cs : List (List ℕ) = pieces group.count g.segment_size encrypted in

@@ -22,7 +22,7 @@ pub record HasGathered (g : Geometry) (s : Gathered) (secret file : List ℕ) (x
   pub leaves : x.leaves.items ≡ s.leaves
   pub count : length x.shares.items ≡ g.total
   pub shares : HoldShares s x.shares.items
-  pub groups : length x.wholes.items ≡ div_ceil g.total 8
+  pub groups : length x.wholes.items ≡ div_ceil g.total 7
   pub wholes : AreGiven g.total s.written x.wholes.items
 
 -- these segments were read and gathered, encrypted at their offset

@@ -33,7 +33,7 @@ pub record IsPassOf (g : Geometry) (file : List ℕ) (p : Passes) : Type 0 where
   pub leaves : p.leaves.items ≡ (gathered_of g p.key file).leaves
   pub count : length p.shares.items ≡ g.total
   pub shares : HoldShares (gathered_of g p.key file) p.shares.items
-  pub groups : length p.wholes.items ≡ div_ceil g.total 8
+  pub groups : length p.wholes.items ≡ div_ceil g.total 7
   pub wholes : AreGiven g.total (gathered_of g p.key file).written p.wholes.items
 
 -- the source was read once more, and brought a file with the key that it had before

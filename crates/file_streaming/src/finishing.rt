@@ -15,7 +15,6 @@ ghost use Rattle.ueb.specs.Shape.{IsFile, IsSegmentSize};
 ghost use Rattle.file_encoding.specs.Encoding.{share_hashes};
 ghost use Rattle.share_gathering.specs.Finishing.{HaveLeaves};
 ghost use Rattle.file_streaming.specs.Finishing.{IsFinished};
-ghost use Rattle.share_gathering.specs.Finishing.{hashes_length};
 ghost use Rattle.share_gathering.specs.Gathered.{Gathered, IsGathered};
 ghost use Rattle.share_gathering.specs.Shares.{HoldShares};
 ghost use Rattle.share_gathering.specs.Wholes.{AreGiven};
@@ -44,8 +43,6 @@ fn write_behind(
     ensures blocks { IfOk result (λ behind. behind.block_trees.items ≡ trees.blocks.items) }
     ensures hashes { IfOk result (λ behind. map (λ h. h.items) behind.share_hashes.items
         ≡ map (share_hashes trees.shares) (range_with_len 0 geometry.now.total)) }
-    ensures long { IfOk result (λ behind. All (λ h. length h.items
-        ≡ hashes_length geometry.now.total) behind.share_hashes.items) }
     ensures extension_block { IfOk result (λ behind. behind.extension_block.items
         ≡ ueb_text (record {
           needed_shares = geometry.now.needed;
@@ -85,9 +82,8 @@ pub(crate) fn finish(
 ) -> Result<Finished, AllocError>
     requires leaves { HaveLeaves leaves.now }
     requires all { All (λ share. HaveLeaves share.leaves.items) shares.items }
-    requires alike { All (λ share. length share.leaves.items ≡ length leaves.now) shares.items }
     requires count { length shares.items ≡ geometry.now.total }
-    requires groups { length wholes.items ≡ div_ceil geometry.now.total 8 }
+    requires groups { length wholes.items ≡ div_ceil geometry.now.total 7 }
     requires file { IsFile geometry.now.needed geometry.now.total geometry.now.size }
     requires segments { IsSegmentSize geometry.now.needed geometry.now.size
         geometry.now.segment_size }

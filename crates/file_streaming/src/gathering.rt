@@ -19,7 +19,7 @@ use crate::error::PrepareError;
 use aes_ctr::Aes128;
 use block_making::Encoder;
 use share_gathering::{
-    Group, ShareSoFar, WholeHashers, add_leaves, add_segments, begin_shares, begin_wholes,
+    Group, ShareSoFar, WholeHashers, add_leaves, add_segments_beside, begin_shares, begin_wholes,
     file_code, segments_at_once,
 };
 use share_layout::Geometry;
@@ -80,7 +80,7 @@ impl Gathering {
     fn begin(alloc: Global, geometry: &Geometry, key: KeyHasher) -> Result<Gathering, AllocError>
         ensures count { IfOk result (λ x. length x.shares.items ≡ geometry.now.total) }
         ensures wholes { IfOk result
-            (λ x. length x.wholes.items ≡ div_ceil geometry.now.total 8) }
+            (λ x. length x.wholes.items ≡ div_ceil geometry.now.total 7) }
         ensures begun { (secret : List ℕ) → HoldsFile key geometry.now.needed geometry.now.total
             geometry.now.segment_size secret []
             → IfOk result (HasGathered geometry.now (gathered_none geometry.now) secret []) }
@@ -111,7 +111,7 @@ impl Gathering {
         requires segments { length segments.old ≡ 8 * geometry.now.segment_size }
         requires lanes { length lanes.old ≡ 8 * (at_once geometry.now * block_size geometry.now) }
         requires shares { length self.old.shares.items ≡ geometry.now.total }
-        requires wholes { length self.old.wholes.items ≡ div_ceil geometry.now.total 8 }
+        requires wholes { length self.old.wholes.items ≡ div_ceil geometry.now.total 7 }
         ensures shares { OnOk result
             (length self.new.shares.items ≡ length self.old.shares.items) }
         ensures wholes { OnOk result
@@ -126,18 +126,20 @@ impl Gathering {
         let text = &mut segments[..group.len];
         self.key.update(text);
         encoder.cipher.xor_at(group.offset, text);
-        self.ciphertext.update(text);
         let count = group.count as usize;
         add_leaves(Tag::CiphertextSegment, text, size, count, &mut self.leaves)?;
         segments[group.len..].fill(0);
-        add_segments(
+        let padded: &[u8] = segments;
+        add_segments_beside(
             &encoder.code,
             geometry,
             group,
-            segments,
+            padded,
             lanes,
             &mut self.shares,
             &mut self.wholes,
+            &mut self.ciphertext,
+            &padded[..group.len],
         )?;
         Ok(())
     }
@@ -159,10 +161,10 @@ fn gather_group<S: Source>(
     requires segments { length segments.old ≡ 8 * geometry.now.segment_size }
     requires lanes { length lanes.old ≡ 8 * (at_once geometry.now * block_size geometry.now) }
     requires shares { length gathering.old.shares.items ≡ geometry.now.total }
-    requires wholes { length gathering.old.wholes.items ≡ div_ceil geometry.now.total 8 }
+    requires wholes { length gathering.old.wholes.items ≡ div_ceil geometry.now.total 7 }
     ensures shares { OnOk result (length gathering.new.shares.items ≡ geometry.now.total) }
     ensures wholes { OnOk result
-        (length gathering.new.wholes.items ≡ div_ceil geometry.now.total 8) }
+        (length gathering.new.wholes.items ≡ div_ceil geometry.now.total 7) }
     ensures gathered { OnOk result (IsGroupGathered S.gives source.old geometry.now
         encoder.now.cipher group gathering.old gathering.new source.new) }
     ensures ended { IsErrOf result PrepareError.SourceChanged

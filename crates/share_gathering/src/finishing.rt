@@ -170,23 +170,23 @@ pub(crate) fn spelled_length(layout: Layout, len: usize) -> ([u8; 8], usize)
     }
 }
 
-// Gives each share so many rows of 32 zero bytes.
-fn add_zeros(whole: &mut WholeHashers, rows: u32)
-    ensures { (j : ℕ) (given : List ℕ) → j < 8 → IsGivenAt whole.old j given
-        → IsGivenAt whole.new j (given ++ replicate (rows * 32) 0) }
+// Gives each share so many zero bytes.
+fn add_zeros(whole: &mut WholeHashers, len: usize)
+    ensures { (j : ℕ) (given : List ℕ) → j < 7 → IsGivenAt whole.old j given
+        → IsGivenAt whole.new j (given ++ replicate len 0) }
 {
-    for _row in 0..rows {
-        whole.update_all(&[0; 32]);
+    let zeros = [0; 4096];
+    for _part in 0..len / 4096 {
+        whole.update_all(&zeros);
     }
+    whole.update_all(&zeros[..len % 4096]);
 }
 
 // The nodes of the tree of a number, and those of the last tree in place of one that is missing.
 fn tree_bytes(trees: &[Tree], number: usize) -> &[u8]
     requires { 0 < length trees.now }
-    ensures value { number < length trees.now
+    ensures { number < length trees.now
         → result.now ≡ joined (tree_nodes (slice_index_or trees.now number [])) }
-    ensures long { (n : ℕ) → All (λ tree. length tree ≡ n) trees.now
-        → length result.now ≡ node_count n * 32 }
 {
     trees[number.min(trees.len() - 1)].nodes().as_flattened()
 }
@@ -194,10 +194,8 @@ fn tree_bytes(trees: &[Tree], number: usize) -> &[u8]
 // The nodes of eight trees from a number on.
 fn eight_trees(trees: &[Tree], first: usize) -> [&[u8]; 8]
     requires { first < length trees.now }
-    ensures values { (j : ℕ) → j < 8 → first + j < length trees.now
+    ensures { (j : ℕ) → j < 8 → first + j < length trees.now
         → text result j ≡ joined (tree_nodes (slice_index_or trees.now (first + j) [])) }
-    ensures long { (n : ℕ) → All (λ tree. length tree ≡ n) trees.now
-        → All (λ p. length p.now ≡ node_count n * 32) result }
 {
     [
         tree_bytes(trees, first),
@@ -214,9 +212,8 @@ fn eight_trees(trees: &[Tree], first: usize) -> [&[u8]; 8]
 // The hashes of a number, and the last in place of those that are missing.
 fn hashes_at(hashes: &[Vec<u8>], number: usize) -> &[u8]
     requires { 0 < length hashes.now }
-    ensures value { number < length hashes.now
+    ensures { number < length hashes.now
         → result.now ≡ slice_index_or (map (λ h. h.items) hashes.now) number [] }
-    ensures long { (n : ℕ) → All (λ h. length h.items ≡ n) hashes.now → length result.now ≡ n }
 {
     &hashes[number.min(hashes.len() - 1)]
 }
@@ -224,10 +221,8 @@ fn hashes_at(hashes: &[Vec<u8>], number: usize) -> &[u8]
 // Eight shares' hashes from a number on.
 fn eight_hashes(hashes: &[Vec<u8>], first: usize) -> [&[u8]; 8]
     requires { first < length hashes.now }
-    ensures values { (j : ℕ) → j < 8 → first + j < length hashes.now
+    ensures { (j : ℕ) → j < 8 → first + j < length hashes.now
         → text result j ≡ slice_index_or (map (λ h. h.items) hashes.now) (first + j) [] }
-    ensures long { (n : ℕ) → All (λ h. length h.items ≡ n) hashes.now
-        → All (λ p. length p.now ≡ n) result }
 {
     [
         hashes_at(hashes, first),
@@ -241,31 +236,25 @@ fn eight_hashes(hashes: &[Vec<u8>], first: usize) -> [&[u8]; 8]
     ]
 }
 
-// The digests of eight shares from a number on, whose headers and blocks the hashers were given.
-fn finish_eight(
+// The digests of seven shares from a number on, whose headers and blocks the hashers were given.
+fn finish_seven(
     geometry: &Geometry,
     mut whole: WholeHashers,
     behind: &Behind,
     first: usize,
-) -> [[u8; 32]; 8]
+) -> [[u8; 32]; 7]
     requires trees { first < length behind.now.block_trees.items }
     requires hashes { first < length behind.now.share_hashes.items }
-    requires alike { All (λ tree. length tree ≡ length behind.now.ciphertext_tree)
-        behind.now.block_trees.items }
-    requires long { All (λ h. length h.items ≡ hashes_length geometry.now.total)
-        behind.now.share_hashes.items }
     requires short { length behind.now.extension_block.items ≤ max_length }
-    ensures { (j : ℕ) (given : List ℕ) → j < 8 → first + j < length behind.now.block_trees.items
+    ensures { (j : ℕ) (given : List ℕ) → j < 7 → first + j < length behind.now.block_trees.items
         → first + j < length behind.now.share_hashes.items → IsGivenAt whole j given
         → slice_index_or result j []
         ≡ tagged_hash WholeShare (given ++ bytes_behind geometry.now behind.now (first + j)) }
 {
-    add_zeros(&mut whole, geometry.tree_size() / 32);
-    let tree = behind.ciphertext_tree.nodes().as_flattened();
-    whole.update_all(tree);
-    whole.update(&eight_trees(&behind.block_trees, first), tree.len());
-    let len = behind.share_hashes[first].len();
-    whole.update(&eight_hashes(&behind.share_hashes, first), len);
+    add_zeros(&mut whole, geometry.tree_size() as usize);
+    whole.update_all(behind.ciphertext_tree.nodes().as_flattened());
+    whole.update(&eight_trees(&behind.block_trees, first));
+    whole.update(&eight_hashes(&behind.share_hashes, first));
     let (length, width) = spelled_length(geometry.layout(), behind.extension_block.len());
     whole.update_all(&length[..width]);
     whole.update_all(&behind.extension_block);
@@ -281,12 +270,8 @@ pub fn finish_digests(
 ) -> Result<Vec<[u8; 32]>, AllocError>
     requires trees { length behind.now.block_trees.items ≡ geometry.now.total }
     requires hashes { length behind.now.share_hashes.items ≡ geometry.now.total }
-    requires alike { All (λ tree. length tree ≡ length behind.now.ciphertext_tree)
-        behind.now.block_trees.items }
-    requires long { All (λ h. length h.items ≡ hashes_length geometry.now.total)
-        behind.now.share_hashes.items }
     requires short { length behind.now.extension_block.items ≤ max_length }
-    requires groups { length wholes.items ≡ div_ceil geometry.now.total 8 }
+    requires groups { length wholes.items ≡ div_ceil geometry.now.total 7 }
     ensures { (written : ℕ → List ℕ) → AreGiven geometry.now.total written wholes.items
         → IfOk result (λ digests. digests.items ≡ map (λ i. tagged_hash WholeShare
         (written i ++ bytes_behind geometry.now behind.now i))
@@ -296,8 +281,8 @@ pub fn finish_digests(
     let mut digests = Vec::with_capacity(alloc, total)?;
     for whole in wholes {
         let first = digests.len();
-        let eight = finish_eight(geometry, whole, behind, first);
-        digests.extend_from_slice(&eight[..(total - first).min(8)])?;
+        let seven = finish_seven(geometry, whole, behind, first);
+        digests.extend_from_slice(&seven[..(total - first).min(7)])?;
     }
     Ok(digests)
 }

@@ -1,10 +1,12 @@
 //! What is gathered of each share while the segments of its file go by.
 
-ghost use Rattle.std.specs.Prelude.{◌≡◌, ◌+◌, ◌-◌, ◌*◌, ◌<◌, ◌≤◌, ◌++◌, ℕ, All, IfOk, OnOk};
+ghost use Rattle.std.specs.Prelude.{◌≡◌, ◌+◌, ◌-◌, ◌*◌, ◌<◌, ◌≤◌, ◌++◌, ℕ, List, IfOk, OnOk};
 ghost use Rattle.std.specs.Prelude.{drop, length, map, replicate, take};
 ghost use Rattle.std.specs.Int.{div_ceil};
 ghost use Rattle.sha2_lanes.specs.Lanes.{text};
 ghost use Rattle.tagged_hash.specs.TaggedHash.{tagged_hash};
+ghost use Rattle.tagged_hash.specs.TaggedHasher.{Holds};
+ghost use Rattle.tagged_hash.specs.declared.tag.Tag.{Tag};
 ghost use Rattle.share_layout.specs.Pieces.{pieces};
 ghost use Rattle.share_gathering.specs.Gathered.{Gathered, gathered_none};
 ghost use Rattle.share_gathering.specs.Groups.{IsGroup, gathered_group, row_of};
@@ -16,7 +18,7 @@ use crate::wholes::WholeHashers;
 use block_making::{encode_lane, lane_of};
 use share_layout::Geometry;
 use std::alloc::{AllocError, Global};
-use tagged_hash::{Tag, tagged_pieces};
+use tagged_hash::{Tag, TaggedHasher, tagged_pieces};
 use zfec_code::Code;
 
 /// What is gathered of a share alone: the leaves of its block tree.
@@ -59,21 +61,68 @@ pub fn add_segments(
         ≡ replicate (8 * geometry.now.segment_size - group.len) 0 }
     requires room { 8 * group.row ≤ length lanes.old }
     requires shares { length shares.old ≡ geometry.now.total }
-    requires wholes { length wholes.old ≡ div_ceil geometry.now.total 8 }
+    requires wholes { length wholes.old ≡ div_ceil geometry.now.total 7 }
     ensures shares { (s : Gathered) → HoldShares s shares.old → OnOk result (HoldShares
         (gathered_group geometry.now group (take group.len segments.now) s) shares.new) }
     ensures wholes { (s : Gathered) → AreGiven geometry.now.total s.written wholes.old
         → OnOk result (AreGiven geometry.now.total
         (gathered_group geometry.now group (take group.len segments.now) s).written wholes.new) }
 {
+    let mut nobody = TaggedHasher::new(Tag::WholeShare);
+    add_segments_beside(
+        code,
+        geometry,
+        group,
+        segments,
+        lanes,
+        shares,
+        wholes,
+        &mut nobody,
+        &[],
+    )
+}
+
+/// The same, and another hasher is given its text: it rides beside the whole shares, as far as
+/// there are such.
+pub fn add_segments_beside(
+    code: &Code,
+    geometry: &Geometry,
+    group: Group,
+    segments: &[u8],
+    lanes: &mut [u8],
+    shares: &mut [ShareSoFar],
+    wholes: &mut [WholeHashers],
+    other: &mut TaggedHasher,
+    beside: &[u8],
+) -> Result<(), AllocError>
+    requires group { IsGroup geometry.now group }
+    requires needed { code.now.k ≡ geometry.now.needed }
+    requires total { code.now.n ≡ geometry.now.total }
+    requires segments { length segments.now ≡ 8 * geometry.now.segment_size }
+    requires padding { drop group.len segments.now
+        ≡ replicate (8 * geometry.now.segment_size - group.len) 0 }
+    requires room { 8 * group.row ≤ length lanes.old }
+    requires shares { length shares.old ≡ geometry.now.total }
+    requires wholes { length wholes.old ≡ div_ceil geometry.now.total 7 }
+    ensures shares { (s : Gathered) → HoldShares s shares.old → OnOk result (HoldShares
+        (gathered_group geometry.now group (take group.len segments.now) s) shares.new) }
+    ensures wholes { (s : Gathered) → AreGiven geometry.now.total s.written wholes.old
+        → OnOk result (AreGiven geometry.now.total
+        (gathered_group geometry.now group (take group.len segments.now) s).written wholes.new) }
+    ensures other { (tag : Tag) (text : List ℕ) → Holds other.old tag text
+        → OnOk result (Holds other.new tag (text ++ beside.now)) }
+{
     let size = geometry.block_size() as usize;
-    for eight in 0..shares.len().div_ceil(8) {
-        let first = 8 * eight;
-        let end = shares.len().min(first + 8);
+    let mut given = 0;
+    for seven in 0..shares.len().div_ceil(7) {
+        let first = 7 * seven;
+        let end = shares.len().min(first + 7);
         encode_rows(code, geometry, group, segments, first, end - first, lanes);
         add_rows(lanes, group, size, &mut shares[first..end])?;
-        wholes[eight].update(&all_lanes(lanes, group.row), group.row);
+        let blocks = all_lanes(lanes, group.row);
+        given += wholes[seven].update_beside(&blocks, other, &beside[given..]);
     }
+    other.update(&beside[given..]);
     Ok(())
 }
 
@@ -190,8 +239,7 @@ pub fn add_leaves(
 // The blocks in eight lanes of `size` bytes.
 fn all_lanes(lanes: &[u8], size: usize) -> [&[u8]; 8]
     requires { 8 * size ≤ length lanes.now }
-    ensures long { All (λ p. length p.now ≡ size) result }
-    ensures blocks { (j : ℕ) → j < 8 → text result j ≡ take size (drop (j * size) lanes.now) }
+    ensures { (j : ℕ) → j < 8 → text result j ≡ take size (drop (j * size) lanes.now) }
 {
     [
         lane_of(lanes, size, 0),

@@ -1,125 +1,152 @@
-//! The digests of whole shares, whose bytes come in pieces: those of eight shares are made side by
-//! side.
+//! The digests of whole shares, whose bytes come in pieces: those of seven shares are made side by
+//! side, and another text may ride beside them.
 
-ghost use Rattle.std.specs.Prelude.{◌≡◌, ◌*◌, ◌<◌, ◌^◌, ◌++◌, ℕ, List, [], All, IfOk};
-ghost use Rattle.std.specs.Prelude.{length, slice_index_or};
+ghost use Rattle.std.specs.Prelude.{◌≡◌, ◌<◌, ◌≤◌, ◌++◌, ℕ, List, [], IfOk};
+ghost use Rattle.std.specs.Prelude.{length, slice_index_or, take};
 ghost use Rattle.std.specs.Int.{div_ceil};
 ghost use Rattle.sha2_lanes.specs.Lanes.{text};
 ghost use Rattle.tagged_hash.specs.TaggedHash.{tagged_hash};
+ghost use Rattle.tagged_hash.specs.TaggedHasher.{Holds, HoldsIn};
+ghost use Rattle.tagged_hash.specs.declared.tag.Tag.{Tag};
 ghost use Rattle.tagged_hash.specs.declared.tag.Tag.TheVariants.{WholeShare};
 ghost use Rattle.share_gathering.specs.Gathered.{gathered_none};
-ghost use Rattle.share_gathering.specs.Wholes.{AreGiven, IsGivenAlone, IsGivenAt};
+ghost use Rattle.share_gathering.specs.Wholes.{AreGiven, IsGivenAt};
 
 use share_layout::Geometry;
 use std::alloc::{AllocError, Global};
-use tagged_hash::{Tag, TaggedHasher, TaggedHashers};
+use std::mem;
+use tagged_hash::{Tag, TaggedHasher, update_eight};
 
-// Eight shares side by side take less time than so many one after the other.
-const WORTH_LANES: usize = 5;
-
-/// The hashers of at most eight shares, whose numbers follow one another: side by side, and where
-/// they are few one by one.
+/// The hashers of at most seven shares, whose numbers follow one another, each in its lane of
+/// eight. Another text may ride in the last.
 #[derive(Drop)]
-pub enum WholeHashers {
-    Eight(TaggedHashers),
-    Each(Vec<TaggedHasher>),
+pub struct WholeHashers {
+    hashers: [TaggedHasher; 8],
+    // How many shares there are.
+    count: usize,
 }
 
 impl WholeHashers {
-    // The hashers of the first eight of so many shares, which were given no byte yet.
-    fn new(alloc: Global, count: usize) -> Result<WholeHashers, AllocError>
-        ensures { IfOk result (λ x. (j : ℕ) → j < 8 → j < count → IsGivenAt x j []) }
+    // The hashers of so many shares, which were given no byte yet.
+    fn new(count: usize) -> WholeHashers
+        ensures { (j : ℕ) → j < 7 → j < count → IsGivenAt result j [] }
     {
-        if count < WORTH_LANES {
-            Ok(WholeHashers::Each(begin_each(alloc, count)?))
-        } else {
-            Ok(WholeHashers::Eight(TaggedHashers::new(Tag::WholeShare)))
+        WholeHashers {
+            hashers: [
+                TaggedHasher::new(Tag::WholeShare),
+                TaggedHasher::new(Tag::WholeShare),
+                TaggedHasher::new(Tag::WholeShare),
+                TaggedHasher::new(Tag::WholeShare),
+                TaggedHasher::new(Tag::WholeShare),
+                TaggedHasher::new(Tag::WholeShare),
+                TaggedHasher::new(Tag::WholeShare),
+                TaggedHasher::new(Tag::WholeShare),
+            ],
+            count,
         }
     }
 
-    /// Gives each share its piece, of `len` bytes.
-    pub(crate) fn update(&mut self, pieces: &[&[u8]; 8], len: usize)
-        requires len { len < 2 ^ 63 }
-        requires pieces { All (λ p. length p.now ≡ len) pieces.now }
-        ensures { (j : ℕ) (given : List ℕ) → j < 8 → IsGivenAt self.old j given
+    /// Gives each share its piece, and the lanes that are nobody's the others.
+    pub(crate) fn update(&mut self, pieces: &[&[u8]; 8])
+        ensures { (j : ℕ) (given : List ℕ) → j < 7 → IsGivenAt self.old j given
             → IsGivenAt self.new j (given ++ text pieces.now j) }
     {
-        match self {
-            WholeHashers::Eight(hashers) => hashers.update(pieces, len),
-            WholeHashers::Each(hashers) => update_each(hashers, pieces),
+        if self.count == 1 {
+            self.hashers[0].update(pieces[0]);
+        } else {
+            update_eight(&mut self.hashers, pieces);
         }
+    }
+
+    /// Gives each share its piece, and beside them another hasher the beginning of its text, as
+    /// long as the first piece. Says how much that is: one share alone has nothing beside it.
+    pub(crate) fn update_beside(
+        &mut self,
+        pieces: &[&[u8]; 8],
+        other: &mut TaggedHasher,
+        rest: &[u8],
+    ) -> usize
+        ensures shares { (j : ℕ) (given : List ℕ) → j < 7 → IsGivenAt self.old j given
+            → IsGivenAt self.new j (given ++ text pieces.now j) }
+        ensures within { result ≤ length rest.now }
+        ensures other { (tag : Tag) (given : List ℕ) → Holds other.old tag given
+            → Holds other.new tag (given ++ take result rest.now) }
+    {
+        let len = pieces[0].len().min(rest.len());
+        if len == 0 || self.count == 1 {
+            self.update(pieces);
+            return 0;
+        }
+        update_seven(&mut self.hashers, pieces, other, &rest[..len]);
+        len
     }
 
     /// Gives all shares the same bytes.
     pub(crate) fn update_all(&mut self, bytes: &[u8])
-        ensures { (j : ℕ) (given : List ℕ) → j < 8 → IsGivenAt self.old j given
+        ensures { (j : ℕ) (given : List ℕ) → j < 7 → IsGivenAt self.old j given
             → IsGivenAt self.new j (given ++ bytes.now) }
     {
-        self.update(&[bytes; 8], bytes.len());
+        self.update(&[bytes; 8]);
     }
 
-    /// The digests of the shares; zeros stand for those that are missing.
-    pub(crate) fn finish(self) -> [[u8; 32]; 8]
-        ensures { (j : ℕ) (given : List ℕ) → j < 8 → IsGivenAt self j given
+    /// The digests of the shares. What stands behind theirs is nobody's.
+    pub(crate) fn finish(self) -> [[u8; 32]; 7]
+        ensures { (j : ℕ) (given : List ℕ) → j < 7 → IsGivenAt self j given
             → slice_index_or result j [] ≡ tagged_hash WholeShare given }
     {
-        match self {
-            WholeHashers::Eight(hashers) => hashers.finish(),
-            WholeHashers::Each(hashers) => finish_each(hashers),
-        }
+        let [a, b, c, d, e, f, g, _last] = self.hashers;
+        [
+            a.finish(),
+            b.finish(),
+            c.finish(),
+            d.finish(),
+            e.finish(),
+            f.finish(),
+            g.finish(),
+        ]
     }
 }
 
-// So many hashers, which were given no byte yet.
-fn begin_each(alloc: Global, count: usize) -> Result<Vec<TaggedHasher>, AllocError>
-    ensures { IfOk result (λ x. (j : ℕ) → j < count → IsGivenAlone x.items j []) }
+// Gives seven hashers their pieces, and beside them another one its own, in the place of the last.
+fn update_seven(
+    hashers: &mut [TaggedHasher; 8],
+    pieces: &[&[u8]; 8],
+    other: &mut TaggedHasher,
+    piece: &[u8],
+)
+    ensures seven { (j : ℕ) (tag : Tag) (given : List ℕ) → j < 7 → HoldsIn hashers.old j tag given
+        → HoldsIn hashers.new j tag (given ++ text pieces.now j) }
+    ensures other { (tag : Tag) (given : List ℕ) → Holds other.old tag given
+        → Holds other.new tag (given ++ piece.now) }
 {
-    let mut hashers = Vec::with_capacity(alloc, count)?;
-    for _hasher in 0..count {
-        hashers.push(TaggedHasher::new(Tag::WholeShare))?;
-    }
-    Ok(hashers)
+    mem::swap(&mut hashers[7], other);
+    update_eight(hashers, &with_last(pieces, piece));
+    mem::swap(&mut hashers[7], other);
 }
 
-// Gives each of the hashers its piece.
-fn update_each(hashers: &mut [TaggedHasher], pieces: &[&[u8]; 8])
-    ensures { (j : ℕ) (given : List ℕ) → j < 8 → IsGivenAlone hashers.old j given
-        → IsGivenAlone hashers.new j (given ++ text pieces.now j) }
+// The pieces with another one in the last lane.
+fn with_last<'a>(pieces: &[&'a [u8]; 8], last: &'a [u8]) -> [&'a [u8]; 8]
+    ensures others { (j : ℕ) → j < 7 → text result j ≡ text pieces.now j }
+    ensures last { text result 7 ≡ last.now }
 {
-    for j in 0..hashers.len().min(8) {
-        hashers[j].update(pieces[j]);
-    }
-}
-
-// The digests of at most eight hashers.
-fn finish_each(hashers: Vec<TaggedHasher>) -> [[u8; 32]; 8]
-    ensures { (j : ℕ) (given : List ℕ) → j < 8 → IsGivenAlone hashers.items j given
-        → slice_index_or result j [] ≡ tagged_hash WholeShare given }
-{
-    let mut digests = [[0; 32]; 8];
-    let mut count = 0;
-    for hasher in hashers {
-        if count < 8 {
-            digests[count] = hasher.finish();
-            count += 1;
-        }
-    }
-    digests
+    [
+        pieces[0], pieces[1], pieces[2], pieces[3], pieces[4], pieces[5], pieces[6], last,
+    ]
 }
 
 /// The hashers of all shares of a file, which were given the header of each.
 pub fn begin_wholes(alloc: Global, geometry: &Geometry) -> Result<Vec<WholeHashers>, AllocError>
-    ensures count { IfOk result (λ wholes. length wholes.items ≡ div_ceil geometry.now.total 8) }
+    ensures count { IfOk result (λ wholes. length wholes.items ≡ div_ceil geometry.now.total 7) }
     ensures begun { IfOk result (λ wholes. AreGiven geometry.now.total
         (gathered_none geometry.now).written wholes.items) }
 {
     let total = usize::from(geometry.total());
     let mut header = [0; 68];
     let length = geometry.header(&mut header);
-    let groups = total.div_ceil(8);
+    let groups = total.div_ceil(7);
     let mut wholes = Vec::with_capacity(alloc, groups)?;
     for group in 0..groups {
-        let mut whole = WholeHashers::new(alloc, total - 8 * group)?;
+        let mut whole = WholeHashers::new(total - 7 * group);
         whole.update_all(&header[..length]);
         wholes.push(whole)?;
     }

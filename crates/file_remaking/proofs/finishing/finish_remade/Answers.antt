@@ -11,12 +11,12 @@ use Rattle.share_layout.specs.Geometry.{Geometry, with_padding}
 use Rattle.share_verify.specs.CapBlock.{geometry_by}
 use Rattle.file_encoding.specs.Encoding.{share_hashes}
 use Rattle.block_making.proofs.MadeBlocks.{other_hash}
-use Rattle.share_gathering.specs.Finishing.{HaveLeaves, bytes_behind, hashes_length}
+use Rattle.share_gathering.specs.Finishing.{HaveLeaves, bytes_behind}
 use Rattle.file_remaking.specs.Remaking.{IsRemaking}
 use Rattle.share_gathering.specs.Wholes.{AreGiven}
 use Rattle.share_gathering.specs.declared.finishing.Behind.{Behind}
 use Rattle.file_remaking.specs.declared.remaking.Remaking.{Remaking}
-use Rattle.file_remaking.proofs.RemadeEnd.{all_alike, all_fit, block_leaves_are, digests_are, gathered_padded, leaves_are, leaves_fit, roots_are}
+use Rattle.file_remaking.proofs.RemadeEnd.{all_fit, block_leaves_are, digests_are, gathered_padded, leaves_are, leaves_fit, roots_are}
 use Rattle.file_remaking.proofs.finishing.finish_remade.Goals as goal
 
 pub build_trees-requires-clause-leaves : goal.build_trees-requires-clause-leaves
@@ -61,17 +61,6 @@ pub finish_digests-requires-clause-hashes : goal.finish_digests-requires-clause-
 finish_digests-requires-clause-hashes c =
     sym (length-map c.in_ok-share_hashes.share_hashes.items (λ (h : _). h.items)) ∙ ap length c.in_ok-share_hashes.ensures.value
     ∙ length-map-range_with_len (share_hashes c.in_ok-trees.trees.shares) 0 c.total.result ∙ c.total.ensures.value
-
-pub finish_digests-requires-clause-alike : goal.finish_digests-requires-clause-alike
-finish_digests-requires-clause-alike c =
-    let u : Contents = c.args.ueb.now in
-    let text : List ℕ = c.requires.text.0 in
-    let is : IsRemaking (with_padding (geometry_by u)) u.size text c.args.remaking = subst (λ (g : Geometry). IsRemaking g u.size text c.args.remaking) c.requires.geometry c.requires.text.1 in
-    all_alike u c.requires.valid text c.args.remaking is c.in_ok-trees.trees.blocks.items c.in_ok-trees.trees.ciphertext c.in_ok-trees.ensures.blocks
-    (c.in_ok-trees.ensures.ciphertext ∙ c.deref.ensures.value)
-
-pub finish_digests-requires-clause-long : goal.finish_digests-requires-clause-long
-finish_digests-requires-clause-long c = λ k d low. c.in_ok-share_hashes.ensures.long k d low ∙ ap hashes_length c.total.ensures.value
 
 pub returns-clause-finished : goal.returns-clause-finished
 returns-clause-finished c = λ text held.

@@ -9,7 +9,7 @@ abbrev pub invariant-loop-number : goal.invariant-loop-number
 invariant-loop-number g l = record {
   to : IsRemadeTo g.S.Source.gives l.fn.source l.geometry l.size (min (at_once l.geometry * l.number) (segment_count l.geometry)) l.remaking l.source;
   shares : length l.remaking.shares.items ≡ l.geometry.total;
-  wholes : length l.remaking.wholes.items ≡ div_ceil l.geometry.total 8;
+  wholes : length l.remaking.wholes.items ≡ div_ceil l.geometry.total 7;
   size : g.S.Source.size l.source ≡ g.S.Source.size l.fn.source;
   failures : g.S.Source.failures l.source ≡ g.S.Source.failures l.fn.source;
 }

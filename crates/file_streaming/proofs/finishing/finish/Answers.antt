@@ -1,8 +1,7 @@
-use Rattle.std.proofs.Common.{◌≡◌, ℕ, ◌<◌, List, get_or, length, map, ap, sym, ◌∙◌, arith}
+use Rattle.std.proofs.Common.{◌≡◌, ℕ, List, length, map, ap, sym, ◌∙◌}
 use Rattle.std.specs.List.{range_with_len}
-use Rattle.std.proofs.lemmas.List.{get_or-map, length-map}
+use Rattle.std.proofs.lemmas.List.{length-map}
 use Rattle.std.proofs.lemmas.List.FromFn.{length-map-range_with_len}
-use Rattle.lemmas.proofs.Positions.{get_of}
 use Rattle.merkle.specs.Tree.{tree_root}
 use Rattle.tagged_hash.specs.TaggedHash.{tagged_hash}
 use Rattle.tagged_hash.specs.declared.tag.Tag.TheVariants.{Ciphertext}
@@ -14,7 +13,6 @@ use Rattle.proved_parts.specs.FileOf.{segment_hashes}
 use Rattle.file_encoding.specs.Encoding.{blocks_of, share_hashes, share_leaves}
 use Rattle.share_gathering.specs.declared.finishing.Behind.{Behind}
 use Rattle.share_gathering.specs.declared.finishing.Trees.{Trees}
-use Rattle.share_gathering.specs.declared.shares.ShareSoFar.{ShareSoFar}
 use Rattle.file_streaming.proofs.Digests.{block_leaves_are, digests_are, roots_are}
 use Rattle.file_streaming.proofs.finishing.finish.Goals as goal
 
@@ -23,16 +21,6 @@ finish_digests-requires-clause-hashes c =
     let g : Geometry = c.args.geometry.now in
     sym (length-map c.in_ok-behind.behind.share_hashes.items (λ (h : _). h.items)) ∙ ap length c.in_ok-behind.ensures.hashes
     ∙ length-map-range_with_len (share_hashes c.in_ok-trees.trees.shares) 0 g.total
-
-pub finish_digests-requires-clause-alike : goal.finish_digests-requires-clause-alike
-finish_digests-requires-clause-alike c = λ k d low.
-    let shares : List ShareSoFar = c.args.shares.items in
-    let leaves_of : ShareSoFar → List (List ℕ) = λ share. share.leaves.items in
-    let trees = c.in_ok-behind.ensures.blocks ∙ c.in_ok-trees.ensures.blocks in
-    let within : k < length shares = omega (arith, low, ap length trees, length-map shares leaves_of) in
-    let share : ShareSoFar = (get_of shares k within).0 in
-    ap (λ (l : List (List (List ℕ))). length (get_or l k d)) trees ∙ ap length (get_or-map leaves_of shares k share d within) ∙ c.requires.alike k share within
-    ∙ sym (ap length (c.in_ok-behind.ensures.ciphertext ∙ c.in_ok-trees.ensures.ciphertext))
 
 pub returns : goal.returns
 returns c = λ text s is whole leaves held given.

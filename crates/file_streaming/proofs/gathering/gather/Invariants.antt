@@ -9,7 +9,7 @@ abbrev pub invariant-loop-number : goal.invariant-loop-number
 invariant-loop-number g l = record {
   to : IsGatheredTo g.S.Source.gives l.fn.source l.geometry l.encoder.cipher l.fn.hasher (min (at_once l.geometry * l.number) (segment_count l.geometry)) l.gathering l.source;
   shares : length l.gathering.shares.items ≡ l.geometry.total;
-  wholes : length l.gathering.wholes.items ≡ div_ceil l.geometry.total 8;
+  wholes : length l.gathering.wholes.items ≡ div_ceil l.geometry.total 7;
   size : g.S.Source.size l.source ≡ g.S.Source.size l.fn.source;
   failures : g.S.Source.failures l.source ≡ g.S.Source.failures l.fn.source;
 }

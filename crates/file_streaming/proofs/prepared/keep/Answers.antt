@@ -1,4 +1,4 @@
-use Rattle.std.proofs.Common.{◌≡◌, ℕ, List, All, length, ap, sym, subst, ◌∙◌}
+use Rattle.std.proofs.Common.{ℕ, List, ap, sym, subst, ◌∙◌}
 use Rattle.aes_ctr.specs.CounterMode.{xored}
 use Rattle.tagged_hash.specs.TaggedHash.{tagged_hash}
 use Rattle.tagged_hash.specs.declared.tag.Tag.TheVariants.{ExtensionBlock}
@@ -9,7 +9,7 @@ use Rattle.file_streaming.specs.Finishing.{IsFinished}
 use Rattle.file_streaming.specs.Passes.{IsPassOf, gathered_of}
 use Rattle.share_gathering.specs.declared.finishing.Finished.{Finished}
 use Rattle.file_streaming.specs.declared.passes.Passes.{Passes}
-use Rattle.file_streaming.proofs.Keeping.{all_alike, all_fit, gathered_is, kept_is, kept_too, leaves_fit}
+use Rattle.file_streaming.proofs.Keeping.{all_fit, gathered_is, kept_is, kept_too, leaves_fit}
 use Rattle.file_streaming.proofs.prepared.keep.Goals as goal
 
 pub finish-requires-clause-leaves : goal.finish-requires-clause-leaves
@@ -21,13 +21,6 @@ pub finish-requires-clause-all : goal.finish-requires-clause-all
 finish-requires-clause-all c =
     let shape : IsShape c.args.geometry.needed c.args.geometry.total c.args.geometry.size c.args.geometry.segment_size = record { file = c.requires.file; segments = c.requires.segments } in
     all_fit c.args.geometry c.requires.some.0 c.args.passes c.requires.some.1 shape
-
-pub finish-requires-clause-alike : goal.finish-requires-clause-alike
-finish-requires-clause-alike c =
-    let shape : IsShape c.args.geometry.needed c.args.geometry.total c.args.geometry.size c.args.geometry.segment_size = record { file = c.requires.file; segments = c.requires.segments } in
-    let p : Passes = c.args.passes in
-    subst (λ (leaves : List (List ℕ)). All (λ share. length share.leaves.items ≡ length leaves) p.shares.items) (sym c.deref.ensures.value)
-    (all_alike c.args.geometry c.requires.some.0 p c.requires.some.1 shape)
 
 pub invariant_of-kept : goal.invariant_of-kept
 invariant_of-kept c =

@@ -2,5 +2,5 @@ use Rattle.std.proofs.Common.{ℕ, ◌*◌, ◌<◌, List, ◌++◌, replicate}
 use Rattle.share_gathering.specs.Wholes.{IsGivenAt}
 use Rattle.share_gathering.proofs.finishing.add_zeros.Given as goal
 
-abbrev pub invariant-loop-row : goal.invariant-loop-row
-invariant-loop-row l = (j : ℕ) (given : List ℕ) → j < 8 → IsGivenAt l.initial.whole j given → IsGivenAt l.whole j (given ++ replicate (l._row * 32) 0)
+abbrev pub invariant-loop-part : goal.invariant-loop-part
+invariant-loop-part l = (j : ℕ) (given : List ℕ) → j < 7 → IsGivenAt l.initial.whole j given → IsGivenAt l.whole j (given ++ replicate (l._part * 4096) 0)

@@ -13,20 +13,20 @@ use Rattle.share_gathering.specs.Finishing.{bytes_behind}
 use Rattle.share_gathering.specs.declared.wholes.WholeHashers.{WholeHashers}
 use Rattle.share_gathering.proofs.finishing.finish_digests.Goals as goal
 
--- eight digests more, or those that are left
-more-at : (f : ℕ → List ℕ) (digests eight : List (List ℕ)) (n : ℕ) → n ≤ length eight
+-- some digests more, or those that are left
+more-at : (f : ℕ → List ℕ) (digests some : List (List ℕ)) (n : ℕ) → n ≤ length some
     → ((i : ℕ) → i < length digests → slice_index_or digests i [] ≡ f i)
-    → ((j : ℕ) → j < n → slice_index_or eight j [] ≡ f (length digests + j))
-    → (i : ℕ) → i < length (digests ++ take n eight) → slice_index_or (digests ++ take n eight) i [] ≡ f i
-more-at f digests eight n fits made new i low =
-    let long = length-append digests (take n eight) in
-    let part = length-take-le n eight fits in
+    → ((j : ℕ) → j < n → slice_index_or some j [] ≡ f (length digests + j))
+    → (i : ℕ) → i < length (digests ++ take n some) → slice_index_or (digests ++ take n some) i [] ≡ f i
+more-at f digests some n fits made new i low =
+    let long = length-append digests (take n some) in
+    let part = length-take-le n some fits in
     elim (cases_lt i (length digests)) [
-      | inl before ↦ get_or_append_left digests (take n eight) [] i before ∙ made i before
+      | inl before ↦ get_or_append_left digests (take n some) [] i before ∙ made i before
       | inr after ↦ (let j : ℕ = i - length digests in
           let below : j < n = omega (arith, after, low, long, part) in
           let here : length digests + j ≡ i = omega (arith, after) in
-          get_or-append_right digests (take n eight) (length digests) i [] refl after ∙ get_or-take n eight j [] below ∙ new j below ∙ ap f here)
+          get_or-append_right digests (take n some) (length digests) i [] refl after ∙ get_or-take n some j [] below ∙ new j below ∙ ap f here)
     ]
 
 pub loop-whole-preserved : goal.loop-whole-preserved
@@ -38,26 +38,26 @@ loop-whole-preserved c =
     let gives = c.into_iter-whole-iterator.ensures.into_iter_gives in
     let turn = YieldsList-turn (YieldsList-from_vec {s = c.into_iter-whole-iterator.result} wholes gives.0 (omega (arith, gives.1, c.args.wholes.ok.0))) gone c.loop-whole.whole-iterator c.loop-whole.yielded_by c.next.result c.next.new.self c.in-Some.whole c.in-Some.is c.next.ensures.steps in
     let here : slice_get wholes (length gone) ≡ Some c.in-Some.whole = got wholes (length gone) c.in-Some.whole turn.0 turn.1 in
-    let groups = div_ceil_times total 8 (omega arith) in
-    let left : 8 * length gone < total = omega (arith, turn.0, c.requires.groups, groups.1) in
-    let first : length digests ≡ 8 * length gone = omega (arith, c.loop-whole.invariant.count, left) in
+    let groups = div_ceil_times total 7 (omega arith) in
+    let left : 7 * length gone < total = omega (arith, turn.0, c.requires.groups, groups.1) in
+    let first : length digests ≡ 7 * length gone = omega (arith, c.loop-whole.invariant.count, left) in
     let number : c.len-first.result ≡ length digests = omega (arith, c.len-first.ensures, c.loop-whole.digests.ok.0) in
     let one : length (gone ++ c.in-Some.whole ∷ []) ≡ length gone + 1 = length_push gone c.in-Some.whole in
-    let eight : List (List ℕ) = c.finish_eight-eight.result in
+    let some : List (List ℕ) = c.finish_seven-seven.result in
     let n : ℕ = c.min.result in
-    let fits : n ≤ length eight = omega (arith, c.min.ensures) in
+    let fits : n ≤ length some = omega (arith, c.min.ensures) in
     let items = c.in_ok-extend_from_slice.ensures.items in
-    let many : n ≡ min (total - length digests) 8 = omega (arith, c.min.ensures, number, c.from-total.ensures, c.total.ensures.value) in
+    let many : n ≡ min (total - length digests) 7 = omega (arith, c.min.ensures, number, c.from-total.ensures, c.total.ensures.value) in
     record {
-      count = omega (arith, ap length items, length-append digests (take n eight), length-take-le n eight fits, many, first, one, left);
+      count = omega (arith, ap length items, length-append digests (take n some), length-take-le n some fits, many, first, one, left);
       made = λ written given.
           let f : ℕ → List ℕ = λ i. tagged_hash WholeShare (written i ++ bytes_behind c.args.geometry.now c.args.behind.now i) in
           subst (λ (l : List (List ℕ)). (i : ℕ) → i < length l → slice_index_or l i [] ≡ f i) (sym items)
-          (more-at f digests eight n fits (c.loop-whole.invariant.made written given)
+          (more-at f digests some n fits (c.loop-whole.invariant.made written given)
           (λ j below.
-          let low : j < 8 = omega (arith, below, many) in
-          let within : 8 * length gone + j < total = omega (arith, below, many, first, left) in
-          c.finish_eight-eight.ensures j (written (8 * length gone + j)) low (omega (arith, within, number, first, c.requires.trees)) (omega (arith, within, number, first, c.requires.hashes))
+          let low : j < 7 = omega (arith, below, many) in
+          let within : 7 * length gone + j < total = omega (arith, below, many, first, left) in
+          c.finish_seven-seven.ensures j (written (7 * length gone + j)) low (omega (arith, within, number, first, c.requires.trees)) (omega (arith, within, number, first, c.requires.hashes))
           (given (length gone) j c.in-Some.whole low within here)
           ∙ λ p. tagged_hash WholeShare (written (sym first p + j) ++ bytes_behind c.args.geometry.now c.args.behind.now (number p + j))));
     }
@@ -68,7 +68,7 @@ returns c = λ written given.
     let total : ℕ = c.args.geometry.now.total in
     let gives = c.into_iter-whole-iterator.ensures.into_iter_gives in
     let end = YieldsList-end (YieldsList-from_vec {s = c.into_iter-whole-iterator.result} wholes gives.0 (omega (arith, gives.1, c.args.wholes.ok.0))) c.loop-whole.yielded c.loop-whole.whole-iterator c.loop-whole.yielded_by c.next.result c.next.new.self c.in-None.is c.next.ensures.steps in
-    let groups = div_ceil_times total 8 (omega arith) in
+    let groups = div_ceil_times total 7 (omega arith) in
     let all : length c.loop-whole.digests.items ≡ total = omega (arith, c.loop-whole.invariant.count, end.1, c.requires.groups, groups.0) in
     fill_by_all (λ i. tagged_hash WholeShare (written i ++ bytes_behind c.args.geometry.now c.args.behind.now i)) c.loop-whole.digests.items total [] all
     (λ i low. c.loop-whole.invariant.made written given i (omega (arith, low, all)))

@@ -7,7 +7,7 @@ use Rattle.share_gathering.proofs.finishing.finish_digests.Given as goal
 
 abbrev pub invariant-loop-whole : goal.invariant-loop-whole
 invariant-loop-whole l = record {
-  count : length l.digests.items ≡ min (8 * length l.yielded) l.geometry.total;
+  count : length l.digests.items ≡ min (7 * length l.yielded) l.geometry.total;
   made : (written : ℕ → List ℕ) → AreGiven l.geometry.total written l.fn.wholes.items → (i : ℕ) → i < length l.digests.items
       → slice_index_or l.digests.items i [] ≡ tagged_hash WholeShare (written i ++ bytes_behind l.geometry l.behind i);
 }

@@ -15,5 +15,5 @@ loop-group-preserved c =
           subst (AreGiven total (λ i. bytes)) (sym c.in_ok-push.ensures.items)
           (given-push total (λ i. bytes) c.loop-group.wholes.items c.update_all.new.self c.loop-group.invariant.held
           (λ j low within. subst (IsGivenAt c.update_all.new.self j) c.header-length.ensures.header
-          (c.update_all.ensures j [] low (c.in_ok-whole.ensures j low (omega (arith, within, c.loop-group.invariant.count))))));
+          (c.update_all.ensures j [] low (c.new-whole.ensures j low (omega (arith, within, c.loop-group.invariant.count))))));
     }

@@ -58,8 +58,20 @@ slice_bounds-fill-start c =
 pub add_leaves-requires : goal.add_leaves-requires
 add_leaves-requires c = (has_offset c.args.geometry.now c.args.group 0 c.requires.group (has_first c.args.geometry.now c.args.group c.requires.group)).few
 
-pub add_segments-requires-clause-room : goal.add_segments-requires-clause-room
-add_segments-requires-clause-room c = omega (arith, row-room c.args.geometry.now c.args.group c.requires.group, c.requires.lanes)
+pub add_segments_beside-requires-clause-room : goal.add_segments_beside-requires-clause-room
+add_segments_beside-requires-clause-room c = omega (arith, row-room c.args.geometry.now c.args.group c.requires.group, c.requires.lanes)
+
+pub slice_bounds-add_segments_beside-end : goal.slice_bounds-add_segments_beside-end
+slice_bounds-add_segments_beside-end c =
+    let len : ℕ = c.args.group.len in
+    let at = has_offset c.args.geometry.now c.args.group 0 c.requires.group (has_first c.args.geometry.now c.args.group c.requires.group) in
+    let all : List ℕ = c.xor_at.new.text ++ drop len c.args.segments.now in
+    let rest : List ℕ = c.fill.new.self ++ drop (length all - len) (drop len all) in
+    let written : length c.xor_at.new.text ≡ len =
+    ap length c.xor_at.ensures ∙ length-xored_from c.args.encoder.now.cipher c.args.group.offset (take len c.args.segments.now)
+    ∙ length-take-le len c.args.segments.now (omega (arith, at.fits, c.requires.segments)) in
+    let front : length (take len all) ≡ len = length-take-le len all (omega (arith, length-append c.xor_at.new.text (drop len c.args.segments.now), written)) in
+    sym (length-take-le len (take len all ++ rest) (omega (arith, length-append (take len all) rest, front)))
 
 pub returns-clause-gathered : goal.returns-clause-gathered
 returns-clause-gathered c = λ s secret file has.
@@ -80,24 +92,24 @@ returns-clause-gathered c = λ s secret file has.
     let kept : take len buffer ≡ encrypted =
     take_at (take len all) (c.fill.new.self ++ drop (length all - len) (drop len all)) len (ap length front ∙ ap length same ∙ long) ∙ front ∙ same in
     let size : c.segment_size-size.result ≡ g.segment_size = c.segment_size-size.ensures.value in
-    let new : List ShareSoFar = c.add_segments.new.shares in
-    let new_wholes : List WholeHashers = c.add_segments.new.wholes in
+    let new : List ShareSoFar = c.add_segments_beside.new.shares in
+    let new_wholes : List WholeHashers = c.add_segments_beside.new.wholes in
     let own : c.deref_mut.result.now ≡ c.args.self.now.shares.items = c.deref_mut.ensures.value in
     let own_wholes : c.deref_mut-2.result.now ≡ c.args.self.now.wholes.items = c.deref_mut-2.ensures.value in
-    let count : length new ≡ length c.args.self.now.shares.items = c.add_segments.auto.shares ∙ ap length own in
-    let count_wholes : length new_wholes ≡ length c.args.self.now.wholes.items = c.add_segments.auto.wholes ∙ ap length own_wholes in
+    let count : length new ≡ length c.args.self.now.shares.items = c.add_segments_beside.auto.shares ∙ ap length own in
+    let count_wholes : length new_wholes ≡ length c.args.self.now.wholes.items = c.add_segments_beside.auto.wholes ∙ ap length own_wholes in
     let put : (with_items c.args.self.now.shares new).items ≡ new = with_items_is c.args.self.now.shares new (omega (arith, count, c.args.self.now.shares.ok.0)) in
     let put_wholes : (with_items c.args.self.now.wholes new_wholes).items ≡ new_wholes =
     with_items_is c.args.self.now.wholes new_wholes (omega (arith, count_wholes, c.args.self.now.wholes.ok.0)) in
     let shares : HoldShares (gathered_group g group encrypted s) new =
     subst (λ (t : List ℕ). HoldShares (gathered_group g group t s) new) kept
-    (c.in_ok-add_segments.ensures.shares s (subst (λ (l : List ShareSoFar). HoldShares s l) (sym own) has.shares)) in
+    (c.in_ok-add_segments_beside.ensures.shares s (subst (λ (l : List ShareSoFar). HoldShares s l) (sym own) has.shares)) in
     let wholes : AreGiven g.total (gathered_group g group encrypted s).written new_wholes =
     subst (λ (t : List ℕ). AreGiven g.total (gathered_group g group t s).written new_wholes) kept
-    (c.in_ok-add_segments.ensures.wholes s (subst (λ (l : List WholeHashers). AreGiven g.total s.written l) (sym own_wholes) has.wholes)) in
+    (c.in_ok-add_segments_beside.ensures.wholes s (subst (λ (l : List WholeHashers). AreGiven g.total s.written l) (sym own_wholes) has.wholes)) in
     gathered-parts g group s secret file text encrypted c.args.self.now _ has (omega (arith, long, at.whole))
     (c.update.ensures g.needed g.total g.segment_size secret file has.key)
-    (subst (λ (e : List ℕ). Holds c.update-2.new.self Ciphertext (s.ciphertext ++ e)) same (c.update-2.ensures Ciphertext s.ciphertext has.ciphertext))
+    (subst (λ (e : List ℕ). Holds c.add_segments_beside.new.other Ciphertext (s.ciphertext ++ e)) kept (c.in_ok-add_segments_beside.ensures.other Ciphertext s.ciphertext has.ciphertext))
     (c.in_ok-add_leaves.ensures ∙ λ p. c.args.self.now.leaves.items ++ segment_hashes (pieces group.count (size p) (same p)))
     (ap length put ∙ count ∙ has.count)
     (subst (λ (l : List ShareSoFar). HoldShares (gathered_group g group encrypted s) l) (sym put) shares)
