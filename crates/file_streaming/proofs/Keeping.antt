@@ -116,7 +116,7 @@ module _ (g : Geometry) (file : List ℕ) (p : Passes) (pass : IsPassOf g file p
       pub kept_too : IsKept (kept_with g e.cipher f.behind.extension_block.items f.behind.ciphertext_tree f.behind.block_trees.items f.digests.items)
           (map (λ (h : _). h.items) f.behind.share_hashes.items) e p.buffers
       kept_too =
-          let own = lengths g text shape long 0 shape_some (ueb_text (extension_block_contents g text (segments_of g text))) (written g text shape long).short in
+          let own = lengths g text geometry_is long 0 shape_some (ueb_text (extension_block_contents g text (segments_of g text))) (written g text shape long).short in
           record {
             bytes = file;
             of = record {
@@ -124,7 +124,7 @@ module _ (g : Geometry) (file : List ℕ) (p : Passes) (pass : IsPassOf g file p
               block_leaves = is.block_leaves
                   ∙ λ i. map (λ j. block_hashes (blocks_of g.needed j (segments_of g (ciphertext_from (sym key_is i) 0 file)))) (range_with_len 0 g.total);
             };
-            shape = shape;
+            valid = geometry_is;
             tree = ap (λ (l : List (List ℕ)). length (joined (tree_nodes l))) is.leaves ∙ own.ciphertext_tree;
             short = subst (λ (b : List ℕ). length b ≤ max_length) (sym is.extension_block) (written g text shape long).short;
             digests = ap length is.digests ∙ length-map-range_with_len (λ i. share_digest (share_of g (segments_of g text) f.behind.extension_block.items i)) 0 g.total;

@@ -2,7 +2,7 @@
 
 ghost use Rattle.std.specs.Prelude.{◌≡◌, ◌⊎◌, ◌<◌, ◌≤◌, length, IfOk, IfErr, IsErrOf};
 ghost use Rattle.cap_text.specs.Cap.{read_cap_value};
-ghost use Rattle.ueb.specs.Limits.{max_file_size, max_length, min_file_size};
+ghost use Rattle.ueb.specs.Limits.{max_file_size, max_length};
 ghost use Rattle.ueb.specs.Shape.{IsFile, IsSegmentSize};
 ghost use Rattle.ueb.specs.Block.{ueb_text};
 ghost use Rattle.share_layout.specs.Geometry.{geometry_of};
@@ -76,7 +76,7 @@ pub(crate) fn write_extension_block(
 
 /// The cap of a file.
 pub(crate) fn file_cap(geometry: &Geometry, key: [u8; 16], ueb_hash: [u8; 32]) -> ReadCap
-    requires { min_file_size ≤ geometry.now.size }
+    requires { IsFile geometry.now.needed geometry.now.total geometry.now.size }
     ensures { result ≡ read_cap_value key ueb_hash geometry.now.needed geometry.now.total
         geometry.now.size }
 {

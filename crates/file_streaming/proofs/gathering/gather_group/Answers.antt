@@ -4,6 +4,7 @@ use Rattle.aes_ctr.specs.CounterMode.{xored_from}
 use Rattle.file_streaming.specs.Gathering.{HasGathered}
 use Rattle.share_gathering.specs.Groups.{gathered_group}
 use Rattle.block_making.proofs.ReadRuns.{ended-wider}
+use Rattle.share_layout.proofs.GeometryLemmas.{size_low}
 use Rattle.share_gathering.proofs.GroupSteps.{has_first, has_offset}
 use Rattle.file_streaming.proofs.SecondPass.{ended_fault}
 use Rattle.file_streaming.proofs.gathering.gather_group.Goals as goal
@@ -17,6 +18,11 @@ pub slice_bounds-read_part-end-2 : goal.slice_bounds-read_part-end-2
 slice_bounds-read_part-end-2 g c =
     let at = has_offset c.args.geometry.now c.args.group 0 c.requires.group (has_first c.args.geometry.now c.args.group c.requires.group) in
     sym (length-take-le c.args.group.len c.args.segments.now (omega (arith, at.fits, c.requires.segments)))
+
+pub read_part-requires : goal.read_part-requires
+read_part-requires g c =
+    let at = has_offset c.args.geometry.now c.args.group 0 c.requires.group (has_first c.args.geometry.now c.args.group c.requires.group) in
+    omega (arith, at.file, size_low c.args.geometry.now c.requires.group.valid, length-take c.args.group.len c.args.segments.now)
 
 pub returns-in_err-read_part-clause-ended : goal.returns-in_err-read_part-clause-ended
 returns-in_err-read_part-clause-ended g c = λ e.

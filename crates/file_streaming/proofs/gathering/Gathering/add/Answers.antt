@@ -1,5 +1,5 @@
 use Rattle.std.proofs.Common.{◌≡◌, ◌-◌, ℕ, List, ◌++◌, length, take, drop, ap, subst, sym, ◌∙◌, arith}
-use Rattle.std.proofs.lemmas.List.{length-append, length-take-le, take_at}
+use Rattle.std.proofs.lemmas.List.{length-append, length-take, length-take-le, take_at}
 use Rattle.std.proofs.lemmas.List.{with_items_is}
 use Rattle.std.specs.Vec.{with_items}
 use Rattle.aes_ctr.specs.CounterMode.{xored_from}
@@ -16,6 +16,7 @@ use Rattle.share_gathering.specs.Wholes.{AreGiven}
 use Rattle.share_gathering.specs.declared.groups.Group.{Group}
 use Rattle.share_gathering.specs.declared.shares.ShareSoFar.{ShareSoFar}
 use Rattle.share_gathering.specs.declared.wholes.WholeHashers.{WholeHashers}
+use Rattle.share_layout.proofs.GeometryLemmas.{size_low}
 use Rattle.share_gathering.proofs.GroupSteps.{has_first, has_offset}
 use Rattle.share_gathering.proofs.Rows.{row-room}
 use Rattle.file_streaming.proofs.SecondPass.{gathered-parts}
@@ -30,6 +31,11 @@ pub slice_bounds-text-end-2 : goal.slice_bounds-text-end-2
 slice_bounds-text-end-2 c =
     let at = has_offset c.args.geometry.now c.args.group 0 c.requires.group (has_first c.args.geometry.now c.args.group c.requires.group) in
     sym (length-take-le c.args.group.len c.args.segments.now (omega (arith, at.fits, c.requires.segments)))
+
+pub xor_at-requires : goal.xor_at-requires
+xor_at-requires c =
+    let at = has_offset c.args.geometry.now c.args.group 0 c.requires.group (has_first c.args.geometry.now c.args.group c.requires.group) in
+    omega (arith, at.file, size_low c.args.geometry.now c.requires.group.valid, length-take c.args.group.len c.args.segments.now)
 
 pub slice_bounds-fill-count : goal.slice_bounds-fill-count
 slice_bounds-fill-count c =
