@@ -1,11 +1,12 @@
 -- One step after another.
 use Rattle.std.proofs.Common.{◌≡◌, ℕ, List, [], ◌∷◌, ◌++◌, refl, sym, ap, ◌∙◌, subst}
-use Rattle.std.specs.Prelude.{Some, Ok, Err, All, unwrap_or, IsSome, Result}
+use Rattle.std.specs.Prelude.{Some, Ok, Err, All, true, unwrap_or, IsSome, Result}
 use Rattle.std.proofs.lemmas.List.Elements.{All-cons, All-head, All-nil, All-tail}
 use Rattle.disks.specs.Laws.{DurableOutlasts}
 use Rattle.wire.specs.declared.message.ShareId.{ShareId}
 use Rattle.share_store.specs.declared.error.StoreError.{StoreError}
 use Rattle.share_store.specs.Shelf.{ShareKey, key_of}
+use Rattle.share_folders.specs.Names.{closed_name}
 use Rattle.folder_keeping.specs.Store.{Facts, StoreState, Has, IsSyncing, Goes}
 use Rattle.folder_keeping.specs.Steps.{Step, Does, Runs}
 use Rattle.folder_keeping.specs.Steps.{Wrote, Closed, Read, Listed, Restarted, Opened}
@@ -90,21 +91,21 @@ safe_stay outlasts d (step ∷ steps) s t known runs honest synced shares orderl
 -- a share is closed after some steps
 closed_after : {D F : Type 0} → DurableOutlasts → (d : Facts D F) (before after : List Step) (id : ShareId) (digest bytes : List ℕ) (s t : StoreState D F) (known : Contents) → Runs d (before ++ Closed id digest (Ok tt) ∷ after) s t
     → d.honest t.disk → IsSyncing s → AreOpen d s known → AreOrderly known (before ++ Closed id digest (Ok tt) ∷ after) → contents_by before known (key_of id) ≡ Some bytes
-    → All (IsFoundAlone (key_of id) digest) after → StaysSafe d after t (key_of id) digest bytes
-closed_after outlasts d [] after id digest bytes s t known runs honest synced shares orderly is alone =
+    → d.relied (closed_name (key_of id) digest) bytes ≡ true → All (IsFoundAlone (key_of id) digest) after → StaysSafe d after t (key_of id) digest bytes
+closed_after outlasts d [] after id digest bytes s t known runs honest synced shares orderly is relies alone =
     let m = runs.0 in
     let here = honest_first d after m t runs.2 honest in
     let close = Closed id digest (Ok tt) in
     safe_stay outlasts d after m t (contents_after known close) runs.2 honest (synced_after d close s m runs.1 synced) (open_after d close s m known runs.1 here shares orderly.0) orderly.1 (key_of id) digest bytes
-    (safe_closed d s m id digest bytes tt runs.1.1 here synced orderly.0.0 (shares.written (key_of id) bytes (orderly.0.0.0, orderly.0.0.1) is)) alone
-closed_after outlasts d (step ∷ before) after id digest bytes s t known runs honest synced shares orderly is alone =
+    (safe_closed d s m id digest bytes tt runs.1.1 here synced orderly.0.0 (shares.written (key_of id) bytes (orderly.0.0.0, orderly.0.0.1) is) relies) alone
+closed_after outlasts d (step ∷ before) after id digest bytes s t known runs honest synced shares orderly is relies alone =
     let m = runs.0 in
     let here = honest_first d (before ++ Closed id digest (Ok tt) ∷ after) m t runs.2 honest in
-    closed_after outlasts d before after id digest bytes m t (contents_after known step) runs.2 honest (synced_after d step s m runs.1 synced) (open_after d step s m known runs.1 here shares orderly.0) orderly.1 is alone
+    closed_after outlasts d before after id digest bytes m t (contents_after known step) runs.2 honest (synced_after d step s m runs.1 synced) (open_after d step s m known runs.1 here shares orderly.0) orderly.1 is relies alone
 
 pub confirmed_stay : {D F : Type 0} → DurableOutlasts → (d : Facts D F) → ConfirmedStay d
-confirmed_stay outlasts d before after id digest bytes s t runs honest synced orderly is alone =
-    closed_after outlasts d before after id digest bytes s t nothing_known runs honest synced (none_open d s) orderly is alone
+confirmed_stay outlasts d before after id digest bytes s t runs honest synced orderly is relies alone =
+    closed_after outlasts d before after id digest bytes s t nothing_known runs honest synced (none_open d s) orderly is relies alone
 
 -- ---- what a run leaves
 

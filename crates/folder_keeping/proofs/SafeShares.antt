@@ -4,7 +4,7 @@ use Rattle.std.specs.Prelude.{Option, Some, None, Result, Ok, Err, OnOk, OnErr, 
 use Rattle.std.specs.BTreeMap.{insert_entry}
 use Rattle.std.proofs.lemmas.List.Elements.{All-same, All-weaker}
 use Rattle.wire.specs.declared.message.ShareId.{ShareId}
-use Rattle.disks.specs.Names.{Name}
+use Rattle.disks.specs.Names.{Name, IsRelied}
 use Rattle.disks.specs.Folder.{Folder, FileState, HasBytes, StandsFor, IsDurable}
 use Rattle.disks.specs.Laws.{DurableOutlasts, FilesStay, StaysHeld}
 use Rattle.share_store.specs.declared.error.StoreError.{StoreError}
@@ -32,7 +32,7 @@ has_bytes s bytes (Some i) stands = (ap (λ (f : FileState). f.bytes) stands, ap
 
 -- the table is the same, and so is what was read last
 pub safe_held : {D F : Type 0} (d : Facts D F) (s t : StoreState D F) (key : ShareKey) (digest bytes : List ℕ) → t.closed ≡ s.closed → t.recent ≡ s.recent
-    → StaysHeld (d.folder s.disk) (d.folder t.disk) → IsSafe d s key digest bytes → IsSafe d t key digest bytes
+    → StaysHeld d.relied (d.folder s.disk) (d.folder t.disk) → IsSafe d s key digest bytes → IsSafe d t key digest bytes
 safe_held {D} {F} d s t key digest bytes closed recent held safe = record {
   valid = safe.valid;
   has = record {
@@ -40,7 +40,7 @@ safe_held {D} {F} d s t key digest bytes closed recent held safe = record {
     last = subst (λ (r : Option (RecentFile F)). RecentHas d.inode (d.folder t.disk) key r bytes) (sym recent)
         (recent_later d.inode (d.folder s.disk) (d.folder t.disk) key s.recent bytes held safe.has.last);
   };
-  durable = held.durable (closed_name key digest) bytes (closed_lasts key digest safe.valid.2.len) safe.durable;
+  durable = held.durable (closed_name key digest) bytes (closed_lasts key digest safe.valid.2.len, safe.has.kept.relies) safe.durable;
 }
 
 -- a read or a list
@@ -49,7 +49,7 @@ pub safe_looked : {D F : Type 0} (d : Facts D F) (s t : StoreState D F) (key : S
 safe_looked d s t key digest bytes stays honest safe = record {
   valid = safe.valid;
   has = stays.still honest key digest bytes safe.has;
-  durable = (stays.held honest).durable (closed_name key digest) bytes (closed_lasts key digest safe.valid.2.len) safe.durable;
+  durable = (stays.held honest).durable (closed_name key digest) bytes (closed_lasts key digest safe.valid.2.len, safe.has.kept.relies) safe.durable;
 }
 
 -- ---- a close of another share
@@ -87,7 +87,7 @@ safe_beside d s t id digest r written key other bytes closes honest none named w
     let noted = safe.has.kept.noted in
     let apart : same_key (key_of id) key ≡ false = other_key s.closed (key_of id) key _ none noted.there in
     let file = closes.closes honest written was in
-    let lasting = closed_lasts key other safe.valid.2.len in
+    let lasting : IsRelied d.relied (closed_name key other) bytes = (closed_lasts key other safe.valid.2.len, safe.has.kept.relies) in
     let durable = file.beside (closed_name key other) bytes lasting
     (λ same. apart_keys (key_of id) key apart (sym (same_share_key key (key_of id) other digest safe.valid named same))) safe.durable in
     record {
@@ -95,6 +95,7 @@ safe_beside d s t id digest r written key other bytes closes honest none named w
       has = record {
         kept = record {
           size = safe.has.kept.size;
+          relies = safe.has.kept.relies;
           noted = record { long = noted.long; there = there_closed r s.closed t.closed (key_of id) key _ apart closes.closed closes.err_closed ∙ noted.there; right = noted.right };
           stands = has_bytes (d.folder t.disk) bytes _ durable.now;
         };
@@ -113,8 +114,9 @@ length_written {D} {F} d s key bytes was = length_is s.opened key ∙ by (at key
     by (Some share) is = is.0
 
 pub safe_closed : {D F : Type 0} (d : Facts D F) (s t : StoreState D F) (id : ShareId) (digest bytes : List ℕ) (u : Unit)
-    → DiskCloses d s id digest (Ok u) t → d.honest t.disk → IsSyncing s → IsNamed (key_of id) digest → HasWritten d (key_of id) s bytes → IsSafe d t (key_of id) digest bytes
-safe_closed {D} {F} d s t id digest bytes u closes honest synced named was =
+    → DiskCloses d s id digest (Ok u) t → d.honest t.disk → IsSyncing s → IsNamed (key_of id) digest → HasWritten d (key_of id) s bytes
+    → d.relied (closed_name (key_of id) digest) bytes ≡ true → IsSafe d t (key_of id) digest bytes
+safe_closed {D} {F} d s t id digest bytes u closes honest synced named was relies =
     let key = key_of id in
     let share : KeptShare = record { length = Some (length_at key (lengths_of s.opened)); digest = digest } in
     let file = closes.closes honest bytes was in
@@ -123,16 +125,17 @@ safe_closed {D} {F} d s t id digest bytes u closes honest synced named was =
       has = record {
         kept = record {
           size = named.2.len;
+          relies = relies;
           noted = record {
             long = Some (length_at key (lengths_of s.opened));
             there = ap (at key) closes.closed ∙ at_with key key share s.closed ∙ ap (λ b. cond b (Some share) (at key s.closed)) (same_itself key);
             right = length_written d s key bytes was;
           };
-          stands = file.stands;
+          stands = file.stands relies;
         };
         last = subst (λ (r : Option (RecentFile F)). RecentHas d.inode (d.folder t.disk) key r bytes) (sym closes.recent) tt;
       };
-      durable = file.durable (synced closes.takes);
+      durable = file.durable (synced closes.takes) relies;
     }
 
 -- ---- the end of a program
@@ -150,12 +153,13 @@ durable_ends outlasts s t name bytes (inr left) durable = record {
 
 -- a share that is found, whose name is durable
 safe_found : {D F : Type 0} (d : Facts D F) (disk : D) (t : StoreState D F) (names : List Name) (key : ShareKey) (digest bytes : List ℕ) → IsOpened d disk names t → IsNamed key digest → IsAlone names key digest
-    → Contains names (closed_name key digest) × IsDurable (d.folder t.disk) (closed_name key digest) bytes → IsSafe d t key digest bytes
-safe_found {D} {F} d disk t names key digest bytes is_opened valid alone found = record {
+    → d.relied (closed_name key digest) bytes ≡ true → Contains names (closed_name key digest) × IsDurable (d.folder t.disk) (closed_name key digest) bytes → IsSafe d t key digest bytes
+safe_found {D} {F} d disk t names key digest bytes is_opened valid alone relies found = record {
   valid = valid;
   has = record {
     kept = record {
       size = valid.2.len;
+      relies = relies;
       noted = record { long = None; there = is_opened.taken.sole key digest (record { valid = valid; there = found.0; alone = alone }); right = tt };
       stands = has_bytes (d.folder t.disk) bytes _ found.1.now;
     };
@@ -168,10 +172,10 @@ pub safe_opened : {D F : Type 0} → DurableOutlasts → (d : Facts D F) (s t : 
     → IsSafe d s key digest bytes → IsSafe d t key digest bytes
 safe_opened outlasts d s t names key digest bytes reopens honest alone safe =
     let name = closed_name key digest in
-    safe_found d reopens.disk t names key digest bytes reopens.is_opened safe.valid alone
-    (reopens.is_opened.found honest name bytes (closed_lasts key digest safe.valid.2.len)
+    safe_found d reopens.disk t names key digest bytes reopens.is_opened safe.valid alone safe.has.kept.relies
+    (reopens.is_opened.found honest name bytes (closed_lasts key digest safe.valid.2.len, safe.has.kept.relies)
     (durable_ends outlasts (d.folder s.disk) (d.folder reopens.disk) name bytes reopens.ends safe.durable))
 
 pub found_are_safe : {D F : Type 0} (d : Facts D F) → FoundAreSafe d
-found_are_safe d disk names t is_opened honest synced key digest bytes named stands alone =
-    safe_found d disk t names key digest bytes is_opened named alone (is_opened.settled honest synced key digest bytes named stands)
+found_are_safe d disk names t is_opened honest synced key digest bytes named relies stands alone =
+    safe_found d disk t names key digest bytes is_opened named alone relies (is_opened.settled honest synced key digest bytes named relies stands)

@@ -72,7 +72,8 @@ pub record AreOpen {D F : Type 0} (d : Facts D F) (s : StoreState D F) (known : 
 
 -- ---- what is kept
 
--- A share is safe: the store has it, and its bytes stand under its name now and after each crash.
+-- A share is safe: the store has it, and its bytes stand under its name now and after each crash,
+-- where they are relied on.
 pub record IsSafe {D F : Type 0} (d : Facts D F) (s : StoreState D F) (key : ShareKey)
     (digest bytes : List ℕ) : Type 0 where
   pub valid : IsNamed key digest
@@ -111,18 +112,19 @@ SafeStay {D} {F} d =
     → (key : ShareKey) (digest bytes : List ℕ) → IsSafe d s key digest bytes
     → All (IsFoundAlone key digest) steps → StaysSafe d steps t key digest bytes
 
--- What a synced store finds when it is opened, with its bytes on the disk, is safe then, where no
--- other closed name of the share is found.
+-- What a synced store finds when it is opened, with its bytes on the disk, is safe then, where it
+-- is relied on and no other closed name of the share is found.
 abbrev pub FoundAreSafe : {D F : Type 0} → Facts D F → Type 0
 FoundAreSafe {D} {F} d =
     (disk : D) (names : List Name) (t : StoreState D F) → IsOpened d disk names t
     → d.honest t.disk → t.durability ≡ Synced
     → (key : ShareKey) (digest bytes : List ℕ) → IsNamed key digest
+    → d.relied (closed_name key digest) bytes ≡ true
     → StandsFor (d.folder disk) bytes ((d.folder disk).found (closed_name key digest))
     → IsAlone names key digest → IsSafe d t key digest bytes
 
--- What a close confirmed is there after each crash: whatever calls, crashes and openings came
--- before, and whatever came after.
+-- What a close confirmed, and is relied on, is there after each crash: whatever calls, crashes and
+-- openings came before, and whatever came after.
 abbrev pub ConfirmedStay : {D F : Type 0} → Facts D F → Type 0
 ConfirmedStay {D} {F} d =
     (before after : List Step) (id : ShareId) (digest bytes : List ℕ) (s t : StoreState D F)
@@ -130,5 +132,6 @@ ConfirmedStay {D} {F} d =
     → d.honest t.disk → IsSyncing s
     → AreOrderly nothing_known (before ++ Closed id digest (Ok tt) ∷ after)
     → contents_by before nothing_known (key_of id) ≡ Some bytes
+    → d.relied (closed_name (key_of id) digest) bytes ≡ true
     → All (IsFoundAlone (key_of id) digest) after
     → StaysSafe d after t (key_of id) digest bytes

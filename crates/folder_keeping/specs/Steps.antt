@@ -2,7 +2,7 @@
 use Rattle.std.specs.Prelude.{◌≡◌, ◌⊎◌, ℕ, List, [], ◌∷◌, None, true, false, Result, Contains}
 use Rattle.wire.specs.declared.message.ShareId.{ShareId}
 use Rattle.wire.specs.declared.message.HeldShare.{HeldShare}
-use Rattle.disks.specs.Names.{Name, lasts}
+use Rattle.disks.specs.Names.{Name, IsRelied}
 use Rattle.disks.specs.Folder.{Folder, Crashes, IsDurable, StandsFor}
 use Rattle.disks.specs.Steps.{SameFiles}
 use Rattle.share_store.specs.declared.error.StoreError.{StoreError}
@@ -34,19 +34,20 @@ pub record IsLeft (s t : Folder) : Type 0 where
 abbrev pub Ends : Folder → Folder → Type 0
 Ends s t = Crashes s t ⊎ IsLeft s t
 
--- A store was opened over a disk, and found these names. Each that was durable is among them, and
--- is so still. A synced store has made durable each closed name that stood for bytes on the disk.
+-- A store was opened over a disk, and found these names. Each that was durable, and is relied on,
+-- is among them, and is durable still. A synced store has made durable each closed name that stood
+-- for bytes on the disk, and is relied on with them.
 pub record IsOpened {D F : Type 0} (d : Facts D F) (disk : D) (names : List Name)
     (t : StoreState D F) : Type 0 where
   pub opened : t.opened ≡ []
   pub recent : t.recent ≡ None
   pub taken : AreTaken names t.closed
   pub so_far : d.honest t.disk → d.honest disk
-  pub found : d.honest t.disk → (name : Name) (bytes : List ℕ) → lasts name ≡ true
-      → IsDurable (d.folder disk) name bytes
+  pub found : d.honest t.disk → (name : Name) (bytes : List ℕ)
+      → IsRelied d.relied name bytes → IsDurable (d.folder disk) name bytes
       → Contains names name × IsDurable (d.folder t.disk) name bytes
   pub settled : d.honest t.disk → t.durability ≡ Synced → (key : ShareKey) (digest bytes : List ℕ)
-      → IsNamed key digest
+      → IsNamed key digest → d.relied (closed_name key digest) bytes ≡ true
       → StandsFor (d.folder disk) bytes ((d.folder disk).found (closed_name key digest))
       → Contains names (closed_name key digest)
       × IsDurable (d.folder t.disk) (closed_name key digest) bytes

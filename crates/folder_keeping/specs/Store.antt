@@ -5,6 +5,7 @@ use Rattle.std.specs.Prelude.{if◌then◌else◌}
 use Rattle.std.specs.BTreeMap.{insert_entry}
 use Rattle.wire.specs.declared.message.ShareId.{ShareId}
 use Rattle.wire.specs.declared.message.HeldShare.{HeldShare}
+use Rattle.disks.specs.Names.{Relied}
 use Rattle.disks.specs.Folder.{Folder}
 use Rattle.disks.specs.Laws.{OwnStay, StaysHeld}
 use Rattle.share_store.specs.declared.error.StoreError.{StoreError}
@@ -22,10 +23,11 @@ use Rattle.share_folders.specs.Stored.{WasWritten}
 use Rattle.share_folders.specs.Table.{StayBeside}
 
 -- What contracts know of the disks of one kind: what the folder of each holds, whether it was
--- honest so far, and the number of each open file.
+-- honest so far, what is relied on in it, and the number of each open file.
 pub record Facts (D F : Type 0) : Type 1 where
   pub folder : D → Folder
   pub honest : D → Type 0
+  pub relied : Relied
   pub inode : F → ℕ
 
 -- A store: its disk, what the files of its open shares are named by, whether a share outlasts a
@@ -79,7 +81,7 @@ pub record DiskWrites {D F : Type 0} (d : Facts D F) (s : StoreState D F) (id : 
   pub written : d.honest t.disk → (before : List ℕ) → IsWritable d offset (key_of id) s before
       → OnOk r (HasWritten d (key_of id) t ((if offset == 0 then [] else before) ++ bytes))
   pub held : d.honest t.disk → (before : List ℕ) → IsWritable d offset (key_of id) s before
-      → StaysHeld (d.folder s.disk) (d.folder t.disk)
+      → StaysHeld d.relied (d.folder s.disk) (d.folder t.disk)
   pub beside : d.honest t.disk → OthersStayOpen d (key_of id) (offset ≡ 0) r s t
 
 -- The file of an open share gets its closed name, and the share is closed.
@@ -96,25 +98,25 @@ pub record DiskCloses {D F : Type 0} (d : Facts D F) (s : StoreState D F) (id : 
   pub err_recent : OnErr r (t.recent ≡ s.recent)
   pub others : StayBeside (same_key (key_of id)) s.opened t.opened
   pub closes : d.honest t.disk → (bytes : List ℕ) → HasWritten d (key_of id) s bytes
-      → FileCloses s.durability (closed_name (key_of id) digest) bytes r (d.folder s.disk)
-      (d.folder t.disk)
+      → FileCloses d.relied s.durability (closed_name (key_of id) digest) bytes r
+      (d.folder s.disk) (d.folder t.disk)
   pub beside : d.honest t.disk → (bytes : List ℕ) → HasWritten d (key_of id) s bytes
       → OthersStayOpen d (key_of id) ⊥ r s t
 
 -- The folder is as it was, and so is each closed share of which the bytes stand there.
 pub record DiskStays {D F : Type 0} (d : Facts D F) (s t : StoreState D F) : Type 0 where
   pub opened : t.opened ≡ s.opened
-  pub still : d.honest t.disk → StayHeld d.inode (d.folder s.disk) s.closed s.recent
+  pub still : d.honest t.disk → StayHeld d.relied d.inode (d.folder s.disk) s.closed s.recent
       (d.folder t.disk) t.closed t.recent
-  pub held : d.honest t.disk → StaysHeld (d.folder s.disk) (d.folder t.disk)
+  pub held : d.honest t.disk → StaysHeld d.relied (d.folder s.disk) (d.folder t.disk)
   pub beside : d.honest t.disk → OwnStay (d.folder s.disk) (d.folder t.disk)
 
--- a closed share of these bytes
+-- a closed share of these bytes, which is relied on
 abbrev pub Has : {D F : Type 0} → Facts D F → StoreState D F → ShareKey → List ℕ → List ℕ
     → Type 0
-Has d s = HasShare d.inode (d.folder s.disk) s.closed s.recent
+Has d s = HasShare d.relied d.inode (d.folder s.disk) s.closed s.recent
 
--- A read that goes well gives the bytes of a closed share.
+-- A read that goes well gives the bytes of a closed share that is relied on.
 pub record DiskReads {D F : Type 0} (d : Facts D F) (s : StoreState D F) (id : ShareId)
     (offset count : ℕ) (r : Result (List ℕ) StoreError) (t : StoreState D F) : Type 0 where
   pub goes : Goes d s r t
@@ -122,7 +124,7 @@ pub record DiskReads {D F : Type 0} (d : Facts D F) (s : StoreState D F) (id : S
   pub given : d.honest t.disk → (digest bytes : List ℕ) → Has d s (key_of id) digest bytes
       → IfOk r (λ (got : List ℕ). got ≡ take count (drop offset bytes))
 
--- A list that goes well tells each closed share of the storage index.
+-- A list that goes well tells each closed share of the storage index that is relied on.
 pub record DiskLists {D F : Type 0} (d : Facts D F) (s : StoreState D F) (index : List ℕ)
     (r : Result (List HeldShare) StoreError) (t : StoreState D F) : Type 0 where
   pub goes : Goes d s r t

@@ -8,19 +8,35 @@ use disks::laws::durable_outlasts;
 /// What is safe stays so through each run of a synced store over a disk that is honest to its end,
 /// and all that is told of it is so.
 pub fn safe_stay<D: Disk>()
-    ensures { SafeStay (record { folder = D.folder; honest = D.honest; inode = D.inode }) }
+    ensures { SafeStay (record {
+      folder = D.folder;
+      honest = D.honest;
+      relied = D.relied;
+      inode = D.inode;
+    }) }
 {
     durable_outlasts();
 }
 
-/// What a synced store finds when it is opened, with its bytes on the disk, is safe then.
+/// What a synced store finds when it is opened, with its bytes on the disk, is safe then, where it
+/// is relied on.
 pub fn found_are_safe<D: Disk>()
-    ensures { FoundAreSafe (record { folder = D.folder; honest = D.honest; inode = D.inode }) }
+    ensures { FoundAreSafe (record {
+      folder = D.folder;
+      honest = D.honest;
+      relied = D.relied;
+      inode = D.inode;
+    }) }
 {}
 
-/// What a close confirmed is there after each crash.
+/// What a close confirmed, and is relied on, is there after each crash.
 pub fn confirmed_stay<D: Disk>()
-    ensures { ConfirmedStay (record { folder = D.folder; honest = D.honest; inode = D.inode }) }
+    ensures { ConfirmedStay (record {
+      folder = D.folder;
+      honest = D.honest;
+      relied = D.relied;
+      inode = D.inode;
+    }) }
 {
     durable_outlasts();
 }

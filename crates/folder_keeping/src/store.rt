@@ -60,6 +60,7 @@ impl<D: Disk + Drop> Store for KeptFolder<D> {
     ghost calls = { disk_calls (record {
       folder = D.folder;
       honest = D.honest;
+      relied = D.relied;
       inode = D.inode;
     }) };
 

@@ -12,7 +12,7 @@ pub returns-clause-found : goal.returns-clause-found
 returns-clause-found g c =
     let noted = subst (λ (ns : List _). AreTaken (map string_bytes ns) c.in_ok-closed.closed.entries) c.as_slice.ensures.value c.in_ok-closed.ensures.taken in
     let over = λ (honest : g.D.Disk.honest c.new.result.disk). subst (λ (d : g.row.D.Denot). g.D.Disk.honest d) c.new.ensures.disk honest in
-    let put = subst (λ (ns : List _). AreSettled (map string_bytes ns) (g.D.Disk.folder c.list_names.new.disk) (g.D.Disk.folder c.take_names.new.disk)) c.as_slice.ensures.value in
+    let put = subst (λ (ns : List _). AreSettled g.D.Disk.relied (map string_bytes ns) (g.D.Disk.folder c.list_names.new.disk) (g.D.Disk.folder c.take_names.new.disk)) c.as_slice.ensures.value in
     record {
       opened = c.new.ensures.opened;
       recent = c.new.ensures.recent;
@@ -24,11 +24,11 @@ returns-clause-found g c =
             subst (λ (d : g.row.D.Denot). IsDurable (g.D.Disk.folder d) name bytes) (sym c.new.ensures.disk)
                 ((c.take_names.ensures.held (over honest)).durable name bytes lasting there.1),
           );
-      settled = λ honest synced key digest bytes named stands.
-          let there = c.in_ok-names.ensures.stands (c.take_names.ensures.so_far (over honest)) (closed_name key digest) bytes (closed_lasts key digest named.2.len) stands in
+      settled = λ honest synced key digest bytes named relies stands.
+          let there = c.in_ok-names.ensures.stands (c.take_names.ensures.so_far (over honest)) (closed_name key digest) bytes (closed_lasts key digest named.2.len, relies) stands in
           let settled = put (c.in_ok-closed.ensures.settled (over honest) (sym c.new.ensures.durability ∙ synced)) in (
             there.0,
             subst (λ (d : g.row.D.Denot). IsDurable (g.D.Disk.folder d) (closed_name key digest) bytes) (sym c.new.ensures.disk)
-                (settled key digest bytes named there.0 there.1),
+                (settled key digest bytes named there.0 relies there.1),
           );
     }

@@ -12,7 +12,7 @@ returns-clause-gives g c =
     let m = c.self.inside in
     let n = c.close_open-outcome.new.self in
     let e = c.close_open-outcome.ensures in
-    let d : Facts D F = record { folder = g.D.Disk.folder; honest = g.D.Disk.honest; inode = g.D.Disk.inode } in
+    let d : Facts D F = record { folder = g.D.Disk.folder; honest = g.D.Disk.honest; relied = g.D.Disk.relied; inode = g.D.Disk.inode } in
     let s : StoreState D F = record { disk = m.store.disk; own = m.store.own; durability = m.store.durability; closed = m.store.closed.entries; opened = m.store.opened.entries; recent = m.store.recent; failures = m.failures } in
     let u : StoreState D F = record { disk = n.disk; own = n.own; durability = n.durability; closed = n.closed.entries; opened = n.opened.entries; recent = n.recent; failures = m.failures } in
     let same : s ≡ c.args.self.now = search rules in
