@@ -9,7 +9,8 @@ use Rattle.wire.specs.declared.message.ShareId.{ShareId}
 use Rattle.tagged_hash.specs.TaggedHash.{HashesHave32Bytes, share_digest}
 use Rattle.share_store.specs.Shelf.{ShareKey, at, key_of}
 use Rattle.share_folders.specs.declared.table.KeptShare.{KeptShare}
-use Rattle.share_folders.specs.Names.{IsShareKey}
+use Rattle.share_folders.specs.Names.{IsShareKey, closed_name}
+use Rattle.share_folders.specs.Relied.{IsReliedWhole}
 use Rattle.cap_text.specs.Base32.{IsBytes}
 use Rattle.server_core.specs.declared.bucket.Gathered.{Gathered}
 use Rattle.server_core.specs.declared.bucket.Gathered.TheVariants.{Part, Whole}
@@ -110,23 +111,24 @@ module _ {D F : Type 0} (long : HashesHave32Bytes) (d : Facts D F) (s t : Folder
   other_answer : {X : Type 0} (body : Body) → is_closed body ≡ false → r ≡ server.reply_to m body → X
   other_answer body kind is = absurd (true≢false (sym (ap is_closed (sym (body_of m r body is) ∙ answer)) ∙ kind))
 
-  whole : (id : ShareId) (b : Bucket) (g : Gathered) → IsShareKey (key_of id) → bucket_at id s.buckets ≡ Some b → b.gathered ≡ g → Gives' (close_gathered id g) → IsClosedSo id
-  whole id b (Part count hasher) keyed there is x = other_answer (NotComplete count) refl x.answer
-  whole id b (Whole e) keyed there is x =
+  whole : (id : ShareId) (b : Bucket) (g : Gathered) → IsShareKey (key_of id) → IsReliedWhole d.relied (key_of id) digest → bucket_at id s.buckets ≡ Some b → b.gathered ≡ g → Gives' (close_gathered id g) → IsClosedSo id
+  whole id b (Part count hasher) keyed relied there is x = other_answer (NotComplete count) refl x.answer
+  whole id b (Whole e) keyed relied there is x =
       let content = whole_known b (known (key_of id)) e is (fed.fed id b there) in
       let same : e ≡ digest = one_closed e digest (sym (body_of m r (Closed e) x.answer) ∙ answer) in
       let small : IsBytes 32 e = subst (λ (y : List ℕ). IsBytes 32 y) (sym content.2.1) (digest_is_bytes long content.0) in
-      let safe = safe_closed d s.store t.store id e content.0 tt x.closed honest synced (keyed.0, keyed.1, small) (shares.written (key_of id) content.0 keyed content.1) in
+      let relies = subst (λ (y : List ℕ). d.relied (closed_name (key_of id) y) content.0 ≡ true) (sym same) (relied content.0 (sym content.2.1 ∙ same)) in
+      let safe = safe_closed d s.store t.store id e content.0 tt x.closed honest synced (keyed.0, keyed.1, small) (shares.written (key_of id) content.0 keyed content.1) relies in
       (content.0, sym same ∙ content.2.1, subst (λ (y : List ℕ). IsSafe d t.store (key_of id) y content.0) same safe)
 
-  by_bucket : (from session : ℕ) (id : ShareId) (o : Option (List ℕ)) (bucket : Option Bucket) → IsShareKey (key_of id) → o ≡ None → bucket_at id s.buckets ≡ bucket → Gives' (close_line from session id o bucket) → IsClosedSo id
-  by_bucket from session id (Some e) bucket keyed none there x = absurd cc
-  by_bucket from session id None None keyed none there x = other_answer NoShare refl x.answer
-  by_bucket from session id None (Some b) keyed none there x = owned (not (is_owned from session b)) x
+  by_bucket : (from session : ℕ) (id : ShareId) (o : Option (List ℕ)) (bucket : Option Bucket) → IsShareKey (key_of id) → IsReliedWhole d.relied (key_of id) digest → o ≡ None → bucket_at id s.buckets ≡ bucket → Gives' (close_line from session id o bucket) → IsClosedSo id
+  by_bucket from session id (Some e) bucket keyed relied none there x = absurd cc
+  by_bucket from session id None None keyed relied none there x = other_answer NoShare refl x.answer
+  by_bucket from session id None (Some b) keyed relied none there x = owned (not (is_owned from session b)) x
     where
       owned : (no : Bool) → Gives' (cond no (Says NoShare) (close_gathered id b.gathered)) → IsClosedSo id
       owned true y = other_answer NoShare refl y.answer
-      owned false y = whole id b b.gathered keyed there refl y
+      owned false y = whole id b b.gathered keyed relied there refl y
 
-  pub closed_so : (from session : ℕ) (id : ShareId) → IsShareKey (key_of id) → at (key_of id) s.store.closed ≡ None → Gives' (line_of (disk_calls d) s from session (Close id)) → IsClosedSo id
-  closed_so from session id keyed none x = by_bucket from session id _ _ keyed (ap (option_map (λ (k : KeptShare). k.digest)) none) refl x
+  pub closed_so : (from session : ℕ) (id : ShareId) → IsShareKey (key_of id) → IsReliedWhole d.relied (key_of id) digest → at (key_of id) s.store.closed ≡ None → Gives' (line_of (disk_calls d) s from session (Close id)) → IsClosedSo id
+  closed_so from session id keyed relied none x = by_bucket from session id _ _ keyed relied (ap (option_map (λ (k : KeptShare). k.digest)) none) refl x

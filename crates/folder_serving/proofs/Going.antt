@@ -108,7 +108,7 @@ served outlasts long d (event ∷ events) s t known key digest bytes happen hone
     record { safe = rest.safe; answered = All-cons (IsAnswered key digest bytes) event events (event_answered d event s m key digest bytes happen.1 here safe) rest.answered }
 
 pub closed_are_served : {D F : Type 0} → DurableOutlasts → HashesHave32Bytes → (d : Facts D F) → ClosedAreServed d
-closed_are_served outlasts long d before after from now m r id digest s u v t happened asked happen honest synced none is answer open_before alone =
+closed_are_served outlasts long d before after from now m r id digest s u v t happened asked happen honest synced none is answer open_before relied alone =
     let first = all_move long d before s u nothing_known happened (none_fed nothing_known s.buckets none) in
     let known = contents_by first.steps nothing_known in
     let call = event_moves long d (Asked from m now (Ok (Some r))) u v known asked (first.fed tt) in
@@ -120,7 +120,7 @@ closed_are_served outlasts long d before after from now m r id digest s u v t ha
     let shares = open_run d first.steps s.store u.store nothing_known first.runs at_u (none_open d s.store) first.orderly in
     let keyed = subst HasShareKey is asked.0.keyed in
     let does = subst (λ (body : Body). server.Does (disk_calls d) (line_of (disk_calls d) u from m.session body) (max u.clock now) u m (Ok (Some r)) v) is asked.0.serves.does in
-    let closed = closed_so long d u v (max u.clock now) m r at_v synced_u known shares (first.fed tt) digest answer from m.session id keyed open_before does in (
+    let closed = closed_so long d u v (max u.clock now) m r at_v synced_u known shares (first.fed tt) digest answer from m.session id keyed relied open_before does in (
       closed.0,
       closed.1,
       served outlasts long d after v t later (key_of id) digest closed.0 happen honest (synced_run d call.steps u.store v.store call.runs synced_u)

@@ -14,6 +14,7 @@ use Rattle.server_core.specs.ServerState.{Line, line_of}
 use Rattle.server_core.specs.ServerState.{ListsHoldings, WritesBytes, ClosesShare, ReadsShare}
 use Rattle.share_store.specs.Shelf.{ShareKey, at, is_under, key_of}
 use Rattle.share_folders.specs.Listed.{IsAlone}
+use Rattle.share_folders.specs.Relied.{IsReliedWhole}
 use Rattle.folder_keeping.specs.Store.{Facts, IsSyncing, disk_calls}
 use Rattle.folder_keeping.specs.Steps as keeping
 use Rattle.folder_keeping.specs.Steps.{Step, Runs}
@@ -102,9 +103,10 @@ SafeAreServed {D} {F} d =
     → (key : ShareKey) (digest bytes : List ℕ) → IsSafe d s.store key digest bytes
     → All (IsStartedAlone key digest) events → StaysServed d events t key digest bytes
 
--- A share that a server closes is there after each crash: one that was closed nowhere before it
--- answered Closed to a Close has bytes with that digest, which are safe from then on, and each
--- answer since then is that of a server that has them.
+-- A share that a server closes is there after each crash, where it is relied on with bytes that
+-- have the digest in its name: one that was closed nowhere before it answered Closed to a Close has
+-- bytes with that digest, which are safe from then on, and each answer since then is that of a
+-- server that has them.
 abbrev pub ClosedAreServed : {D F : Type 0} → Facts D F → Type 0
 ClosedAreServed {D} {F} d =
     (before after : List Event) (from now : ℕ) (m r : Message) (id : ShareId) (digest : List ℕ)
@@ -113,6 +115,7 @@ ClosedAreServed {D} {F} d =
     → HappenAll d after v t
     → d.honest t.store.disk → IsSyncing s.store → s.buckets ≡ []
     → m.body ≡ Close id → r.body ≡ Closed digest → at (key_of id) u.store.closed ≡ None
+    → IsReliedWhole d.relied (key_of id) digest
     → All (IsStartedAlone (key_of id) digest) after
     → (bytes : List ℕ) × (digest ≡ share_digest bytes)
     × StaysServed d after t (key_of id) digest bytes

@@ -12,6 +12,7 @@ pub fn servers_are_orderly<D: Disk>()
     ensures { ServersAreOrderly (record {
       folder = D.folder;
       honest = D.honest;
+      relied = D.relied;
       inode = D.inode;
     }) }
 {
@@ -23,6 +24,7 @@ pub fn safe_are_served<D: Disk>()
     ensures { SafeAreServed (record {
       folder = D.folder;
       honest = D.honest;
+      relied = D.relied;
       inode = D.inode;
     }) }
 {
@@ -30,11 +32,12 @@ pub fn safe_are_served<D: Disk>()
     hashes_have_32_bytes();
 }
 
-/// A share that a server closes is there after each crash.
+/// A share that a server closes, and is relied on, is there after each crash.
 pub fn closed_are_served<D: Disk>()
     ensures { ClosedAreServed (record {
       folder = D.folder;
       honest = D.honest;
+      relied = D.relied;
       inode = D.inode;
     }) }
 {
