@@ -1,9 +1,9 @@
 -- Which names of shares last.
-use Rattle.std.proofs.Common.{◌≡◌, ℕ, ◌+◌, ◌-◌, ◌<◌, true, false, not, inl, inr, List, ◌++◌, length, take, drop, get_or, refl, sym, ap, ◌∙◌, arith}
+use Rattle.std.proofs.Common.{◌≡◌, ℕ, ◌+◌, ◌-◌, ◌<◌, ◌≤◌, true, false, not, inl, inr, List, ◌∷◌, ◌++◌, length, take, drop, get_or, refl, sym, ap, ◌∙◌, arith}
 use Rattle.std.specs.Prelude.{nat_eq, decimal, codes, Option, None, Some, Result, Ok, Err, IfOk}
 use Rattle.std.specs.Cmp.Lexicographic.{pointwise, bytes_decides}
 use Rattle.std.proofs.lemmas.Bool.{cases_lt}
-use Rattle.std.proofs.lemmas.List.{take-append-drop, drop_at, append_assoc, length-append, length-drop, get_or-drop, get_or-map, length-map}
+use Rattle.std.proofs.lemmas.List.{take-append-drop, drop_at, append_assoc, length-append, length-drop, get_or_at, get_or-append_right, get_or-drop, get_or-map, length-map}
 use Rattle.cap_text.specs.Base32.{base32, letter}
 use Rattle.cap_text.proofs.Groups.{letter-small, letter-large}
 use Rattle.cap_text.proofs.Reading.{spelled, small_at}
@@ -38,6 +38,20 @@ no_dot bytes k inside dot =
     let at : get_or (base32 bytes) k 0 ≡ letter (get_or s.numbers k 0) =
     ap (λ (cs : List ℕ). get_or cs k 0) s.letters ∙ get_or-map letter s.numbers k 0 0 within in
     letter_not_dot (get_or s.numbers k 0) (small_at s.numbers k s.small within) (sym at ∙ dot)
+
+-- behind its last dot a closed name has 52 letters
+pub no_late_dot : (key : ShareKey) (digest stem tail : List ℕ) → length digest ≡ 32 → closed_name key digest ≡ stem ++ 46 ∷ tail → length tail < 52 → ⊥
+no_late_dot key digest stem tail size same few =
+    let front = base32 key.0 ++ codes "." ++ decimal key.1 ++ codes "." in
+    let long = letters_32 digest size in
+    let sum = length-append front (base32 digest) in
+    let other = length-append stem (46 ∷ tail) in
+    let both = ap length same in
+    let late : length front ≤ length stem = omega (arith, long, sum, other, both, few) in
+    let within : length stem - length front < length (base32 digest) = omega (arith, long, sum, other, both, late) in
+    let at : get_or (front ++ base32 digest) (length stem) 0 ≡ get_or (base32 digest) (length stem - length front) 0 =
+    get_or-append_right front (base32 digest) (length front) (length stem) 0 refl late in
+    no_dot digest (length stem - length front) within (sym at ∙ ap (λ (xs : List ℕ). get_or xs (length stem) 0) same ∙ get_or_at stem 46 tail 0 (length stem) refl)
 
 -- what ends in a digest's text lasts
 module _ (front digest : List ℕ) (size : length digest ≡ 32) where
