@@ -7,7 +7,7 @@ use Rattle.ueb.specs.Shape.{rounded_up}
 use Rattle.share_layout.specs.Geometry.{Geometry, IsGeometry, segment_count}
 use Rattle.share_layout.specs.Pieces.{block_length}
 use Rattle.file_encoding.proofs.PaddedBelow.{padded_length}
-use Rattle.file_remaking.proofs.PaddedTexts.{within_segments}
+use Rattle.share_layout.proofs.GeometryLemmas.{padding_within}
 
 module _ (g : Geometry) (offset : ℕ) (valid : IsGeometry g) (low : offset < rounded_up g.size g.needed) where
   abbrev number : ℕ
@@ -17,7 +17,7 @@ module _ (g : Geometry) (offset : ℕ) (valid : IsGeometry g) (low : offset < ro
   pub in_segment : number < segment_count g
   in_segment =
       let parts = div-add-mod' offset g.segment_size in
-      let within = within_segments g valid in
+      let within = padding_within g valid in
       elim (cases_lt number (segment_count g)) [
         | inl below ↦ below
         | inr over ↦ (let times : segment_count g * g.segment_size ≤ number * g.segment_size = mul-le-mul_right {m = segment_count g} {n = number} g.segment_size over in absurd (omega (arith, times, within, parts, low)))
