@@ -15,7 +15,7 @@ use Rattle.share_layout.specs.Pieces.{segments_of}
 use Rattle.share_layout.specs.Share.{HaveLengths, Sections, share_bytes}
 use Rattle.share_layout.proofs.LayoutLemmas.{length-header, length-spelled}
 use Rattle.file_encoding.specs.Encoding.{ciphertext_encoding, encoding_of, extension_block_contents, sections_of, share_of}
-use Rattle.file_encoding.proofs.OwnShares.{lengths, written}
+use Rattle.file_encoding.proofs.OwnShares.{geometry_is, lengths, written}
 use Rattle.share_verify.specs.CapBlock.{geometry_by}
 use Rattle.share_verify.proofs.GeometryOfUeb.{is_geometry}
 use Rattle.file_encoding.specs.Padded.{padded_sections, padded_share, padded_shares}
@@ -53,7 +53,7 @@ goals_are_one file secret p shape =
     let block : List ℕ = ueb_text (extension_block_contents g ciphertext segments) in
     let some : 0 < g.total = some_shares p.needed p.total (length file) g.segment_size shape in
     let s : Sections = sections_of g segments block 0 in
-    let are = lengths g ciphertext shape whole 0 some block (written g ciphertext shape whole).short in
+    let are = lengths g ciphertext (geometry_is g ciphertext shape whole) whole 0 some block (written g ciphertext shape whole).short in
     let here : get_or (map (share_of g segments block) (range_with_len 0 g.total)) 0 [] ≡ share_of g segments block 0 =
     get_or-map-range_with_len (share_of g segments block) 0 g.total 0 0 [] some (zero-add 0) in
     λ i. record {
