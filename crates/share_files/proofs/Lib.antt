@@ -1,4 +1,5 @@
 mod AsideNames
 pub mod Going
 mod OneStep
+mod Polite
 mod ReadingLemmas

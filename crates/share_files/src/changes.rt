@@ -21,7 +21,8 @@ pub fn rename_file<D: Disk>(
 ) -> Result<(), DiskError>
     ensures place { D.place disk.new ≡ D.place disk.old }
     ensures so_far { D.honest disk.new → D.honest disk.old }
-    ensures renames { D.honest disk.new → Does (Renames (file_name from.now) (file_name to.now))
+    ensures renames { D.honest disk.new → Does D.relied
+        (Renames (file_name from.now) (file_name to.now))
         (Either Stays (Renames (file_name from.now) (file_name to.now))) result
         (D.folder disk.old) (D.folder disk.new) }
 {
@@ -35,7 +36,7 @@ pub fn rename_file<D: Disk>(
 fn rename_named<D: Disk>(disk: &mut D, from: &str, to: &str) -> Result<(), DiskError>
     ensures place { D.place disk.new ≡ D.place disk.old }
     ensures so_far { D.honest disk.new → D.honest disk.old }
-    ensures renames { D.honest disk.new → Does (Renames from.now to.now)
+    ensures renames { D.honest disk.new → Does D.relied (Renames from.now to.now)
         (Either Stays (Renames from.now to.now)) result (D.folder disk.old)
         (D.folder disk.new) }
 {
@@ -52,7 +53,7 @@ fn rename_named<D: Disk>(disk: &mut D, from: &str, to: &str) -> Result<(), DiskE
 fn look_at<D: Disk>(disk: &mut D, name: &str) -> Result<(D::File, u64), DiskError>
     ensures place { D.place disk.new ≡ D.place disk.old }
     ensures so_far { D.honest disk.new → D.honest disk.old }
-    ensures looks { D.honest disk.new → Others (D.folder disk.old) (D.folder disk.new) }
+    ensures looks { D.honest disk.new → Others D.relied (D.folder disk.old) (D.folder disk.new) }
 {
     let file = match disk.open(name) {
         Ok(file) => file,
@@ -69,7 +70,7 @@ fn look_at<D: Disk>(disk: &mut D, name: &str) -> Result<(D::File, u64), DiskErro
 pub fn make_file<D: Disk>(alloc: Global, disk: &mut D, file: &ShareFile) -> Result<(), DiskError>
     ensures place { D.place disk.new ≡ D.place disk.old }
     ensures so_far { D.honest disk.new → D.honest disk.old }
-    ensures makes { D.honest disk.new → Does (Makes (file_name file.now)) Stays result
+    ensures makes { D.honest disk.new → Does D.relied (Makes (file_name file.now)) Stays result
         (D.folder disk.old) (D.folder disk.new) }
 {
     let Ok(name) = file.text(alloc) else {
@@ -85,7 +86,7 @@ pub fn make_file<D: Disk>(alloc: Global, disk: &mut D, file: &ShareFile) -> Resu
 pub fn remove_file<D: Disk>(alloc: Global, disk: &mut D, file: &ShareFile) -> Result<(), DiskError>
     ensures place { D.place disk.new ≡ D.place disk.old }
     ensures so_far { D.honest disk.new → D.honest disk.old }
-    ensures removes { D.honest disk.new → Does (Removes (file_name file.now))
+    ensures removes { D.honest disk.new → Does D.relied (Removes (file_name file.now))
         (Either Stays (Removes (file_name file.now))) result (D.folder disk.old)
         (D.folder disk.new) }
 {

@@ -8,6 +8,7 @@ mod bytes;
 mod changes;
 mod fate;
 mod files;
+pub mod laws;
 mod name;
 mod reading;
 mod seen;

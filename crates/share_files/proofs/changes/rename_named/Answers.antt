@@ -6,7 +6,7 @@ returns-then-eq-clause-renames g c honest = nothing_done _ _ _ (others_none _)
 
 pub returns-in-Ok-clause-renames : goal.returns-in-Ok-clause-renames
 returns-in-Ok-clause-renames g c honest =
-    does_after _ _ c.rename.result _ (g.D.Disk.folder c.look_at.new.disk) _ (c.look_at.ensures.looks (c.rename.ensures.so_far honest)) (c.rename.ensures.gives honest)
+    does_after _ _ _ c.rename.result _ (g.D.Disk.folder c.look_at.new.disk) _ (c.look_at.ensures.looks (c.rename.ensures.so_far honest)) (c.rename.ensures.gives honest)
 
 pub returns-in-Err-clause-renames : goal.returns-in-Err-clause-renames
 returns-in-Err-clause-renames g c honest = nothing_done _ _ _ (c.look_at.ensures.looks honest)
