@@ -30,6 +30,15 @@ impl<S: Source + Drop> Model for RemadeStream<S> {
     ghost view = { λ s. record { source = s.source; remade = s.remade } };
 }
 
+impl<S: Source + Drop> RemadeStream<S> {
+    /// The source of the padded ciphertext.
+    pub fn source(&self) -> &S
+        ensures { result.now ≡ self.now.source }
+    {
+        &self.source
+    }
+}
+
 impl<S: Source + Drop> Pieces for RemadeStream<S> {
     ghost digests = { λ s. s.remade.kept.digests };
 
