@@ -19,5 +19,5 @@ pub use bytes::{Verdict, Watch, check_bytes};
 pub use fate::{Claim, Fate, Wanted, fate_of, fate_read};
 pub use files::{FolderFiles, Listing, OPEN_SECONDS};
 pub use name::{FileKind, ShareFile};
-pub use reading::{MOST_LANES, SharePath, WORTH_LANES, see_whole};
+pub use reading::{MOST_LANES, SharePath, see_whole};
 pub use seen::SeenWhole;

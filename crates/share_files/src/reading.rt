@@ -19,12 +19,8 @@ use std::io::{ErrorKind, Read};
 use std::rt::Files;
 use std::snapshot::Snapshot;
 use std::{fs, io};
-use tagged_hash::{Tag, TaggedHasher, WaitingHasher, hashed_eight};
+use tagged_hash::{Tag, TaggedHasher, WORTH_LANES, WaitingHasher, hashed_eight};
 use wire::message::Digest;
-
-/// From so many files on, eight lanes hash them faster than one file after the other: the lanes
-/// that are left over are filled up.
-pub const WORTH_LANES: usize = 3;
 
 /// So many files are hashed side by side at most.
 pub const MOST_LANES: usize = 8;

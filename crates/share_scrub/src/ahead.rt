@@ -4,13 +4,14 @@
 ghost use Rattle.std.specs.Prelude.{◌≡◌, ◌<◌, length};
 
 use crate::folder::Scrub;
-use share_files::{MOST_LANES, SeenWhole, ShareFile, SharePath, WORTH_LANES, Watch, see_whole};
+use share_files::{MOST_LANES, SeenWhole, ShareFile, SharePath, Watch, see_whole};
 use share_store::error::StoreError;
 use std::alloc::Global;
 use std::io;
 use std::io::Read;
 use std::random::RandomSource;
 use std::rt::Files;
+use tagged_hash::WORTH_LANES;
 use wire::message::Digest;
 
 // A closed share's file that was read before its turn, and whether it was seen whole.

@@ -9,12 +9,8 @@ ghost use Rattle.upload_core.specs.declared.pieces.PieceFault.{PieceFault};
 
 use std::alloc::{AllocError, Global};
 use std::marker::Model;
-use tagged_hash::{Tag, share_digest, tagged_eight};
+use tagged_hash::{Tag, WORTH_LANES, share_digest, tagged_eight};
 use wire::message::Digest;
-
-// From so many shares on, eight lanes hash them faster than one share after the other, on each
-// processor: the lanes that are left over are filled up.
-const WORTH_LANES: usize = 5;
 
 /// Why a piece of a share could not be had.
 #[derive(Clone, Copy, Debug, PartialEq, Eq)]
