@@ -26,7 +26,7 @@ use Rattle.file_encoding.specs.Encoding.{ciphertext_encoding, sections_of, share
 use Rattle.file_encoding.specs.Inputs.{ciphertext_inputs}
 use Rattle.file_encoding.proofs.BoundOwn.{block_tree_among, ciphertext_tree_among, leaf_is, leaves_of_shares, length-segment_leaves, length-share_leaves, said, segment_leaves, share_tree_among}
 use Rattle.file_encoding.proofs.OwnHashes.{entries_are, needed_hashes}
-use Rattle.file_encoding.proofs.OwnShares.{blocks_are_joined, ciphertext_shares_pass, layout, own_sections, written}
+use Rattle.file_encoding.proofs.OwnShares.{blocks_are_joined, geometry_is, ciphertext_shares_pass, layout, own_sections, written}
 use Rattle.download_binding.specs.Downloads.{EncodedSharesServe, EncodedSharesServeIn}
 use Rattle.download_binding.specs.FairBlame.{AreOf, IsShareOf}
 use Rattle.download_binding.specs.OwnReaders.{IsOwnShare}
@@ -99,8 +99,8 @@ module _ (g : Geometry) (ciphertext : List ℕ) (shape : IsShape g.needed g.tota
 
   own : IsOwnShare g i share s (segment_hashes segments) (padded leaves)
   own = record {
-    is = layout g ciphertext shape whole i low block (written g ciphertext shape whole).short;
-    block_tree = (own_sections g ciphertext shape whole i low block).blocks;
+    is = layout g ciphertext (geometry_is g ciphertext shape whole) whole i low block (written g ciphertext shape whole).short;
+    block_tree = (own_sections g ciphertext (geometry_is g ciphertext shape whole) whole i low block).blocks;
     ciphertext = record {
       count = length-segment_leaves g ciphertext;
       holds = record { hashes = segment_leaves g ciphertext; nodes = refl };
@@ -113,7 +113,7 @@ module _ (g : Geometry) (ciphertext : List ℕ) (shape : IsShape g.needed g.tota
   module _ (IsOne : List ℕ → Type 0) (mine : AreOf IsOne (ciphertext_inputs g ciphertext)) where
     pub serves : IsShareOf IsOne g (said g ciphertext) i share s (segment_hashes segments) (padded leaves)
     serves =
-        let again = (blocks_are_joined g ciphertext shape whole i low).again in
+        let again = (blocks_are_joined g ciphertext (geometry_is g ciphertext shape whole) whole i low).again in
         record {
           own = own;
           share_root = sym (padded_root leaves);
