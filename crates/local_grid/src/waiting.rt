@@ -20,8 +20,8 @@ struct Place {
     bucket: usize,
 }
 
-/// Hashes what waits in eight buckets side by side, where so many have something, counted from a
-/// node on.
+/// Hashes what waits in the first eight buckets side by side, counted from a node on, where that
+/// one and at least two more have something.
 pub(crate) fn hash_waiting<S: Store, L: Link>(nodes: &mut [Option<Node<S, L>>], first: usize)
     ensures { nodes.new ≡ nodes.old }
 {
@@ -43,8 +43,9 @@ pub(crate) fn hash_waiting<S: Store, L: Link>(nodes: &mut [Option<Node<S, L>>], 
     take_over_at(nodes, places[7], h);
 }
 
-// The first eight places from a node on where something waits, and what their hashers come to;
-// nothing where nothing waits at that node.
+// The first eight places from a node on where something waits, and what their hashers come to.
+// Where there are fewer they stand there again; nothing where nothing waits at that node, or there
+// are fewer than three, which are the least that are worth eight lanes.
 fn eight_from<S: Store, L: Link>(
     nodes: &[Option<Node<S, L>>],
     first: usize,
@@ -71,23 +72,34 @@ fn eight_from<S: Store, L: Link>(
     let Some((p2, h2)) = waiting_from(nodes, p1.next(), end) else {
         return None;
     };
-    let Some((p3, h3)) = waiting_from(nodes, p2.next(), end) else {
-        return None;
-    };
-    let Some((p4, h4)) = waiting_from(nodes, p3.next(), end) else {
-        return None;
-    };
-    let Some((p5, h5)) = waiting_from(nodes, p4.next(), end) else {
-        return None;
-    };
-    let Some((p6, h6)) = waiting_from(nodes, p5.next(), end) else {
-        return None;
-    };
-    let Some((p7, h7)) = waiting_from(nodes, p6.next(), end) else {
-        return None;
-    };
+    let (p3, h3) = behind_or(nodes, p2, end, p0, h0);
+    let (p4, h4) = behind_or(nodes, p3, end, p0, h0);
+    let (p5, h5) = behind_or(nodes, p4, end, p0, h0);
+    let (p6, h6) = behind_or(nodes, p5, end, p0, h0);
+    let (p7, h7) = behind_or(nodes, p6, end, p0, h0);
     let hashed = hashed_eight(&[h0, h1, h2, h3, h4, h5, h6, h7]);
     Some(([p0, p1, p2, p3, p4, p5, p6, p7], hashed))
+}
+
+// The first place behind one, and before a node, where something waits, and its hasher; or another
+// one where nothing waits there.
+fn behind_or<'a, S: Store, L: Link>(
+    nodes: &'a [Option<Node<S, L>>],
+    from: Place,
+    end: usize,
+    other: Place,
+    hasher: &'a WaitingHasher,
+) -> (Place, &'a WaitingHasher)
+    requires some { 0 < length nodes.now }
+    requires other { HasHasherIn (other.node % length nodes.now) other.bucket hasher.now
+        nodes.now }
+    ensures { HasHasherIn (result.0.node % length nodes.now) result.0.bucket result.1.now
+        nodes.now }
+{
+    match waiting_from(nodes, from.next(), end) {
+        Some(found) => found,
+        None => (other, hasher),
+    }
 }
 
 impl Place {

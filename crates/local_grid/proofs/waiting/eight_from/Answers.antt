@@ -1,4 +1,4 @@
-use Rattle.std.proofs.Common.{Bor, ◌≡◌, ℕ, ◌%◌, List, [], ◌∷◌, Option, Some, length, refl, sym, subst, arith}
+use Rattle.std.proofs.Common.{Bor, ◌≡◌, ◌%◌, List, [], ◌∷◌, Option, Some, length, refl, sym, subst, arith}
 use Rattle.std.specs.Prelude.{slice_get}
 use Rattle.std.proofs.lemmas.Option.{same_Some}
 use Rattle.lemmas.proofs.Eights.{by_eight}
@@ -20,15 +20,15 @@ one nodes p place h hashed own at is =
 
 pub returns : goal.returns
 returns g c = λ j place hashed below at is.
-    by_eight (λ q. (place : Place) (hashed : TaggedHasher) → slice_get (c.in-Some.p0 ∷ c.in-Some-waiting_from.p1 ∷ c.in-Some-waiting_from-2.p2 ∷ c.in-Some-waiting_from-3.p3 ∷ c.in-Some-waiting_from-4.p4 ∷ c.in-Some-waiting_from-5.p5 ∷ c.in-Some-waiting_from-6.p6 ∷ c.in-Some-waiting_from-7.p7 ∷ []) q ≡ Some place
+    by_eight (λ q. (place : Place) (hashed : TaggedHasher) → slice_get (c.in-Some.p0 ∷ c.in-Some-waiting_from.p1 ∷ c.in-Some-waiting_from-2.p2 ∷ c.behind_or.result.0 ∷ c.behind_or-2.result.0 ∷ c.behind_or-3.result.0 ∷ c.behind_or-4.result.0 ∷ c.behind_or-5.result.0 ∷ []) q ≡ Some place
     → slice_get c.hashed_eight-hashed.result q ≡ Some hashed
     → HasHasherIn (place.node % length c.args.nodes.now) place.bucket (input_of hashed) c.args.nodes.now)
     (λ place hashed at is. one c.args.nodes.now c.in-Some.p0 place c.in-Some.h0 hashed c.in-Some.ensures at (c.hashed_eight-hashed.ensures 0 c.in-Some.h0 hashed (omega arith) refl is))
     (λ place hashed at is. one c.args.nodes.now c.in-Some-waiting_from.p1 place c.in-Some-waiting_from.h1 hashed c.in-Some-waiting_from.ensures at (c.hashed_eight-hashed.ensures 1 c.in-Some-waiting_from.h1 hashed (omega arith) refl is))
     (λ place hashed at is. one c.args.nodes.now c.in-Some-waiting_from-2.p2 place c.in-Some-waiting_from-2.h2 hashed c.in-Some-waiting_from-2.ensures at (c.hashed_eight-hashed.ensures 2 c.in-Some-waiting_from-2.h2 hashed (omega arith) refl is))
-    (λ place hashed at is. one c.args.nodes.now c.in-Some-waiting_from-3.p3 place c.in-Some-waiting_from-3.h3 hashed c.in-Some-waiting_from-3.ensures at (c.hashed_eight-hashed.ensures 3 c.in-Some-waiting_from-3.h3 hashed (omega arith) refl is))
-    (λ place hashed at is. one c.args.nodes.now c.in-Some-waiting_from-4.p4 place c.in-Some-waiting_from-4.h4 hashed c.in-Some-waiting_from-4.ensures at (c.hashed_eight-hashed.ensures 4 c.in-Some-waiting_from-4.h4 hashed (omega arith) refl is))
-    (λ place hashed at is. one c.args.nodes.now c.in-Some-waiting_from-5.p5 place c.in-Some-waiting_from-5.h5 hashed c.in-Some-waiting_from-5.ensures at (c.hashed_eight-hashed.ensures 5 c.in-Some-waiting_from-5.h5 hashed (omega arith) refl is))
-    (λ place hashed at is. one c.args.nodes.now c.in-Some-waiting_from-6.p6 place c.in-Some-waiting_from-6.h6 hashed c.in-Some-waiting_from-6.ensures at (c.hashed_eight-hashed.ensures 6 c.in-Some-waiting_from-6.h6 hashed (omega arith) refl is))
-    (λ place hashed at is. one c.args.nodes.now c.in-Some-waiting_from-7.p7 place c.in-Some-waiting_from-7.h7 hashed c.in-Some-waiting_from-7.ensures at (c.hashed_eight-hashed.ensures 7 c.in-Some-waiting_from-7.h7 hashed (omega arith) refl is))
+    (λ place hashed at is. one c.args.nodes.now c.behind_or.result.0 place c.behind_or.result.1 hashed c.behind_or.ensures at (c.hashed_eight-hashed.ensures 3 c.behind_or.result.1 hashed (omega arith) refl is))
+    (λ place hashed at is. one c.args.nodes.now c.behind_or-2.result.0 place c.behind_or-2.result.1 hashed c.behind_or-2.ensures at (c.hashed_eight-hashed.ensures 4 c.behind_or-2.result.1 hashed (omega arith) refl is))
+    (λ place hashed at is. one c.args.nodes.now c.behind_or-3.result.0 place c.behind_or-3.result.1 hashed c.behind_or-3.ensures at (c.hashed_eight-hashed.ensures 5 c.behind_or-3.result.1 hashed (omega arith) refl is))
+    (λ place hashed at is. one c.args.nodes.now c.behind_or-4.result.0 place c.behind_or-4.result.1 hashed c.behind_or-4.ensures at (c.hashed_eight-hashed.ensures 6 c.behind_or-4.result.1 hashed (omega arith) refl is))
+    (λ place hashed at is. one c.args.nodes.now c.behind_or-5.result.0 place c.behind_or-5.result.1 hashed c.behind_or-5.ensures at (c.hashed_eight-hashed.ensures 7 c.behind_or-5.result.1 hashed (omega arith) refl is))
     j below place hashed at is
