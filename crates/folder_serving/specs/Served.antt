@@ -8,13 +8,15 @@ use Rattle.wire.specs.declared.message.HeldShare.{HeldShare}
 use Rattle.wire.specs.declared.message.Message.{Message}
 use Rattle.wire.specs.declared.message.ShareId.{ShareId}
 use Rattle.tagged_hash.specs.TaggedHash.{share_digest}
+use Rattle.disks.specs.Names.{Relied}
 use Rattle.share_store.specs.declared.error.StoreError.{StoreError}
 use Rattle.server_core.specs.Buckets.{bytes_so_far}
 use Rattle.server_core.specs.ServerState.{Line, line_of}
 use Rattle.server_core.specs.ServerState.{ListsHoldings, WritesBytes, ClosesShare, ReadsShare}
 use Rattle.share_store.specs.Shelf.{ShareKey, at, is_under, key_of}
 use Rattle.share_folders.specs.Listed.{IsAlone}
-use Rattle.share_folders.specs.Relied.{IsReliedWhole}
+use Rattle.share_folders.specs.Names.{IsShareKey}
+use Rattle.share_folders.specs.Relied.{AreWholeAlone, IsReliedWhole}
 use Rattle.folder_keeping.specs.Store.{Facts, IsSyncing, disk_calls}
 use Rattle.folder_keeping.specs.Steps as keeping
 use Rattle.folder_keeping.specs.Steps.{Step, Runs}
@@ -119,3 +121,10 @@ ClosedAreServed {D} {F} d =
     → All (IsStartedAlone (key_of id) digest) after
     → (bytes : List ℕ) × (digest ≡ share_digest bytes)
     × StaysServed d after t (key_of id) digest bytes
+
+-- Each share can be relied on, whatever digest it is closed with, and whole shares alone. So what
+-- is asked here of other programs can be asked where they set the rest aside.
+abbrev pub WholeCanBeRelied : Type 0
+WholeCanBeRelied = (key : ShareKey) → IsShareKey key
+    → (relied : Relied) × AreWholeAlone relied
+    × ((digest : List ℕ) → IsReliedWhole relied key digest)

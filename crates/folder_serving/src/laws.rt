@@ -2,6 +2,7 @@
 //! nothing.
 
 ghost use Rattle.folder_serving.specs.Served.{ClosedAreServed, SafeAreServed, ServersAreOrderly};
+ghost use Rattle.folder_serving.specs.Served.{WholeCanBeRelied};
 
 use disks::disk::Disk;
 use disks::laws::durable_outlasts;
@@ -42,5 +43,12 @@ pub fn closed_are_served<D: Disk>()
     }) }
 {
     durable_outlasts();
+    hashes_have_32_bytes();
+}
+
+/// Each share can be relied on, and whole shares alone.
+pub fn whole_can_be_relied()
+    ensures { WholeCanBeRelied }
+{
     hashes_have_32_bytes();
 }
