@@ -55,7 +55,6 @@ kept_preparing preparing.SourceFault = refl
 
 kept_remaking : (e : RemakeError) → fault_number (fault_of_remaking e) ≡ remake_errors.remake_number e
 kept_remaking remaking.OutOfMemory = refl
-kept_remaking remaking.TooLarge = refl
 kept_remaking remaking.Inconsistent = refl
 kept_remaking remaking.SourceChanged = refl
 kept_remaking remaking.SourceFault = refl

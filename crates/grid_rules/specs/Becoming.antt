@@ -42,7 +42,6 @@ fault_of_preparing preparing.SourceFault = SourceFault
 -- the fault that the refusal to make shares anew becomes
 abbrev pub fault_of_remaking : RemakeError → Fault
 fault_of_remaking remaking.OutOfMemory = OutOfMemory
-fault_of_remaking remaking.TooLarge = TooLarge
 fault_of_remaking remaking.Inconsistent = Inconsistent
 fault_of_remaking remaking.SourceChanged = SourceChanged
 fault_of_remaking remaking.SourceFault = SourceFault

@@ -62,7 +62,6 @@ pub fn fault_of_remaking(error: RemakeError) -> Fault
 {
     match error {
         RemakeError::OutOfMemory => Fault::OutOfMemory,
-        RemakeError::TooLarge => Fault::TooLarge,
         RemakeError::Inconsistent => Fault::Inconsistent,
         RemakeError::SourceChanged => Fault::SourceChanged,
         RemakeError::SourceFault => Fault::SourceFault,
