@@ -140,7 +140,6 @@ fn tell_preparing(rows: &mut Rows) -> Result<(), AllocError> {
 fn tell_remaking(rows: &mut Rows) -> Result<(), AllocError> {
     for error in [
         RemakeError::OutOfMemory,
-        RemakeError::TooLarge,
         RemakeError::Inconsistent,
         RemakeError::SourceChanged,
         RemakeError::SourceFault,
