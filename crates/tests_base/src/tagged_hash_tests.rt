@@ -5,7 +5,7 @@ use aes_ctr::Aes128;
 use std::test::Fail;
 use tagged_hash::{
     KeyHasher, Tag, TaggedHasher, WaitingHasher, convergent_key, empty_leaf, hashed_eight, pair,
-    storage_index, tagged,
+    storage_index, tagged, update_eight,
 };
 
 #[test]
@@ -57,6 +57,36 @@ fn what_waits_is_hashed_side_by_side(rt: HostRuntime) {
     assert!(rt; third.finish() == LETTERS);
     assert!(rt; fourth.finish() != LETTERS);
     assert!(rt; own.finish() == LETTERS);
+}
+
+// The same beside seven others, with a tag and pieces of its own.
+#[test]
+fn eight_take_their_own_pieces(rt: HostRuntime) {
+    let message = [b'a'; 200];
+    let other: &[u8] = b"abc";
+    let mut hashers = [
+        TaggedHasher::new(Tag::Ciphertext),
+        TaggedHasher::new(Tag::Ciphertext),
+        TaggedHasher::new(Tag::Block),
+        TaggedHasher::new(Tag::WholeShare),
+        TaggedHasher::new(Tag::WholeShare),
+        TaggedHasher::new(Tag::WholeShare),
+        TaggedHasher::new(Tag::WholeShare),
+        TaggedHasher::new(Tag::WholeShare),
+    ];
+    let (start, rest) = (&message[..65], &message[65..]);
+    let none: &[u8] = b"";
+    update_eight(
+        &mut hashers,
+        &[other, other, start, other, other, other, other, other],
+    );
+    update_eight(
+        &mut hashers,
+        &[none, other, rest, none, none, none, none, none],
+    );
+    let [_a, _b, third, fourth, _e, _f, _g, _h] = hashers;
+    assert!(rt; third.finish() == LETTERS);
+    assert!(rt; fourth.finish() == tagged(Tag::WholeShare, b"abc"));
 }
 
 #[test]
