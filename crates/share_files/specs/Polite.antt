@@ -1,6 +1,6 @@
--- That other programs reckon with what is done to share files, where whole closed shares alone are
--- relied on, which may be few of them. Each is a law over a step of `changes`, as every other
--- program sees it.
+-- That other programs reckon with what is done to share files, where of these whole closed ones
+-- alone are relied on, which may be few of them. Each is a law over a step of `changes`, as every
+-- other program sees it.
 use Rattle.std.specs.Prelude.{◌≡◌, ℕ, List, Bool, Some, true, false}
 use Rattle.tagged_hash.specs.TaggedHash.{share_digest}
 use Rattle.disks.specs.Names.{Name, Relied}
@@ -28,7 +28,8 @@ ClosedMayGo = (relied : Relied) (key : ShareKey) (digest own : List ℕ) (s t : 
 -- From there it gets one of those that are set aside, whatever it holds.
 abbrev pub HalfMayGo : Type 0
 HalfMayGo = (relied : Relied) (key : ShareKey) (digest own : List ℕ) (number : ℕ) (s t : Folder)
-    (i : ℕ) (mine : Name → Bool) → AreWholeAlone relied → IsAsideNumber number
+    (i : ℕ) (mine : Name → Bool) → AreWholeAlone relied → IsNamed key digest
+    → IsAsideNumber number
     → Renames (half_name key digest own) (aside_name key digest number) s t
     → s.found (half_name key digest own) ≡ Some i
     → AreApart mine s (half_name key digest own) (aside_name key digest number) i
@@ -48,7 +49,7 @@ HalfMayReturn = (relied : Relied) (key : ShareKey) (digest own bytes : List ℕ)
 -- An open file, or an empty one that was made in vain, is removed.
 abbrev pub LeftMayGo : Type 0
 LeftMayGo = (relied : Relied) (key : ShareKey) (digest own : List ℕ) (number : ℕ) (s t : Folder)
-    (mine : Name → Bool) → AreWholeAlone relied → IsAsideNumber number
+    (mine : Name → Bool) → AreWholeAlone relied → IsNamed key digest → IsAsideNumber number
     → (Removes (open_name key (Some own)) s t → mine (open_name key (Some own)) ≡ false
     → Others relied (seen_by mine s) (seen_by mine t))
     × (Removes (aside_name key digest number) s t → mine (aside_name key digest number) ≡ false

@@ -1,5 +1,5 @@
 //! That other programs reckon with what is done to share files. Each law is a contract; its call
-//! does nothing. They hold where whole closed shares alone are relied on.
+//! does nothing. They hold where of the files of shares whole closed ones alone are relied on.
 
 ghost use Rattle.share_files.specs.Polite.{ClosedMayGo, HalfMayGo, HalfMayReturn, LeftMayGo};
 ghost use Rattle.share_files.specs.Polite.{PlaceMayBeMade};
