@@ -1,12 +1,13 @@
 -- What is done to share files is what others may do.
-use Rattle.std.proofs.Common.{◌≡◌, ◌≢◌, ℕ, List, ◌++◌, Some, sym, ap, ◌∙◌, subst}
+use Rattle.std.proofs.Common.{◌≡◌, ◌≢◌, ℕ, List, ◌++◌, Some, true, sym, ap, ◌∙◌, subst}
 use Rattle.std.specs.Prelude.{codes, decimal}
 use Rattle.std.proofs.lemmas.List.{append_assoc}
 use mathlib.Core.Bool.{true≢false}
 use Rattle.cap_text.specs.Base32.{base32}
 use Rattle.tagged_hash.specs.TaggedHash.{share_digest}
 use Rattle.disks.specs.Names.{Name, Relied, IsRelied}
-use Rattle.disks.specs.Folder.{Folder, HasBytes}
+use Rattle.disks.specs.Folder.{Folder, FileState, HasBytes, StandsFor}
+use Rattle.disks.specs.Steps.{Renames}
 use Rattle.disks.specs.Polite.{IsLoose}
 use Rattle.disks.proofs.Polite.{aside_polite, make_polite, removal_polite, return_polite}
 use Rattle.share_store.specs.Shelf.{ShareKey}
@@ -14,7 +15,7 @@ use Rattle.share_folders.specs.Names.{IsNamed, closed_name}
 use Rattle.share_folders.specs.Relied.{AreWholeAlone}
 use Rattle.share_folders.proofs.Lasting.{open_passes}
 use Rattle.share_files.specs.Name.{IsAsideNumber, aside_end, aside_name, half_name}
-use Rattle.share_files.specs.Polite.{ClosedMayGo, HalfMayGo, HalfMayReturn, LeftMayGo, PlaceMayBeMade}
+use Rattle.share_files.specs.Polite.{ClosedMayGo, HalfMayGo, HalfMayReturn, LeftMayGo, PlaceMayBeMade, WholeComesBack}
 use Rattle.share_files.proofs.AsideNames.{by_number, numbered_end}
 
 -- ---- what goes on behind a closed name is not relied on
@@ -73,3 +74,15 @@ left_goes relied key digest own number s t mine alone named is = (
 
 pub place_made : PlaceMayBeMade
 place_made relied name s t mine makes none = make_polite relied name makes.0 s t mine makes.1 none
+
+-- ---- a whole share that was taken
+
+-- what stands for bytes stands for them under its other name
+stands_on : (from to : Name) (s t : Folder) (bytes : List ℕ) → Renames from to s t → StandsFor s bytes (s.found from) → StandsFor t bytes (t.found to)
+stands_on from to s t bytes step stands =
+    subst (StandsFor t bytes) (sym step.found) (step.file ∙ ap (λ (f : FileState). record f { is_finished = true }) (subst (StandsFor s bytes) step.was stands))
+
+pub comes_back : WholeComesBack
+comes_back relied key digest own bytes s half other t stands goes relies others =
+    let there = others.settled (half_name key digest own) bytes relies (stands_on (closed_name key digest) (half_name key digest own) s half bytes goes stands) in
+    (there, λ returns. stands_on (half_name key digest own) (closed_name key digest) other t bytes returns there)

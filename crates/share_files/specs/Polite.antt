@@ -3,8 +3,8 @@
 -- other program sees it.
 use Rattle.std.specs.Prelude.{◌≡◌, ℕ, List, Bool, Some, true, false}
 use Rattle.tagged_hash.specs.TaggedHash.{share_digest}
-use Rattle.disks.specs.Names.{Name, Relied}
-use Rattle.disks.specs.Folder.{Folder, HasBytes}
+use Rattle.disks.specs.Names.{Name, Relied, IsRelied}
+use Rattle.disks.specs.Folder.{Folder, HasBytes, StandsFor}
 use Rattle.disks.specs.Others.{Others}
 use Rattle.disks.specs.Polite.{AreApart, seen_by}
 use Rattle.disks.specs.Steps.{Makes, Removes, Renames}
@@ -59,3 +59,15 @@ LeftMayGo = (relied : Relied) (key : ShareKey) (digest own : List ℕ) (number :
 abbrev pub PlaceMayBeMade : Type 0
 PlaceMayBeMade = (relied : Relied) (name : Name) (s t : Folder) (mine : Name → Bool)
     → Makes name s t → mine name ≡ false → Others relied (seen_by mine s) (seen_by mine t)
+
+-- None of these laws allows that a whole share which is relied on is taken. Where one was, since it
+-- was closed after a damaged file was read there, it is not lost: it stands under its name on the
+-- way, as long as others leave it there, and under its closed name again once it has that back.
+abbrev pub WholeComesBack : Type 0
+WholeComesBack = (relied : Relied) (key : ShareKey) (digest own bytes : List ℕ)
+    (s half other t : Folder) → StandsFor s bytes (s.found (closed_name key digest))
+    → Renames (closed_name key digest) (half_name key digest own) s half
+    → IsRelied relied (half_name key digest own) bytes → Others relied half other
+    → StandsFor other bytes (other.found (half_name key digest own))
+    × (Renames (half_name key digest own) (closed_name key digest) other t
+    → StandsFor t bytes (t.found (closed_name key digest)))

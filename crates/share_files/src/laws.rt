@@ -2,7 +2,7 @@
 //! does nothing. They hold where of the files of shares whole closed ones alone are relied on.
 
 ghost use Rattle.share_files.specs.Polite.{ClosedMayGo, HalfMayGo, HalfMayReturn, LeftMayGo};
-ghost use Rattle.share_files.specs.Polite.{PlaceMayBeMade};
+ghost use Rattle.share_files.specs.Polite.{PlaceMayBeMade, WholeComesBack};
 
 /// A closed share's file that is damaged, or is not relied on, gets a name on its way to be set
 /// aside.
@@ -28,4 +28,9 @@ pub fn left_may_go()
 /// A file is made where nothing stands.
 pub fn place_may_be_made()
     ensures { PlaceMayBeMade }
+{}
+
+/// A whole share that was taken all the same is not lost, and comes back.
+pub fn whole_comes_back()
+    ensures { WholeComesBack }
 {}
