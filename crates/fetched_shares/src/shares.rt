@@ -7,7 +7,7 @@ use local_grid::error::LoopError;
 use local_grid::grid::LocalGrid;
 use local_grid::link::Link;
 use share_fetching::{Fetch, SharePlace, ShareRange};
-use share_source::ShareBytes;
+use share_leaves::ShareBytes;
 use share_store::store::Store;
 use sources::SourceFault;
 use std::alloc::{AllocError, Global};

@@ -1,5 +1,5 @@
 -- The leaves of the block tree of a share.
-use Rattle.std.specs.Prelude.{◌≡◌, ◌≢◌, ◌⊎◌, ℕ, ◌+◌, ◌-◌, ◌*◌, ◌^◌, ◌≤◌, List, [], length}
+use Rattle.std.specs.Prelude.{◌≡◌, ◌≢◌, ◌⊎◌, ℕ, ◌+◌, ◌-◌, ◌*◌, ◌^◌, ◌≤◌, List, length}
 pub use Rattle.share_verify.specs.TreeSection.{hashes_in}
 use Rattle.merkle.specs.Partial.{PartialState, starting}
 use Rattle.merkle.specs.Tree.{height, tree_root}
@@ -10,7 +10,6 @@ use Rattle.share_verify.specs.CapBlock.{geometry_by}
 use Rattle.share_verify.specs.declared.check.Check.{Check}
 use Rattle.download_parts.specs.Refusal.{IsHashesRefusal}
 use Rattle.download_parts.specs.Trees.{IsBlockRoot, starting_trees}
-use Rattle.share_source.specs.Candidates.{Candidate}
 use Rattle.share_leaves.specs.Reads.{Fails, Gives}
 
 -- These are leaves of the block tree of a share of this number, one for each segment: the root of
@@ -54,10 +53,6 @@ pub data AreNoLeaves {B : Type 0} (gives : Gives B) (fails : Fails B) (u : Conte
       → IsBlockRoot u.share_root_hash u.total_shares number root
       → AreOtherLeaves gives fails u position root mid new
       → AreNoLeaves gives fails u position number old new
-
--- a share that may be read has the leaves of its block tree, or none
-abbrev pub IsCandidate : Contents → Candidate → Type 0
-IsCandidate u c = (c.leaves ≡ []) ⊎ AreLeavesOf u c.number c.leaves
 
 -- ---- words of private clauses
 

@@ -1,14 +1,14 @@
 //! The extension block of a share.
 
-ghost use Rattle.std.specs.Prelude.{◌≡◌, ◌≤◌, ◌<◌, IfNone, IfOk, IfSome, OnOk, length};
+ghost use Rattle.std.specs.Prelude.{◌≡◌, ◌≤◌, ◌<◌, IfNone, IfOk, IfSome, length};
 ghost use Rattle.share_leaves.specs.Block.{Goes, IsNoBlock, IsReadBlock};
 ghost use Rattle.share_leaves.specs.Reads.{WasRead};
 
+use crate::bytes::ShareBytes;
 use crate::reading::read_bytes;
 use cap_text::VerifyCap;
 use share_reading::Opening;
 use share_reading::opening::Progress;
-use share_source::ShareBytes;
 use std::alloc::{AllocError, Global};
 use ueb::Ueb;
 
@@ -45,7 +45,7 @@ pub fn read_block<B: ShareBytes>(
     ensures block { IfOk result (λ found. IfSome found (IsReadBlock cap.now)) }
     ensures none { IfOk result (λ found. IfNone found
         (IsNoBlock B.gives B.fails cap.now position bytes.old bytes.new)) }
-    ensures reads { OnOk result (WasRead B.gives B.fails bytes.old bytes.new) }
+    ensures reads { WasRead B.gives B.fails bytes.old bytes.new }
 {
     let mut opening = Opening::start();
     'reads: for done in 0..MOST_READS {
@@ -68,7 +68,7 @@ fn read_next<B: ShareBytes>(
 ) -> Result<Step, AllocError>
     ensures goes { IfOk result (λ step.
         Goes B.gives B.fails cap.now position opening.now bytes.old step bytes.new) }
-    ensures reads { OnOk result (WasRead B.gives B.fails bytes.old bytes.new) }
+    ensures reads { WasRead B.gives B.fails bytes.old bytes.new }
 {
     let (offset, size) = (opening.next_offset(), opening.next_length() as usize);
     let Some(text) = read_bytes(alloc, bytes, position, offset, size)? else {

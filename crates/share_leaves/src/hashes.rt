@@ -1,12 +1,12 @@
 //! Hashes that stand in a share one after another.
 
-ghost use Rattle.std.specs.Prelude.{◌≡◌, ◌*◌, ℕ, List, IfNone, IfOk, IfSome, OnOk};
+ghost use Rattle.std.specs.Prelude.{◌≡◌, ◌*◌, ℕ, List, IfNone, IfOk, IfSome};
 ghost use Rattle.std.specs.Prelude.{length};
 ghost use Rattle.share_leaves.specs.Leaves.{hashes_in};
 ghost use Rattle.share_leaves.specs.Reads.{WasRead};
 
+use crate::bytes::ShareBytes;
 use crate::reading::read_bytes;
-use share_source::ShareBytes;
 use std::alloc::{AllocError, Global};
 
 /// So many hashes of the share at a position, from an offset on. `None` where the read failed.
@@ -24,7 +24,7 @@ pub(crate) fn read_hashes<B: ShareBytes>(
     ensures count { IfOk result (λ found. IfSome found (λ hashes. length hashes.items ≡ count)) }
     ensures none { IfOk result (λ found. IfNone found
         (B.fails bytes.old position offset (count * 32) bytes.new)) }
-    ensures reads { OnOk result (WasRead B.gives B.fails bytes.old bytes.new) }
+    ensures reads { WasRead B.gives B.fails bytes.old bytes.new }
 {
     let Some(text) = read_bytes(alloc, bytes, position, offset, count as usize * 32)? else {
         return Ok(None);

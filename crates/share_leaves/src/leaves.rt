@@ -1,7 +1,7 @@
 //! The leaves of the block tree of a share.
 
 ghost use Rattle.std.specs.Prelude.{◌≡◌, ◌≢◌, ◌-◌, ◌*◌, ◌^◌, ◌<◌, ◌≤◌, IfNone, IfOk, IfSome};
-ghost use Rattle.std.specs.Prelude.{IsTrue, OnOk, false, length};
+ghost use Rattle.std.specs.Prelude.{IsTrue, false, length};
 ghost use Rattle.merkle.specs.Partial.{IsPartial, starting};
 ghost use Rattle.merkle.specs.Tree.{height, max_leaves, tree_root};
 ghost use Rattle.share_layout.specs.Geometry.{hashes_size, segment_count};
@@ -11,12 +11,12 @@ ghost use Rattle.download_parts.specs.Trees.{IsBlockRoot};
 ghost use Rattle.share_leaves.specs.Leaves.{AreLeavesOf, AreNoHashes, AreNoLeaves, KnowsRoot};
 ghost use Rattle.share_leaves.specs.Reads.{WasRead};
 
+use crate::bytes::ShareBytes;
 use crate::hashes::read_hashes;
 use crate::reading::read_bytes;
 use download_parts::{BlockTree, FileTrees, Nodes, TreeFault};
 use merkle::Tree;
 use share_layout::{Geometry, Offsets};
-use share_source::ShareBytes;
 use share_verify::geometry_of;
 use std::alloc::{AllocError, Global};
 use ueb::Ueb;
@@ -37,7 +37,7 @@ pub fn read_leaves<B: ShareBytes>(
         AreLeavesOf ueb.now number leaves.items)) }
     ensures none { IfOk result (λ found. IfNone found
         (AreNoLeaves B.gives B.fails ueb.now position number bytes.old bytes.new)) }
-    ensures reads { OnOk result (WasRead B.gives B.fails bytes.old bytes.new) }
+    ensures reads { WasRead B.gives B.fails bytes.old bytes.new }
 {
     if number >= ueb.total_shares() {
         return Ok(None);
@@ -77,7 +77,7 @@ fn read_root<B: ShareBytes>(
         KnowsRoot B.gives ueb.now position number bytes.old tree bytes.new)) }
     ensures none { IfOk result (λ found. IfNone found
         (AreNoHashes B.gives B.fails ueb.now position number bytes.old bytes.new)) }
-    ensures reads { OnOk result (WasRead B.gives B.fails bytes.old bytes.new) }
+    ensures reads { WasRead B.gives B.fails bytes.old bytes.new }
 {
     let geometry = geometry_of(ueb);
     let offsets = Offsets::of(&geometry);

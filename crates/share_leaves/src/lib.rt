@@ -6,11 +6,11 @@
 #![tactic(auto)]
 
 mod block;
-mod candidates;
+mod bytes;
 mod hashes;
 mod leaves;
 mod reading;
 
 pub use block::{ReadBlock, read_block};
-pub use candidates::read_candidates;
+pub use bytes::ShareBytes;
 pub use leaves::read_leaves;

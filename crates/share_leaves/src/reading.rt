@@ -1,9 +1,9 @@
 //! Bytes that stand in a share.
 
-ghost use Rattle.std.specs.Prelude.{◌≡◌, IfNone, IfOk, IfSome, OnOk, length};
+ghost use Rattle.std.specs.Prelude.{◌≡◌, IfNone, IfOk, IfSome, length};
 ghost use Rattle.share_leaves.specs.Reads.{WasRead};
 
-use share_source::ShareBytes;
+use crate::bytes::ShareBytes;
 use std::alloc::{AllocError, Global};
 
 /// So many bytes of the share at a position, from an offset on. `None` where the read failed.
@@ -19,7 +19,7 @@ pub(crate) fn read_bytes<B: ShareBytes>(
     ensures long { IfOk result (λ found. IfSome found (λ text. length text.items ≡ count)) }
     ensures none { IfOk result (λ found. IfNone found
         (B.fails bytes.old position offset count bytes.new)) }
-    ensures reads { OnOk result (WasRead B.gives B.fails bytes.old bytes.new) }
+    ensures reads { WasRead B.gives B.fails bytes.old bytes.new }
 {
     let mut text = vec![in alloc; 0u8; count]?;
     match bytes.read(position, offset, &mut text) {

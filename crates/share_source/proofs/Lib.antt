@@ -6,3 +6,4 @@ pub mod Striking
 pub mod Chosen
 pub mod Blocks
 pub mod Decodings
+pub mod Holding

@@ -6,10 +6,10 @@ use Rattle.std.proofs.lemmas.List.Sums.{sum_by-set}
 use Rattle.std.proofs.lemmas.Option.{get_or_from_slice_get, same_Some, slice_get_within}
 use Rattle.lemmas.proofs.Positions.{get_set, get_set_other}
 use Rattle.share_source.specs.Candidates.{AreReadOn}
-use Rattle.share_source.specs.Reading.{StayStruck, left_count}
+use Rattle.share_source.specs.Reading.{StayStruck, unstruck_count}
 
 -- one share more is struck out
-pub left_fewer : (struck : List Bool) (p : ℕ) → slice_get struck p ≡ Some false → left_count (set struck p true) < left_count struck
+pub left_fewer : (struck : List Bool) (p : ℕ) → slice_get struck p ≡ Some false → unstruck_count (set struck p true) < unstruck_count struck
 left_fewer struck p e =
     let left : Bool → ℕ = λ b. cond (not b) 1 0 in
     let sums = sum_by-set left struck p true true (slice_get_within struck p false e) in

@@ -1,96 +1,139 @@
--- Shares that may be read, and blocks that were read of them.
+-- Shares that may be read, and what was read of them.
 use Rattle.std.specs.Prelude.{◌≡◌, ◌⊎◌, ℕ, ◌<◌, Bool, true, false, List, [], ◌∷◌, Contains, Option}
 use Rattle.std.specs.Prelude.{None, Some, length, map, slice_get, slice_index, slice_index_or}
 use Rattle.std.specs.Prelude.{slice_set, take}
 use Rattle.tagged_hash.specs.TaggedHash.{tagged_hash}
 use Rattle.tagged_hash.specs.declared.tag.Tag.TheVariants.{Block}
+use Rattle.ueb.specs.Shape.{Contents}
+use Rattle.share_leaves.specs.Leaves.{AreLeavesOf, AreNoLeaves}
+use Rattle.share_leaves.specs.Reads.{Fails, Gives, WasRead}
 use Rattle.share_source.specs.declared.place.Place.{Place}
 
--- a share at a server: its number, and the leaves of its block tree
-pub record Candidate : Type 0 where
-  pub number : ℕ
-  pub leaves : List (List ℕ)
-
--- shares that may be read, by their positions; which of them were struck out; and their bytes
+-- Shares of a file that may be read, by their positions: what the file's extension block says, the
+-- numbers of the shares, the leaves that are held of each (none, or those of its block tree), which
+-- of them were struck out, and the bytes of all.
 pub record Candidates (B : Type 0) : Type 0 where
-  pub shares : List Candidate
+  pub ueb : Contents
+  pub numbers : List ℕ
+  pub held : List (List (List ℕ))
   pub struck : List Bool
   pub bytes : B
 
--- the number of the share at a position
-abbrev pub number_at : List Candidate → ℕ → ℕ
-number_at shares position = slice_index (map (λ (c : Candidate). c.number) shares) position
-
 -- the numbers of the shares at positions
-abbrev pub numbers_at : List Candidate → List ℕ → List ℕ
-numbers_at shares positions = map (number_at shares) positions
+abbrev pub picked_numbers : List ℕ → List ℕ → List ℕ
+picked_numbers numbers positions = map (slice_index numbers) positions
 
--- the hash that its tree has for the block of a segment
-abbrev pub leaf_at : List Candidate → ℕ → ℕ → List ℕ
-leaf_at shares position segment =
-    slice_index_or (slice_index_or (map (λ (c : Candidate). c.leaves) shares) position []) segment
-    []
+-- the leaves that are held of the share at a position
+abbrev pub leaves_held : List (List (List ℕ)) → ℕ → List (List ℕ)
+leaves_held held position = slice_index_or held position []
+
+-- the share at a position is struck out, and its leaves are let go
+abbrev pub struck_out : {B : Type 0} → Candidates B → ℕ → B → Candidates B
+struck_out c position bytes = record c {
+  held = slice_set c.held position [];
+  struck = slice_set c.struck position true;
+  bytes = bytes;
+}
 
 -- ---- what was read
 
--- a read of a block: the position of the share, and what came, unless the read failed
-abbrev pub BlockRead : Type 0
-BlockRead = ℕ × Option (List ℕ)
+-- what came is the block that leaves tell for a segment
+abbrev pub HasLeaf : List (List ℕ) → ℕ → Option (List ℕ) → Type 0
+HasLeaf leaves segment (Some block) =
+    tagged_hash Block block ≡ slice_index_or leaves segment []
+HasLeaf leaves segment None = ⊥
 
--- what came is the block that the share's tree tells
-abbrev pub HasLeaf : List Candidate → Place → ℕ → Option (List ℕ) → Type 0
-HasLeaf shares place position (Some block) =
-    tagged_hash Block block ≡ leaf_at shares position place.segment
-HasLeaf shares place position None = ⊥
-
--- these blocks, one of each share, are those that the shares' trees tell
-abbrev pub HaveLeaves : List Candidate → ℕ → List ℕ → List (List ℕ) → Type 0
-HaveLeaves shares segment positions blocks = (i : ℕ) → i < length positions
-    → tagged_hash Block (slice_index_or blocks i [])
-    ≡ leaf_at shares (slice_index positions i) segment
-
--- the bytes of the shares brought this, or a read of them failed
-abbrev pub Brought : {B : Type 0} → (B → ℕ → ℕ → List ℕ → B → Type 0)
-    → (B → ℕ → ℕ → ℕ → B → Type 0) → Place → B → BlockRead → B → Type 0
-Brought gives fails place old (position, Some block) new =
+-- the bytes of the share at a position brought this, or a read of them failed
+abbrev pub Brought : {B : Type 0} → Gives B → Fails B → Place → ℕ → B → Option (List ℕ) → B → Type 0
+Brought gives fails place position old (Some block) new =
     (length block ≡ place.size) × gives old position place.begin block new
-Brought gives fails place old (position, None) new =
-    fails old position place.begin place.size new
+Brought gives fails place position old None new = fails old position place.begin place.size new
 
--- A block was read of a share that was not struck out. It is struck out now just where what came
--- is not the block that its tree tells.
-pub record IsAsked {B : Type 0} (gives : B → ℕ → ℕ → List ℕ → B → Type 0)
-    (fails : B → ℕ → ℕ → ℕ → B → Type 0) (place : Place) (old : Candidates B) (read : BlockRead)
-    (new : Candidates B) : Type 0 where
-  pub left : slice_get old.struck read.0 ≡ Some false
-  pub brought : Brought gives fails place old.bytes read new.bytes
-  pub judged : (HasLeaf old.shares place read.0 read.1 × (new.struck ≡ old.struck))
-      ⊎ ((¬ HasLeaf old.shares place read.0 read.1)
-      × (new.struck ≡ slice_set old.struck read.0 true))
-  pub shares : new.shares ≡ old.shares
+-- leaves of the share at a position are held, and are those of its tree
+abbrev pub HoldsOwnLeaves : {B : Type 0} → Candidates B → ℕ → Type 0
+HoldsOwnLeaves c position =
+    AreLeavesOf c.ueb (slice_index c.numbers position) (leaves_held c.held position)
 
--- these blocks were read, one after another
-abbrev pub AreAsked : {B : Type 0} → (B → ℕ → ℕ → List ℕ → B → Type 0)
-    → (B → ℕ → ℕ → ℕ → B → Type 0) → Place → Candidates B → List BlockRead → Candidates B
-    → Type 0
-AreAsked gives fails place old [] new = new ≡ old
-AreAsked gives fails place old (read ∷ reads) new =
-    (mid : Candidates _) × IsAsked gives fails place old read mid
-    × AreAsked gives fails place mid reads new
+-- A block was read of a share that was not struck out, by the leaves that are held of it. It is
+-- struck out now just where what came is not the block that they tell.
+pub record IsBlockRead {B : Type 0} (gives : Gives B) (fails : Fails B) (place : Place)
+    (old : Candidates B) (position : ℕ) (came : Option (List ℕ)) (new : Candidates B)
+    : Type 0 where
+  pub left : slice_get old.struck position ≡ Some false
+  pub holds : HoldsOwnLeaves old position
+  pub brought : Brought gives fails place position old.bytes came new.bytes
+  pub judged : (HasLeaf (leaves_held old.held position) place.segment came
+      × (new ≡ record old { bytes = new.bytes }))
+      ⊎ ((¬ HasLeaf (leaves_held old.held position) place.segment came)
+      × (new ≡ struck_out old position new.bytes))
+
+-- what came are the leaves of a share's tree, which are held now; or there are none
+abbrev pub LeavesCame : {B : Type 0} → Gives B → Fails B → Candidates B → ℕ
+    → Option (List (List ℕ)) → Candidates B → Type 0
+LeavesCame gives fails old position (Some leaves) new = WasRead gives fails old.bytes new.bytes
+    × AreLeavesOf old.ueb (slice_index old.numbers position) leaves
+    × (new ≡ record old { held = slice_set old.held position leaves; bytes = new.bytes })
+LeavesCame gives fails old position None new =
+    AreNoLeaves gives fails old.ueb position (slice_index old.numbers position) old.bytes new.bytes
+    × (new ≡ struck_out old position new.bytes)
+
+-- The leaves were read of a share that was not struck out, and of which none were held. It is
+-- struck out now just where there are none.
+pub record AreLeavesRead {B : Type 0} (gives : Gives B) (fails : Fails B) (old : Candidates B)
+    (position : ℕ) (came : Option (List (List ℕ))) (new : Candidates B) : Type 0 where
+  pub left : slice_get old.struck position ≡ Some false
+  pub none : leaves_held old.held position ≡ []
+  pub brought : LeavesCame gives fails old position came new
+
+-- what was read: a block of a share, or its leaves, and what came of it; or leaves of a share,
+-- until memory was refused
+pub data ShareRead : Type 0 where
+  block : (position : ℕ) (came : Option (List ℕ)) → ShareRead
+  leaves : (position : ℕ) (came : Option (List (List ℕ))) → ShareRead
+  refused : ShareRead
+
+-- this was read
+abbrev pub IsShareRead : {B : Type 0} → Gives B → Fails B → Place → Candidates B → ShareRead
+    → Candidates B → Type 0
+IsShareRead gives fails place old (ShareRead.block position came) new =
+    IsBlockRead gives fails place old position came new
+IsShareRead gives fails place old (ShareRead.leaves position came) new =
+    AreLeavesRead gives fails old position came new
+IsShareRead gives fails place old ShareRead.refused new =
+    WasRead gives fails old.bytes new.bytes × (new ≡ record old { bytes = new.bytes })
+
+-- these were read, one after another
+abbrev pub AreSharesRead : {B : Type 0} → Gives B → Fails B → Place → Candidates B
+    → List ShareRead → Candidates B → Type 0
+AreSharesRead gives fails place old [] new = new ≡ old
+AreSharesRead gives fails place old (read ∷ reads) new =
+    (mid : Candidates _) × IsShareRead gives fails place old read mid
+    × AreSharesRead gives fails place mid reads new
+
+-- Each of these blocks, one of a share of each of these numbers, has the hash that the leaves of
+-- its share tell for the segment; and these lead to the root over all shares of the file.
+pub record AreBlocksTold (u : Contents) (segment : ℕ) (numbers : List ℕ)
+    (trees : List (List (List ℕ))) (blocks : List (List ℕ)) : Type 0 where
+  pub of_file : (i : ℕ) → i < length numbers
+      → AreLeavesOf u (slice_index numbers i) (slice_index_or trees i [])
+  pub hashes : (i : ℕ) → i < length numbers
+      → HasLeaf (slice_index_or trees i []) segment (Some (slice_index_or blocks i []))
+
+-- ---- which shares are read
 
 -- fewer different numbers than are needed are left among the shares that are not struck out
-pub record HaveTooFew (needed : ℕ) (shares : List Candidate) (struck : List Bool) : Type 0 where
+pub record HaveTooFew (needed : ℕ) (shares : List ℕ) (struck : List Bool) : Type 0 where
   pub numbers : List ℕ
   pub few : length numbers < needed
   pub all : (position : ℕ) → slice_get struck position ≡ Some false
-      → Contains numbers (number_at shares position)
+      → Contains numbers (slice_index shares position)
 
 -- Each of these shares is the first with a number that none of those before it has: all shares that
 -- stand before it have the number of one of them.
-abbrev pub AreFirst : List Candidate → List ℕ → Type 0
-AreFirst shares positions = (i position earlier : ℕ) → slice_get positions i ≡ Some position
+abbrev pub AreFirst : List ℕ → List ℕ → Type 0
+AreFirst numbers positions = (i position earlier : ℕ) → slice_get positions i ≡ Some position
     → earlier < position
-    → Contains (numbers_at shares (take i positions)) (number_at shares earlier)
+    → Contains (picked_numbers numbers (take i positions)) (slice_index numbers earlier)
 
 -- the shares that were read are read on, each in its place, but for those that were struck out
 abbrev pub AreReadOn : List ℕ → List Bool → List ℕ → Type 0

@@ -1,107 +1,89 @@
 //! The shares that may be read, and which of them were struck out.
 
-ghost use Rattle.std.specs.Prelude.{◌≡◌, ◌+◌, ◌*◌, ◌<◌, ◌≤◌, ◌^◌, ◌↔◌, ℕ, List, [], Bool, false};
-ghost use Rattle.std.specs.Prelude.{true, All, IfOk, IsTrue, MatchBool, Option, Some, length, map};
-ghost use Rattle.std.specs.Prelude.{replicate, slice_get, slice_index_or, slice_set};
+ghost use Rattle.std.specs.Prelude.{◌≡◌, ◌+◌, ◌*◌, ◌<◌, ◌≤◌, ◌^◌, ℕ, List, [], false, true};
+ghost use Rattle.std.specs.Prelude.{All, IfOk, IsTrue, MatchBool, OnErr, Option, Some, None};
+ghost use Rattle.std.specs.Prelude.{length, map, replicate, slice_get, slice_set};
 ghost use Rattle.share_layout.specs.Pieces.{pieces};
-ghost use Rattle.share_source.specs.Candidates.{AreAsked, BlockRead, Brought, HasLeaf};
-ghost use Rattle.share_source.specs.Candidates.{HaveLeaves, IsAsked};
-ghost use Rattle.share_source.specs.Decoded.{reads_of};
-ghost use Rattle.share_source.specs.Reading.{AreLeft, StayStruck, left_count};
+ghost use Rattle.share_leaves.specs.Reads.{WasRead};
+ghost use Rattle.share_source.specs.Candidates.{AreBlocksTold, AreLeavesRead, AreSharesRead};
+ghost use Rattle.share_source.specs.Candidates.{Brought, HasLeaf, HoldsOwnLeaves, IsBlockRead};
+ghost use Rattle.share_source.specs.Candidates.{ShareRead, leaves_held, picked_numbers, struck_out};
+ghost use Rattle.share_source.specs.Decoded.{blocks_read};
+ghost use Rattle.share_source.specs.Reading.{AreLeft, AreTreesRead, StayStruck, unstruck_count};
 
-use crate::bytes::ShareBytes;
+use crate::held::Held;
 use crate::place::Place;
+use share_leaves::{ShareBytes, read_leaves};
 use std::alloc::{AllocError, Global};
 use std::marker::Model;
 use tagged_hash::{Tag, tagged};
+use ueb::Ueb;
 
-/// A share of a file that may be read: its number, and the leaves of its block tree, one for each
-/// segment.
-#[derive(Drop)]
-pub struct Candidate {
-    number: u16,
-    leaves: Vec<[u8; 32]>,
-}
-
-impl Model for Candidate {
-    ghost use Rattle.share_source.specs.Candidates.{Candidate};
-
-    ghost Value = { Candidate };
-
-    ghost view = { λ c. record { number = c.number; leaves = c.leaves.items } };
-}
-
-impl Candidate {
-    /// The share of this number, whose block tree has these leaves.
-    pub fn new(number: u16, leaves: Vec<[u8; 32]>) -> Candidate
-        ensures { result ≡ record { number = number; leaves = leaves.items } }
-    {
-        Candidate { number, leaves }
-    }
-
-    /// The number of the share.
-    pub fn number(&self) -> u16
-        ensures { result ≡ self.now.number }
-    {
-        self.number
-    }
-
-    // Whether its tree has this hash for the block of a segment.
-    fn has_leaf(&self, segment: u32, hash: &[u8; 32]) -> bool
-        ensures { IsTrue result ↔ (hash.now ≡ slice_index_or self.now.leaves segment []) }
-    {
-        let segment = segment as usize;
-        segment < self.leaves.len() && *hash == self.leaves[segment]
-    }
-}
-
-/// Shares that may be read, by their positions, and their bytes. A share whose block could not be
-/// read, or had another hash than its tree has there, is struck out for good.
+/// Shares of a file that may be read, by their positions, and their bytes. A share whose leaves or
+/// block could not be read, or whose block had another hash than its leaves tell, is struck out for
+/// good, and its leaves are let go.
 #[derive(Drop)]
 pub(crate) struct Candidates<B: ShareBytes + Drop> {
-    shares: Vec<Candidate>,
+    alloc: Global,
+    ueb: Ueb,
+    numbers: Vec<u16>,
+    held: Vec<Held>,
     struck: Vec<bool>,
     bytes: B,
 }
 
 impl<B: ShareBytes + Drop> Model for Candidates<B> {
-    ghost use Rattle.std.specs.Prelude.{◌≡◌, length};
     ghost use Rattle.share_source.specs.Candidates.{Candidates};
+    ghost use Rattle.share_source.specs.Reading.{AreHeldLeaves};
 
     ghost Value = { Candidates B };
 
     ghost view = { λ c. record {
-      shares = c.shares.items;
+      ueb = c.ueb;
+      numbers = c.numbers.items;
+      held = c.held.items;
       struck = c.struck.items;
       bytes = c.bytes;
     } };
 
-    ghost invariant = { λ c. length c.struck.items ≡ length c.shares.items };
+    ghost invariant = { λ c.
+        AreHeldLeaves c.ueb c.numbers.items c.held.items c.struck.items };
 }
 
 impl<B: ShareBytes + Drop> Candidates<B> {
-    /// Shares of which none is struck out.
-    pub fn new(alloc: Global, shares: Vec<Candidate>, bytes: B) -> Result<Candidates<B>, AllocError>
+    /// Shares with these numbers, of which none is struck out, and no leaves are held.
+    pub fn new(
+        alloc: Global,
+        ueb: Ueb,
+        numbers: Vec<u16>,
+        bytes: B,
+    ) -> Result<Candidates<B>, AllocError>
         ensures { IfOk result (λ c. c ≡ record {
-          shares = shares.items;
-          struck = replicate (length shares.items) false;
+          ueb = ueb;
+          numbers = numbers.items;
+          held = replicate (length numbers.items) [];
+          struck = replicate (length numbers.items) false;
           bytes = bytes;
         }) }
     {
-        let struck = vec![in alloc; false; shares.len()]?;
+        let held = Held::none_of(alloc, numbers.len())?;
+        let struck = vec![in alloc; false; numbers.len()]?;
         Ok(Candidates {
-            shares,
+            alloc,
+            ueb,
+            numbers,
+            held,
             struck,
             bytes,
         })
     }
 
-    /// The shares.
-    pub fn shares(&self) -> &[Candidate]
-        ensures shares { result.now ≡ self.now.shares }
-        ensures count { length self.now.struck ≡ length self.now.shares }
+    /// The numbers of the shares.
+    pub fn numbers(&self) -> &[u16]
+        ensures numbers { result.now ≡ self.now.numbers }
+        ensures count { length self.now.struck ≡ length self.now.numbers }
     {
-        &self.shares
+        &self.numbers
     }
 
     /// The owner of their bytes.
@@ -120,29 +102,110 @@ impl<B: ShareBytes + Drop> Candidates<B> {
 
     /// Whether the share at a position is not struck out.
     pub fn is_left(&self, position: usize) -> bool
-        requires { position < length self.now.shares }
+        requires { position < length self.now.numbers }
         ensures { MatchBool result (slice_get self.now.struck position ≡ Some false)
             (slice_get self.now.struck position ≡ Some true) }
     {
         !self.struck[position]
     }
 
+    /// Reads the leaves of each of these shares of which none are held. Where they cannot be read,
+    /// that share is struck out, and no further one is read. Beside the leaves it holds the tree
+    /// over them, while it compares its root.
+    pub fn hold_leaves(&mut self, positions: &[usize]) -> Result<bool, AllocError>
+        requires left { AreLeft self.old.struck positions.now }
+        ensures ueb { self.new.ueb ≡ self.old.ueb }
+        ensures numbers { self.new.numbers ≡ self.old.numbers }
+        ensures struck { StayStruck self.old.struck self.new.struck }
+        ensures read { AreTreesRead B.gives B.fails self.old self.new }
+        ensures left { IfOk result (λ good. IsTrue good → self.new.struck ≡ self.old.struck) }
+        ensures held { IfOk result (λ good. IsTrue good
+            → All (λ position. HoldsOwnLeaves self.new position) positions.now) }
+        ensures refused { IfOk result (λ good. good ≡ false
+            → unstruck_count self.new.struck < unstruck_count self.old.struck) }
+    {
+        for i in 0..positions.len() {
+            if !self.hold_tree(positions[i])? {
+                return Ok(false);
+            }
+        }
+        Ok(true)
+    }
+
+    // Reads the leaves of a share, where none are held, and strikes it out where there are none.
+    fn hold_tree(&mut self, position: usize) -> Result<bool, AllocError>
+        requires left { slice_get self.old.struck position ≡ Some false }
+        ensures ueb { self.new.ueb ≡ self.old.ueb }
+        ensures numbers { self.new.numbers ≡ self.old.numbers }
+        ensures read { AreTreesRead B.gives B.fails self.old self.new }
+        ensures good { IfOk result (λ good. IsTrue good
+            → (self.new.struck ≡ self.old.struck) × HoldsOwnLeaves self.new position) }
+        ensures stay { IfOk result (λ good. IsTrue good → (other : ℕ)
+            → HoldsOwnLeaves self.old other → HoldsOwnLeaves self.new other) }
+        ensures refused { IfOk result (λ good. good ≡ false
+            → self.new.struck ≡ slice_set self.old.struck position true) }
+        ensures err { OnErr result (self.new.struck ≡ self.old.struck) }
+    {
+        if self.held[position].is_none() {
+            self.read_tree(position)
+        } else {
+            Ok(true)
+        }
+    }
+
+    // Reads the leaves of a share of which none are held, and strikes it out where there are none.
+    fn read_tree(&mut self, position: usize) -> Result<bool, AllocError>
+        requires left { slice_get self.old.struck position ≡ Some false }
+        requires none { leaves_held self.old.held position ≡ [] }
+        ensures good { IfOk result (λ good. IsTrue good → (leaves : List (List ℕ))
+            × AreLeavesRead B.gives B.fails self.old position (Some leaves) self.new) }
+        ensures refused { IfOk result (λ good. good ≡ false
+            → AreLeavesRead B.gives B.fails self.old position None self.new) }
+        ensures err { OnErr result (WasRead B.gives B.fails self.old.bytes self.new.bytes
+            × (self.new ≡ record self.old { bytes = self.new.bytes })) }
+    {
+        let number = self.numbers[position];
+        match read_leaves(self.alloc, &self.ueb, &mut self.bytes, position, number)? {
+            Some(leaves) => {
+                self.held[position] = Held::of(leaves);
+                Ok(true)
+            }
+            None => {
+                self.strike(position);
+                Ok(false)
+            }
+        }
+    }
+
+    // Strikes a share out, and lets its leaves go.
+    fn strike(&mut self, position: usize)
+        requires { position < length self.old.numbers }
+        ensures { self.new ≡ struck_out self.old position self.old.bytes }
+    {
+        self.struck[position] = true;
+        self.held[position] = Held::none(self.alloc);
+    }
+
     /// Reads the block at a place of each of these shares, one after another. Where one cannot be
-    /// read, or has another hash than its share's tree has there, that share is struck out, and no
-    /// further one is read. Takes no memory.
+    /// read, or has another hash than the leaves of its share tell, that share is struck out, and
+    /// no further one is read. Takes no memory.
     pub fn read_blocks(&mut self, place: Place, positions: &[usize], blocks: &mut [u8]) -> bool
         requires left { AreLeft self.old.struck positions.now }
+        requires held { All (λ position. HoldsOwnLeaves self.old position) positions.now }
         requires room { length positions.now * place.size ≤ length blocks.old }
-        ensures shares { self.new.shares ≡ self.old.shares }
+        ensures ueb { self.new.ueb ≡ self.old.ueb }
+        ensures numbers { self.new.numbers ≡ self.old.numbers }
         ensures struck { StayStruck self.old.struck self.new.struck }
-        ensures read { IsTrue result → AreAsked B.gives B.fails place self.old
-            (reads_of positions.now (pieces (length positions.now) place.size blocks.new))
+        ensures read { IsTrue result → AreSharesRead B.gives B.fails place self.old
+            (blocks_read positions.now (pieces (length positions.now) place.size blocks.new))
             self.new }
-        ensures leaves { IsTrue result → HaveLeaves self.old.shares place.segment positions.now
+        ensures told { IsTrue result → AreBlocksTold self.new.ueb place.segment
+            (picked_numbers self.new.numbers positions.now)
+            (map (leaves_held self.new.held) positions.now)
             (pieces (length positions.now) place.size blocks.new) }
-        ensures refused { result ≡ false → ((reads : List BlockRead)
-            × AreAsked B.gives B.fails place self.old reads self.new)
-            × (left_count self.new.struck < left_count self.old.struck) }
+        ensures refused { result ≡ false → ((reads : List ShareRead)
+            × AreSharesRead B.gives B.fails place self.old reads self.new)
+            × (unstruck_count self.new.struck < unstruck_count self.old.struck) }
     {
         for i in 0..positions.len() {
             let start = i * place.size;
@@ -156,43 +219,48 @@ impl<B: ShareBytes + Drop> Candidates<B> {
     // Reads the block at a place of a share, and strikes it out where the block is refused.
     fn ask(&mut self, position: usize, place: Place, block: &mut [u8]) -> bool
         requires left { slice_get self.old.struck position ≡ Some false }
+        requires held { HoldsOwnLeaves self.old position }
         requires long { length block.old ≡ place.size }
-        ensures shares { self.new.shares ≡ self.old.shares }
-        ensures good { IsTrue result → IsAsked B.gives B.fails place self.old
-            (position, Some block.new) self.new
-            × HasLeaf self.old.shares place position (Some block.new)
-            × (self.new.struck ≡ self.old.struck) }
+        ensures good { IsTrue result → IsBlockRead B.gives B.fails place self.old position
+            (Some block.new) self.new
+            × HasLeaf (leaves_held self.old.held position) place.segment (Some block.new)
+            × (self.new ≡ record self.old { bytes = self.new.bytes }) }
         ensures refused { result ≡ false → (came : Option (List ℕ))
-            × IsAsked B.gives B.fails place self.old (position, came) self.new
-            × (self.new.struck ≡ slice_set self.old.struck position true) }
+            × IsBlockRead B.gives B.fails place self.old position came self.new
+            × (self.new ≡ struck_out self.old position self.new.bytes) }
     {
-        let good = fetch(&mut self.bytes, &self.shares, position, place, block);
+        let good = fetch(
+            &mut self.bytes,
+            &self.held[position],
+            position,
+            place,
+            block,
+        );
         if !good {
-            self.struck[position] = true;
+            self.strike(position);
         }
         good
     }
 }
 
 // Reads the block at a place of the share at a position, and says whether it has the hash that the
-// share's tree has there.
+// leaves of the share tell.
 fn fetch<B: ShareBytes>(
     bytes: &mut B,
-    shares: &[Candidate],
+    held: &Held,
     position: usize,
     place: Place,
     block: &mut [u8],
 ) -> bool
-    requires there { position < length shares.now }
     requires long { length block.old ≡ place.size }
-    ensures good { IsTrue result → Brought B.gives B.fails place bytes.old
-        (position, Some block.new) bytes.new × HasLeaf shares.now place position (Some block.new) }
+    ensures good { IsTrue result → Brought B.gives B.fails place position bytes.old
+        (Some block.new) bytes.new × HasLeaf held.now place.segment (Some block.new) }
     ensures refused { result ≡ false → (came : Option (List ℕ))
-        × Brought B.gives B.fails place bytes.old (position, came) bytes.new
-        × (¬ HasLeaf shares.now place position came) }
+        × Brought B.gives B.fails place position bytes.old came bytes.new
+        × (¬ HasLeaf held.now place.segment came) }
 {
     match bytes.read(position, place.begin, block) {
-        Ok(()) => shares[position].has_leaf(place.segment, &tagged(Tag::Block, block)),
+        Ok(()) => held.has_leaf(place.segment, &tagged(Tag::Block, block)),
         Err(_) => false,
     }
 }

@@ -2,31 +2,32 @@
 
 ghost use Rattle.std.specs.Prelude.{◌≡◌, ◌+◌, ◌<◌, ◌≤◌, ◌↔◌, ℕ, All, Contains, IfNone, IfOk};
 ghost use Rattle.std.specs.Prelude.{IfSome, IsTrue, Some, false, length, remove, slice_get};
+ghost use Rattle.std.specs.Prelude.{slice_index};
 ghost use Rattle.zfec_code.specs.Rows.{AreDistinct};
-ghost use Rattle.share_source.specs.Candidates.{AreFirst, number_at, numbers_at};
+ghost use Rattle.share_source.specs.Candidates.{AreFirst, picked_numbers};
 
-use crate::bytes::ShareBytes;
-use crate::candidates::{Candidate, Candidates};
+use crate::candidates::Candidates;
+use share_leaves::ShareBytes;
 use std::alloc::{AllocError, Global};
 
 /// The positions of the first shares of different numbers: as many as are needed, or all that there
 /// are.
 pub(crate) fn first_positions(
     alloc: Global,
-    shares: &[Candidate],
+    numbers: &[u16],
     needed: usize,
 ) -> Result<Vec<usize>, AllocError>
-    ensures there { IfOk result (λ ps. All (λ p. p < length shares.now) ps.items) }
+    ensures there { IfOk result (λ ps. All (λ p. p < length numbers.now) ps.items) }
     ensures count { IfOk result (λ ps. length ps.items ≤ needed) }
-    ensures distinct { IfOk result (λ ps. AreDistinct (numbers_at shares.now ps.items)) }
-    ensures first { IfOk result (λ ps. AreFirst shares.now ps.items) }
-    ensures all { IfOk result (λ ps. length ps.items < needed → (p : ℕ) → p < length shares.now
-        → Contains (numbers_at shares.now ps.items) (number_at shares.now p)) }
+    ensures distinct { IfOk result (λ ps. AreDistinct (picked_numbers numbers.now ps.items)) }
+    ensures first { IfOk result (λ ps. AreFirst numbers.now ps.items) }
+    ensures all { IfOk result (λ ps. length ps.items < needed → (p : ℕ) → p < length numbers.now
+        → Contains (picked_numbers numbers.now ps.items) (slice_index numbers.now p)) }
 {
     let mut positions = Vec::with_capacity(alloc, needed)?;
-    for position in 0..shares.len() {
-        let number = shares[position].number();
-        if positions.len() < needed && !is_among(shares, &positions, number) {
+    for position in 0..numbers.len() {
+        let number = numbers[position];
+        if positions.len() < needed && !is_among(numbers, &positions, number) {
             positions.push(position)?;
         }
     }
@@ -40,26 +41,26 @@ pub(crate) fn find_spare<B: ShareBytes + Drop>(
     positions: &[usize],
     index: usize,
 ) -> Option<usize>
-    requires there { All (λ p. p < length candidates.now.shares) positions.now }
+    requires there { All (λ p. p < length candidates.now.numbers) positions.now }
     requires index { index < length positions.now }
     ensures left { IfSome result (λ p. slice_get candidates.now.struck p ≡ Some false) }
     ensures unlike { IfSome result (λ p. ¬ Contains
-        (numbers_at candidates.now.shares (remove positions.now index))
-        (number_at candidates.now.shares p)) }
+        (picked_numbers candidates.now.numbers (remove positions.now index))
+        (slice_index candidates.now.numbers p)) }
     ensures first { IfSome result (λ p. (earlier : ℕ) → earlier < p
         → slice_get candidates.now.struck earlier ≡ Some false
-        → Contains (numbers_at candidates.now.shares (remove positions.now index))
-        (number_at candidates.now.shares earlier)) }
+        → Contains (picked_numbers candidates.now.numbers (remove positions.now index))
+        (slice_index candidates.now.numbers earlier)) }
     ensures none { IfNone result ((p : ℕ) → slice_get candidates.now.struck p ≡ Some false
-        → Contains (numbers_at candidates.now.shares (remove positions.now index))
-        (number_at candidates.now.shares p)) }
+        → Contains (picked_numbers candidates.now.numbers (remove positions.now index))
+        (slice_index candidates.now.numbers p)) }
 {
-    let shares = candidates.shares();
-    for position in 0..shares.len() {
-        let number = shares[position].number();
+    let numbers = candidates.numbers();
+    for position in 0..numbers.len() {
+        let number = numbers[position];
         if candidates.is_left(position)
-            && !is_among(shares, &positions[..index], number)
-            && !is_among(shares, &positions[index + 1..], number)
+            && !is_among(numbers, &positions[..index], number)
+            && !is_among(numbers, &positions[index + 1..], number)
         {
             return Some(position);
         }
@@ -68,12 +69,12 @@ pub(crate) fn find_spare<B: ShareBytes + Drop>(
 }
 
 // Whether one of the shares at these positions has this number.
-fn is_among(shares: &[Candidate], positions: &[usize], number: u16) -> bool
-    requires { All (λ p. p < length shares.now) positions.now }
-    ensures { IsTrue result ↔ Contains (numbers_at shares.now positions.now) number }
+fn is_among(numbers: &[u16], positions: &[usize], number: u16) -> bool
+    requires { All (λ p. p < length numbers.now) positions.now }
+    ensures { IsTrue result ↔ Contains (picked_numbers numbers.now positions.now) number }
 {
     for position in positions {
-        if shares[*position].number() == number {
+        if numbers[*position] == number {
             return true;
         }
     }

@@ -2,10 +2,11 @@
 
 ghost use Rattle.share_source.specs.Laws.{ReadsAgree};
 
-use crate::bytes::ShareBytes;
+use share_leaves::ShareBytes;
 
-/// Two reads from one offset on, which were decoded from the same of the same shares, bring the
-/// same bytes as far as both go, or two different hash inputs with one hash are at hand.
+/// Two reads from one offset on, which were decoded from the same of the same shares by the same
+/// leaves, bring the same bytes as far as both go, or two different hash inputs with one hash are
+/// at hand.
 pub fn reads_agree<B: ShareBytes>()
     ensures { ReadsAgree B.gives B.fails }
 {}

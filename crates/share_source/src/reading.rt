@@ -5,15 +5,15 @@ ghost use Rattle.std.specs.Prelude.{OnErr, OnOk, Some, false, length, remove, re
 ghost use Rattle.std.specs.Prelude.{slice_index, slice_set, take};
 ghost use Rattle.zfec_code.specs.Rows.{AreDistinct};
 ghost use Rattle.download_segments.specs.Decoding.{AreShareNumbers};
-ghost use Rattle.share_source.specs.Candidates.{AreFirst, AreReadOn, HaveTooFew, number_at};
-ghost use Rattle.share_source.specs.Candidates.{numbers_at};
-ghost use Rattle.share_source.specs.Reading.{AreLeft, IsReading};
+ghost use Rattle.share_source.specs.Candidates.{AreFirst, AreReadOn, HaveTooFew};
+ghost use Rattle.share_source.specs.Candidates.{picked_numbers};
+ghost use Rattle.share_source.specs.Reading.{AreLeft, IsReadingOf};
 
-use crate::bytes::ShareBytes;
-use crate::candidates::{Candidate, Candidates};
+use crate::candidates::Candidates;
 use crate::choosing::{find_spare, first_positions};
 use share_gathering::file_code;
 use share_layout::Geometry;
+use share_leaves::ShareBytes;
 use std::alloc::{AllocError, Global};
 use zfec_code::{Code, CodeError, Decoder};
 
@@ -53,27 +53,23 @@ impl Reading {
     /// Takes the first shares of different numbers.
     ///
     /// Refuses `LengthMismatch` (fewer different numbers than are needed), and `OutOfMemory`.
-    pub fn new(
-        alloc: Global,
-        geometry: Geometry,
-        shares: &[Candidate],
-    ) -> Result<Reading, CodeError>
-        requires { All (λ share. share.number < geometry.total) shares.now }
-        ensures reading { IfOk result (IsReading shares.now) }
-        ensures first { IfOk result (λ r. AreFirst shares.now r.positions.items) }
+    pub fn new(alloc: Global, geometry: Geometry, numbers: &[u16]) -> Result<Reading, CodeError>
+        requires { All (λ number. number < geometry.total) numbers.now }
+        ensures reading { IfOk result (IsReadingOf numbers.now) }
+        ensures first { IfOk result (λ r. AreFirst numbers.now r.positions.items) }
         ensures geometry { IfOk result (λ r. r.geometry ≡ geometry) }
         ensures few { IsErrOf result CodeError.LengthMismatch
-            → HaveTooFew geometry.needed shares.now (replicate (length shares.now) false) }
+            → HaveTooFew geometry.needed numbers.now (replicate (length numbers.now) false) }
         ensures no_other { IfErr result
             (λ e. (e ≡ CodeError.OutOfMemory) ⊎ (e ≡ CodeError.LengthMismatch)) }
     {
         let needed = usize::from(geometry.needed());
-        let positions = first_positions(alloc, shares, needed)?;
+        let positions = first_positions(alloc, numbers, needed)?;
         if positions.len() < needed {
             return Err(CodeError::LengthMismatch);
         }
         let code = file_code(alloc, &geometry)?;
-        Ok(with_room(alloc, geometry, shares, positions, code)?)
+        Ok(with_room(alloc, geometry, numbers, positions, code)?)
     }
 
     /// Lets a spare take the place of each share that was struck out.
@@ -81,14 +77,14 @@ impl Reading {
         &mut self,
         candidates: &Candidates<B>,
     ) -> Result<(), Shortage>
-        requires { IsReading candidates.now.shares self.old }
-        ensures reading { IsReading candidates.now.shares self.new }
+        requires { IsReadingOf candidates.now.numbers self.old }
+        ensures reading { IsReadingOf candidates.now.numbers self.new }
         ensures geometry { self.new.geometry ≡ self.old.geometry }
         ensures read_on { AreReadOn self.old.positions.items candidates.now.struck
             self.new.positions.items }
         ensures left { OnOk result (AreLeft candidates.now.struck self.new.positions.items) }
         ensures few { IsErrOf result Shortage.Shares → HaveTooFew self.old.geometry.needed
-            candidates.now.shares candidates.now.struck }
+            candidates.now.numbers candidates.now.struck }
     {
         for index in 0..self.positions.len() {
             if !candidates.is_left(self.positions[index]) {
@@ -104,9 +100,9 @@ impl Reading {
         candidates: &Candidates<B>,
         index: usize,
     ) -> Result<(), Shortage>
-        requires reading { IsReading candidates.now.shares self.old }
+        requires reading { IsReadingOf candidates.now.numbers self.old }
         requires index { index < length self.old.positions.items }
-        ensures reading { IsReading candidates.now.shares self.new }
+        ensures reading { IsReadingOf candidates.now.numbers self.new }
         ensures geometry { self.new.geometry ≡ self.old.geometry }
         ensures count { length self.new.positions.items ≡ length self.old.positions.items }
         ensures others { (i : ℕ) → i ≢ index → slice_get self.new.positions.items i
@@ -116,32 +112,32 @@ impl Reading {
         ensures left { OnOk result (slice_get candidates.now.struck
             (slice_index self.new.positions.items index) ≡ Some false) }
         ensures few { IsErrOf result Shortage.Shares → HaveTooFew self.old.geometry.needed
-            candidates.now.shares candidates.now.struck }
+            candidates.now.numbers candidates.now.struck }
     {
         let Some(position) = find_spare(candidates, &self.positions, index) else {
             return Err(Shortage::Shares);
         };
-        self.put(candidates.shares(), index, position)?;
+        self.put(candidates.numbers(), index, position)?;
         Ok(())
     }
 
     // Puts a share into the place of another. Where memory was refused, all is as it was.
-    fn put(&mut self, shares: &[Candidate], index: usize, position: usize) -> Result<(), AllocError>
-        requires reading { IsReading shares.now self.old }
+    fn put(&mut self, numbers: &[u16], index: usize, position: usize) -> Result<(), AllocError>
+        requires reading { IsReadingOf numbers.now self.old }
         requires index { index < length self.old.positions.items }
-        requires there { position < length shares.now }
+        requires there { position < length numbers.now }
         requires unlike { ¬ Contains
-            (numbers_at shares.now (remove self.old.positions.items index))
-            (number_at shares.now position) }
-        ensures reading { IsReading shares.now self.new }
+            (picked_numbers numbers.now (remove self.old.positions.items index))
+            (slice_index numbers.now position) }
+        ensures reading { IsReadingOf numbers.now self.new }
         ensures geometry { self.new.geometry ≡ self.old.geometry }
         ensures put { OnOk result
             (self.new.positions.items ≡ slice_set self.old.positions.items index position) }
         ensures err { OnErr result (self.new.positions.items ≡ self.old.positions.items) }
     {
-        let mut numbers = share_numbers(self.alloc, shares, &self.positions)?;
-        numbers[index] = shares[position].number();
-        self.decoder = new_decoder(self.alloc, &self.code, numbers)?;
+        let mut picked = pick_numbers(self.alloc, numbers, &self.positions)?;
+        picked[index] = numbers[position];
+        self.decoder = new_decoder(self.alloc, &self.code, picked)?;
         self.positions[index] = position;
         Ok(())
     }
@@ -151,20 +147,20 @@ impl Reading {
 fn with_room(
     alloc: Global,
     geometry: Geometry,
-    shares: &[Candidate],
+    numbers: &[u16],
     positions: Vec<usize>,
     code: Code,
 ) -> Result<Reading, AllocError>
-    requires range { All (λ share. share.number < geometry.total) shares.now }
-    requires there { All (λ p. p < length shares.now) positions.items }
-    requires numbers { AreShareNumbers geometry (numbers_at shares.now positions.items) }
+    requires range { All (λ number. number < geometry.total) numbers.now }
+    requires there { All (λ p. p < length numbers.now) positions.items }
+    requires numbers { AreShareNumbers geometry (picked_numbers numbers.now positions.items) }
     requires code { code ≡ record { k = geometry.needed; n = geometry.total } }
-    ensures reading { IfOk result (IsReading shares.now) }
+    ensures reading { IfOk result (IsReadingOf numbers.now) }
     ensures positions { IfOk result (λ r. r.positions.items ≡ positions.items) }
     ensures geometry { IfOk result (λ r. r.geometry ≡ geometry) }
 {
-    let numbers = share_numbers(alloc, shares, &positions)?;
-    let decoder = new_decoder(alloc, &code, numbers)?;
+    let picked = pick_numbers(alloc, numbers, &positions)?;
+    let decoder = new_decoder(alloc, &code, picked)?;
     let size = geometry.segment_size() as usize;
     Ok(Reading {
         alloc,
@@ -192,17 +188,13 @@ fn new_decoder(alloc: Global, code: &Code, numbers: Vec<u16>) -> Result<Decoder,
 }
 
 // The numbers of the shares at these positions.
-fn share_numbers(
-    alloc: Global,
-    shares: &[Candidate],
-    positions: &[usize],
-) -> Result<Vec<u16>, AllocError>
-    requires { All (λ p. p < length shares.now) positions.now }
-    ensures { IfOk result (λ numbers. numbers.items ≡ numbers_at shares.now positions.now) }
+fn pick_numbers(alloc: Global, numbers: &[u16], positions: &[usize]) -> Result<Vec<u16>, AllocError>
+    requires { All (λ p. p < length numbers.now) positions.now }
+    ensures { IfOk result (λ picked. picked.items ≡ picked_numbers numbers.now positions.now) }
 {
-    let mut numbers = Vec::with_capacity(alloc, positions.len())?;
+    let mut picked = Vec::with_capacity(alloc, positions.len())?;
     for position in positions {
-        numbers.push(shares[*position].number())?;
+        picked.push(numbers[*position])?;
     }
-    Ok(numbers)
+    Ok(picked)
 }

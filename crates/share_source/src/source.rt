@@ -1,29 +1,33 @@
 //! The padded ciphertext of a file, decoded segment by segment.
 
 ghost use Rattle.std.specs.Prelude.{◌≡◌, ◌⊎◌, ◌<◌, ◌≤◌, ◌^◌, ◌↔◌, ℕ, All, IfErr, IfOk, IsErrOf};
-ghost use Rattle.std.specs.Prelude.{IsTrue, OnErr, OnOk, drop, false, length, replicate, take};
+ghost use Rattle.std.specs.Prelude.{IsTrue, OnErr, OnOk, [], drop, false, length, replicate, take};
 ghost use Rattle.sources.specs.Source.{HasFailedMore};
 ghost use Rattle.ueb.specs.Shape.{rounded_up};
 ghost use Rattle.share_layout.specs.Geometry.{segment_count};
 ghost use Rattle.share_layout.specs.Pieces.{block_length};
 ghost use Rattle.download_segments.specs.Decoding.{AreShareNumbers};
-ghost use Rattle.share_source.specs.Candidates.{AreFirst, HaveTooFew, numbers_at};
+ghost use Rattle.share_verify.specs.CapBlock.{geometry_by};
+ghost use Rattle.share_source.specs.Candidates.{AreFirst, HaveTooFew, picked_numbers};
 ghost use Rattle.share_source.specs.Decoded.{BroughtNothing, GivesDecoded};
 
-use crate::bytes::ShareBytes;
-use crate::candidates::{Candidate, Candidates};
+use crate::candidates::Candidates;
 use crate::reading::{Reading, Shortage};
 use crate::segment::read_segment;
 use share_layout::Geometry;
+use share_leaves::ShareBytes;
+use share_verify::geometry_of;
 use sources::{Source, SourceFault};
 use std::alloc::Global;
 use std::marker::Model;
+use ueb::Ueb;
 use zfec_code::CodeError;
 
 /// The padded ciphertext of a file, decoded from as many good shares of it as are needed. A block
-/// counts only where it has the hash that its share's tree has there. Where it has another, or
-/// cannot be read, its share is struck out for good, and a spare takes its place: the next share
-/// that is not struck out and has none of the others' numbers.
+/// counts only where it has the hash that the leaves of its share's tree tell, which are read
+/// before the share's first block. Where it has another, or it or the leaves cannot be read, its
+/// share is struck out for good, and a spare takes its place: the next share that is not struck out
+/// and has none of the others' numbers. Only of the shares that are read leaves are held.
 #[derive(Drop)]
 pub struct ShareSource<B: ShareBytes + Drop> {
     candidates: Candidates<B>,
@@ -34,7 +38,7 @@ pub struct ShareSource<B: ShareBytes + Drop> {
 
 impl<B: ShareBytes + Drop> Model for ShareSource<B> {
     ghost use Rattle.share_source.specs.Decoded.{Decoding};
-    ghost use Rattle.share_source.specs.Reading.{IsReading};
+    ghost use Rattle.share_source.specs.Reading.{IsReadingOf};
 
     ghost Value = { Decoding B };
 
@@ -46,26 +50,29 @@ impl<B: ShareBytes + Drop> Model for ShareSource<B> {
       failures = s.failures;
     } };
 
-    ghost invariant = { λ s. IsReading s.candidates.shares s.reading };
+    ghost invariant = { λ s. IsReadingOf s.candidates.numbers s.reading };
 }
 
 impl<B: ShareBytes + Drop> ShareSource<B> {
-    /// Decodes the segments of a file with this geometry from these shares: from the first with
-    /// different numbers, as many as are needed. The others are spares.
+    /// Decodes the segments of a file with this extension block from the shares with these numbers:
+    /// from the first with different numbers, as many as are needed. The others are spares. Nothing
+    /// is read yet.
     ///
     /// Refuses, tested in this order: `ShareOutOfRange` (a number that no share of the file has)
     /// and `LengthMismatch` (fewer different numbers than are needed); and `OutOfMemory`.
     pub fn new(
         alloc: Global,
-        geometry: Geometry,
-        shares: Vec<Candidate>,
+        ueb: Ueb,
+        numbers: Vec<u16>,
         bytes: B,
     ) -> Result<ShareSource<B>, CodeError>
         ensures source { IfOk result (λ s. s ≡ record {
-          geometry = geometry;
+          geometry = geometry_by ueb;
           candidates = record {
-            shares = shares.items;
-            struck = replicate (length shares.items) false;
+            ueb = ueb;
+            numbers = numbers.items;
+            held = replicate (length numbers.items) [];
+            struck = replicate (length numbers.items) false;
             bytes = bytes;
           };
           reading = s.reading;
@@ -73,24 +80,25 @@ impl<B: ShareBytes + Drop> ShareSource<B> {
           failures = 0;
         }) }
         ensures numbers { IfOk result
-            (λ s. AreShareNumbers geometry (numbers_at shares.items s.reading)) }
-        ensures first { IfOk result (λ s. AreFirst shares.items s.reading) }
+            (λ s. AreShareNumbers (geometry_by ueb) (picked_numbers numbers.items s.reading)) }
+        ensures first { IfOk result (λ s. AreFirst numbers.items s.reading) }
         // When each refusal comes.
         ensures out_of_range { IsErrOf result CodeError.ShareOutOfRange
-            → ¬ All (λ share. share.number < geometry.total) shares.items }
-        ensures few { IsErrOf result CodeError.LengthMismatch
-            → HaveTooFew geometry.needed shares.items (replicate (length shares.items) false) }
+            → ¬ All (λ number. number < ueb.total_shares) numbers.items }
+        ensures few { IsErrOf result CodeError.LengthMismatch → HaveTooFew ueb.needed_shares
+            numbers.items (replicate (length numbers.items) false) }
         ensures in_range { IsErrOf result CodeError.LengthMismatch
-            → All (λ share. share.number < geometry.total) shares.items }
+            → All (λ number. number < ueb.total_shares) numbers.items }
         ensures no_other { IfErr result (λ e. (e ≡ CodeError.OutOfMemory)
             ⊎ (e ≡ CodeError.ShareOutOfRange) ⊎ (e ≡ CodeError.LengthMismatch)) }
     {
-        if !are_of_file(&geometry, &shares) {
+        let geometry = geometry_of(&ueb);
+        if !are_of_file(&geometry, &numbers) {
             return Err(CodeError::ShareOutOfRange);
         }
-        let reading = Reading::new(alloc, geometry, &shares)?;
+        let reading = Reading::new(alloc, geometry, &numbers)?;
         Ok(ShareSource {
-            candidates: Candidates::new(alloc, shares, bytes)?,
+            candidates: Candidates::new(alloc, ueb, numbers, bytes)?,
             reading,
             lacks_memory: false,
             failures: 0,
@@ -127,12 +135,12 @@ impl<B: ShareBytes + Drop> ShareSource<B> {
     }
 }
 
-// Whether each share has a number that a share of the file has.
-fn are_of_file(geometry: &Geometry, shares: &[Candidate]) -> bool
-    ensures { IsTrue result ↔ All (λ share. share.number < geometry.now.total) shares.now }
+// Whether a share of the file has each of these numbers.
+fn are_of_file(geometry: &Geometry, numbers: &[u16]) -> bool
+    ensures { IsTrue result ↔ All (λ number. number < geometry.now.total) numbers.now }
 {
     let total = geometry.total();
-    shares.iter().all(|share| share.number() < total)
+    numbers.iter().all(|number| *number < total)
 }
 
 impl<B: ShareBytes + Drop> Source for ShareSource<B> {

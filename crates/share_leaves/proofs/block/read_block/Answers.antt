@@ -16,3 +16,7 @@ returns-in-Done-clause-reads g c =
 pub returns-in-Refused-clause-reads : goal.returns-in-Refused-clause-reads
 returns-in-Refused-clause-reads g c =
     read_both g.B.ShareBytes.gives g.B.ShareBytes.fails c.args.bytes.now c.reads.bytes c.read_next.new.bytes c.reads.invariant.1 c.in_ok-next.ensures.reads
+
+pub returns-in_err-next-clause-reads : goal.returns-in_err-next-clause-reads
+returns-in_err-next-clause-reads g c =
+    read_both g.B.ShareBytes.gives g.B.ShareBytes.fails c.args.bytes.now c.reads.bytes c.read_next.new.bytes c.reads.invariant.1 c.in_err-next.ensures.reads

@@ -39,3 +39,11 @@ returns-then-branch-clause-reads g c =
 pub returns-clause-reads : goal.returns-clause-reads
 returns-clause-reads g c =
     read_both g.B.ShareBytes.gives g.B.ShareBytes.fails c.args.bytes.now c.read_root.new.bytes c.read_hashes.new.bytes c.in_ok-tree.ensures.reads c.in_ok-leaves.ensures.reads
+
+pub returns-in_err-leaves-clause-reads : goal.returns-in_err-leaves-clause-reads
+returns-in_err-leaves-clause-reads g c =
+    read_both g.B.ShareBytes.gives g.B.ShareBytes.fails c.args.bytes.now c.read_root.new.bytes c.read_hashes.new.bytes c.in_ok-tree.ensures.reads c.in_err-leaves.ensures.reads
+
+pub returns-in_err-has_root-clause-reads : goal.returns-in_err-has_root-clause-reads
+returns-in_err-has_root-clause-reads g c =
+    read_both g.B.ShareBytes.gives g.B.ShareBytes.fails c.args.bytes.now c.read_root.new.bytes c.read_hashes.new.bytes c.in_ok-tree.ensures.reads c.in_ok-leaves.ensures.reads

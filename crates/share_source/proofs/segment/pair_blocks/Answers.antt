@@ -1,12 +1,11 @@
 use Rattle.std.proofs.Common.{◌≡◌, ℕ, ◌+◌, ◌*◌, ◌<◌, ◌≤◌, List, [], ◌∷◌, ◌++◌, Bor, drop, length, map, take, get_or, set, add-mul, ap, sym, ◌∙◌, arith}
+use Rattle.std.specs.Prelude.{slice_index}
 use Rattle.std.proofs.Math.ListN.{length-set}
 use Rattle.std.proofs.Math.Nat.{mul-le-mul_right}
 use Rattle.std.proofs.lemmas.List.{drop-drop, length-drop, map-append, take_more, take_more_set}
-use Rattle.lemmas.proofs.Positions.{got}
 use Rattle.share_layout.specs.Pieces.{pieces}
 use Rattle.share_gathering.proofs.GroupSteps.{pieces-more}
-use Rattle.share_source.specs.Candidates.{Candidate, number_at, numbers_at}
-use Rattle.share_source.proofs.Asking.{number_here}
+use Rattle.share_source.specs.Candidates.{picked_numbers}
 use Rattle.share_source.proofs.segment.pair_blocks.Goals as goal
 
 pub split_at-requires : goal.split_at-requires
@@ -19,7 +18,7 @@ split_at-requires c =
 
 pub loop-i-preserved : goal.loop-i-preserved
 loop-i-preserved c =
-    let shares : List Candidate = c.args.shares.now in
+    let shares : List ℕ = c.args.numbers.now in
     let positions : List ℕ = c.args.positions.now in
     let joined : List ℕ = c.args.joined.now in
     let size : ℕ = c.args.size in
@@ -27,12 +26,10 @@ loop-i-preserved c =
     let p : ℕ = get_or positions i 0 in
     let k = c.loop-i.invariant in
     let pairs : List (ℕ × Bor (List ℕ)) = c.loop-i.pairs in
-    let pair : ℕ × Bor (List ℕ) = (c.number.result, c.split_at.result.0) in
+    let pair : ℕ × Bor (List ℕ) = (slice_index shares p, c.split_at.result.0) in
     let first : ℕ × Bor (List ℕ) → ℕ = λ b. b.0 in
     let second : ℕ × Bor (List ℕ) → List ℕ = λ b. b.1.now in
     let low : i < length positions = omega (arith, c.loop-i-test.true, c.loop-i.auto.i-end) in
-    let here = got shares p c.index-shares-positions.result (c.requires.there i 0 low) c.index-shares-positions.is in
-    let number : c.number.result ≡ number_at shares p = c.number.ensures ∙ sym (number_here shares p c.index-shares-positions.result here) in
     let more : take (i + 1) (set pairs i pair) ≡ take i pairs ++ pair ∷ [] = take_more_set pairs i pair (omega (arith, low, c.requires.few, k.count)) in
     let block : c.split_at.result.0.now ≡ take size (drop (i * size) joined) = c.split_at.ensures.front ∙ ap (take size) k.rest in
     record {
@@ -40,7 +37,7 @@ loop-i-preserved c =
       rest = c.split_at.ensures.back ∙ ap (drop size) k.rest ∙ drop-drop size (i * size) joined
           ∙ ap (λ (n : ℕ). drop n joined) (omega (arith, add-mul i 1 size));
       numbers = ap (map first) more ∙ map-append first (take i pairs) (pair ∷ [])
-          ∙ (λ q. k.numbers q ++ number q ∷ []) ∙ sym (ap (numbers_at shares) (take_more positions i 0 low) ∙ map-append (number_at shares) (take i positions) (p ∷ []));
+          ∙ (λ q. k.numbers q ++ slice_index shares p ∷ []) ∙ sym (ap (picked_numbers shares) (take_more positions i 0 low) ∙ map-append (slice_index shares) (take i positions) (p ∷ []));
       blocks = ap (map second) more ∙ map-append second (take i pairs) (pair ∷ [])
           ∙ ap (λ (l : List (List ℕ)). l ++ c.split_at.result.0.now ∷ []) k.blocks
           ∙ ap (λ (b : List ℕ). pieces i size joined ++ b ∷ []) block ∙ sym (pieces-more i size joined);

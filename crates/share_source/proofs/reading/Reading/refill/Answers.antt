@@ -4,7 +4,7 @@ use Rattle.std.proofs.lemmas.List.{get_or_default, take_all, take_more}
 use Rattle.std.proofs.lemmas.List.Elements.{All-push}
 use Rattle.lemmas.proofs.Positions.{got}
 use Rattle.share_source.specs.Candidates.{AreReadOn}
-use Rattle.share_source.specs.Reading.{AreLeft, IsReading}
+use Rattle.share_source.specs.Reading.{AreLeft, IsReadingOf}
 use Rattle.share_source.specs.declared.reading.Reading.{Reading}
 use Rattle.share_source.proofs.Striking.{read_on_more}
 use Rattle.share_source.proofs.reading.Reading.refill.Goals as goal
@@ -24,7 +24,7 @@ loop-index-preserved g c =
           let more = w.in_ok-replace.ensures in
           let new : List ℕ = w.replace.new.self.positions.items in
           record {
-            reading = subst (IsReading c.args.candidates.now.shares) (sym w.self-is) more.reading;
+            reading = subst (IsReadingOf c.args.candidates.now.numbers) (sym w.self-is) more.reading;
             geometry = ap (λ r. r.geometry) w.self-is ∙ more.geometry ∙ k.geometry;
             count = ap (λ r. length r.positions.items) w.self-is ∙ more.count ∙ k.count;
             read_on = subst (λ (r : Reading). AreReadOn first struck r.positions.items) (sym w.self-is)
@@ -34,7 +34,7 @@ loop-index-preserved g c =
                 (All-push (λ p. slice_get struck p ≡ Some false) (take index new) (get_or new index 0) (subst (AreLeft struck) (sym more.before) k.left) more.left));
           })
       | else-not-is_left w ↦ record {
-        reading = subst (IsReading c.args.candidates.now.shares) (sym w.self-is) k.reading;
+        reading = subst (IsReadingOf c.args.candidates.now.numbers) (sym w.self-is) k.reading;
         geometry = ap (λ r. r.geometry) w.self-is ∙ k.geometry;
         count = ap (λ r. length r.positions.items) w.self-is ∙ k.count;
         read_on = subst (λ (r : Reading). AreReadOn first struck r.positions.items) (sym w.self-is) k.read_on;
