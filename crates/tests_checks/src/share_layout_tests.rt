@@ -94,6 +94,55 @@ fn a_geometry_gives_itself(rt: HostRuntime) -> Result<(), Fail> {
     Ok(())
 }
 
+// Size, shares needed and in all, greatest segment; the size with the padding, and the length of a
+// share's blocks.
+static PADDED: [((u64, u16, u16, u32), u64, u64); 6] = [
+    ((56, 3, 10, 131_072), 57, 19),
+    ((300, 3, 10, 100), 300, 100),
+    (
+        ((1 << 40) - 1, 3, 10, 1_048_576),
+        1_099_511_627_775,
+        366_503_875_925,
+    ),
+    (
+        (1 << 40, 3, 10, 1_048_576),
+        1_099_511_627_778,
+        366_503_875_926,
+    ),
+    (
+        (1 << 40, 255, 256, 1_048_576),
+        1_099_511_628_030,
+        4_311_810_306,
+    ),
+    (
+        (1 << 40, 256, 256, 1_048_576),
+        1_099_511_627_776,
+        4_294_967_296,
+    ),
+];
+
+// A text with its padding has as many segments as its file, and shares with the same header.
+#[test]
+fn padded_texts_have_their_sizes(rt: HostRuntime) -> Result<(), Fail> {
+    for &((size, needed, total, max), whole, blocks) in &PADDED {
+        let geometry = Geometry::of(size, needed, total, max)?;
+        let padded = geometry.padded();
+        let sizes = (padded.size(), padded.share_data_size());
+        assert!(rt;
+            sizes == (whole, blocks) && padded.padded() == padded,
+            "at {size}"
+        );
+        assert!(rt;
+            padded.segment_count() == geometry.segment_count(),
+            "at {size}"
+        );
+        let (mut own, mut header) = ([0u8; 68], [0u8; 68]);
+        let lengths = (geometry.header(&mut own), padded.header(&mut header));
+        assert!(rt; lengths.0 == lengths.1 && own == header, "at {size}");
+    }
+    Ok(())
+}
+
 // Size, shares needed and in all, greatest segment, and the refusal, where there is one.
 static LIMITS: [((u64, u16, u16, u32), Option<LayoutError>); 20] = [
     ((0, 3, 10, 131_072), Some(LayoutError::BadParameters)),
