@@ -2,16 +2,16 @@
 //! change.
 
 use crate::remade_tests::{Whole, whole_file};
-use share_layout::Geometry;
-use share_source::{Candidate, ShareBytes, ShareSource};
+use share_leaves::ShareBytes;
+use share_source::ShareSource;
 use share_verify::read_share;
 use sources::{PartFault, Source, SourceFault, read_part};
 use std::alloc::{AllocError, Global};
 use std::test::Fail;
-use tagged_hash::{Tag, tagged};
 use zfec_code::CodeError;
 
-// What becomes of a share's reads from one on, the first being number 1.
+// What becomes of a share's reads from one on, the first being number 1. The first two are those of
+// its own hashes and of its leaves, and each later one is that of a block.
 #[derive(Clone, Copy, Drop, PartialEq, Eq)]
 enum Fault {
     Fails(u64),
@@ -69,24 +69,6 @@ fn read_kept(share: &mut KeptShare, offset: u64, out: &mut [u8]) -> Result<(), S
     }
 }
 
-// The leaves of the block tree of a share of the file.
-fn leaves_of(
-    alloc: Global,
-    whole: &Whole,
-    number: u16,
-    bytes: &[u8],
-) -> Result<Option<(Geometry, Vec<[u8; 32]>)>, AllocError> {
-    let Ok(read) = read_share(&whole.cap, number, bytes) else {
-        return Ok(None);
-    };
-    let mut leaves = Vec::new(alloc);
-    let size = read.geometry.block_size() as usize;
-    for block in read.view.blocks.chunks(size.max(1)) {
-        leaves.push(tagged(Tag::Block, block))?;
-    }
-    Ok(Some((read.geometry, leaves)))
-}
-
 // The source over shares of a file, of each of which the number is told and what becomes of it, or
 // why there is none; none where these are no shares of it.
 fn source_over(
@@ -94,32 +76,29 @@ fn source_over(
     whole: &Whole,
     chosen: &[(u16, Fault)],
 ) -> Result<Option<Result<ShareSource<KeptShares>, CodeError>>, AllocError> {
-    let mut candidates = Vec::new(alloc);
+    let mut numbers = Vec::new(alloc);
     let mut shares = Vec::new(alloc);
-    let mut geometry = None;
+    let mut ueb = None;
     for (number, fault) in chosen {
         let Some(share) = whole.shares.get(usize::from(*number)) else {
             return Ok(None);
         };
-        let bytes = Vec::from_slice(alloc, share.as_slice())?;
-        let Some((own, leaves)) = leaves_of(alloc, whole, *number, &bytes)? else {
+        let Ok(read) = read_share(&whole.cap, *number, share.as_slice()) else {
             return Ok(None);
         };
-        geometry = Some(own);
-        candidates.push(Candidate::new(*number, leaves))?;
+        ueb = Some(read.ueb);
+        numbers.push(*number)?;
         shares.push(KeptShare {
-            bytes,
+            bytes: Vec::from_slice(alloc, share.as_slice())?,
             fault: *fault,
             reads: 0,
         })?;
     }
-    match geometry {
-        Some(geometry) => Ok(Some(ShareSource::new(
-            alloc,
-            geometry,
-            candidates,
-            KeptShares { shares },
-        ))),
+    match ueb {
+        Some(ueb) => {
+            let bytes = KeptShares { shares };
+            Ok(Some(ShareSource::new(alloc, ueb, numbers, bytes)))
+        }
         None => Ok(None),
     }
 }
@@ -187,27 +166,50 @@ fn the_padded_text_is_decoded(rt: HostRuntime) -> Result<(), Fail> {
     Ok(())
 }
 
-// A share that fails at its third read, or changes a byte there, is struck out, and the same text
+// A share that fails at its third block, or changes a byte there, is struck out, and the same text
 // comes.
 #[test]
 fn spares_take_the_places_of_shares_that_are_struck_out(rt: HostRuntime) -> Result<(), Fail> {
     let alloc = rt.alloc();
     let fails = [
         (1, Fault::Never),
-        (4, Fault::Fails(3)),
+        (4, Fault::Fails(5)),
         (2, Fault::Never),
         (1, Fault::Never),
         (5, Fault::Never),
     ];
     let changes = [
         (1, Fault::Never),
-        (4, Fault::Changes(3)),
+        (4, Fault::Changes(5)),
         (2, Fault::Never),
         (4, Fault::Changes(1)),
         (4, Fault::Never),
     ];
     assert!(rt; is_read(alloc, &fails, 1000, &[0, 4, 2])?);
     assert!(rt; is_read(alloc, &changes, 500, &[0, 4, 2])?);
+    Ok(())
+}
+
+// A share whose own hashes or leaves cannot be read, or change, is struck out before a block of it is
+// read, and so is a spare.
+#[test]
+fn shares_without_leaves_are_struck_out(rt: HostRuntime) -> Result<(), Fail> {
+    let faults = [
+        Fault::Fails(1),
+        Fault::Changes(1),
+        Fault::Fails(2),
+        Fault::Changes(2),
+    ];
+    for fault in faults {
+        let chosen = [
+            (1, fault),
+            (4, Fault::Never),
+            (2, Fault::Never),
+            (1, fault),
+            (5, Fault::Never),
+        ];
+        assert!(rt; is_read(rt.alloc(), &chosen, 1000, &[4, 1, 2])?);
+    }
     Ok(())
 }
 
@@ -225,13 +227,13 @@ fn fails_in_the_end(alloc: Global, chosen: &[(u16, Fault)]) -> Result<bool, Allo
     let again = read_part(&mut source, 0, &mut out) == Err(PartFault::Unreadable);
     let counted = source.failures() == 2 && !source.lacks_memory();
     let shares = source.into_bytes().shares;
-    let read = matches!(shares.get(1), Some(share) if share.reads == 2);
+    let read = matches!(shares.get(1), Some(share) if share.reads == 4);
     Ok(before && second && again && counted && read)
 }
 
 #[test]
 fn a_read_fails_where_too_few_are_left(rt: HostRuntime) -> Result<(), Fail> {
-    for fault in [Fault::Fails(2), Fault::Changes(2)] {
+    for fault in [Fault::Fails(4), Fault::Changes(4)] {
         let chosen = [
             (0, Fault::Never),
             (1, fault),
@@ -244,7 +246,7 @@ fn a_read_fails_where_too_few_are_left(rt: HostRuntime) -> Result<(), Fail> {
 }
 
 // Whether a segment is read whose first share fails, or the read says that memory was refused for
-// a spare, and the next one goes on.
+// leaves or for a spare, and the next one goes on.
 fn reads_or_lacks_memory(alloc: Global) -> Result<bool, AllocError> {
     let chosen = [
         (4, Fault::Fails(1)),
