@@ -7,8 +7,8 @@ ghost use Rattle.grid_shares.specs.declared.mending.Way.TheVariants.{Unmarked};
 ghost use Rattle.grid_shares.specs.Ways.{AreCleared, IsWanted, IsWay, read_at, stuck_by, way_by};
 
 use crate::placing::Placing;
-use grid_faults::{Fault, is_memory, server_name, told_path};
-use grid_marks::{server_folder, try_mark};
+use grid_faults::{Fault, server_name, told_path};
+use grid_marks::{Mark, grid_mark, server_folder, try_known};
 use grid_telling::Progress;
 use share_fetching::SharePlace;
 use share_files::{FolderFiles, Wanted};
@@ -20,6 +20,7 @@ use std::random::RandomSource;
 use std::rt::{Clock, Files};
 use std::time::SystemTime;
 use upload_core::status::UploadGoal;
+use user_files::if_there;
 use wire::message::NodeId;
 
 // What the files of a share's storage index are held against: the length of the shares that were
@@ -69,11 +70,12 @@ where
 {
     // without a clock no open file is left over
     let now = SystemTime::now(rt).unwrap_or(SystemTime::UNIX_EPOCH);
+    let known = grid_mark(rt, placing.grid)?;
     let mut stuck = Vec::new(rt.alloc());
     for server in placing.servers {
         let own = read_at(rt.alloc(), reading, *server)?;
         let wanted = wanted_of(goal, placing.mend, own.as_slice(), now);
-        let way = clear_server(rt, placing.grid, *server, &wanted, progress)?;
+        let way = clear_server(rt, placing.grid, &known, *server, &wanted, progress)?;
         note_way(&mut stuck, *server, way)?;
     }
     Ok(stuck)
@@ -100,10 +102,11 @@ fn note_way(stuck: &mut Vec<NodeId>, server: NodeId, way: Way) -> Result<(), All
     Ok(())
 }
 
-// The same at one server. One without its mark is passed over.
+// The same at one server. In a grid with a mark, one without its own is passed over.
 fn clear_server<R, E>(
     rt: &R,
     grid: &str,
+    known: &Option<Mark>,
     server: NodeId,
     wanted: &Wanted<'_>,
     progress: &mut Progress<'_, R, E>,
@@ -113,11 +116,12 @@ where
     E: Write + IsTerminal,
     ensures { IfOk result (IsWay wanted.entry.now) }
 {
-    match try_mark(rt, grid, server) {
-        Ok(()) => clear_marked(rt, grid, server, wanted, progress),
-        Err(error) if is_memory(&error) => Err(Fault::OutOfMemory),
-        Err(_) => Ok(Way::Unmarked),
+    if let Some(known) = known {
+        if if_there(try_known(rt, grid, server, known))?.is_none() {
+            return Ok(Way::Unmarked);
+        }
     }
+    clear_marked(rt, grid, server, wanted, progress)
 }
 
 // The same at one whose mark, if any, is right.
