@@ -21,7 +21,7 @@ use Rattle.grid_words.specs.declared.words.RepairWords.{RepairWords}
 use Rattle.grid_shares.specs.Checks.{IsChecked, literal_text, verify_of}
 use Rattle.grid_shares.specs.Placing.{ArePlaced}
 use Rattle.grid_shares.specs.Puts.{stored_status}
-use Rattle.grid_shares.specs.Remaking.{AreMadeAnew, remade_calls}
+use Rattle.grid_shares.specs.Remaking.{AreMadeAnew, lacks_memory, remade_calls}
 use Rattle.grid_shares.specs.declared.Outcome.{Outcome}
 use Rattle.grid_shares.specs.declared.placing.Stored.{Stored}
 
@@ -59,7 +59,7 @@ pub record IsRepairOf {L : Type 0} (carries : Carries L) (grid : List ℕ) (mend
   pub stored : Stored
   pub placed : ArePlaced (remade_calls
       (GivesDecoded (IsReadOver folder_calls carries) (IsUnread folder_calls carries))
-      (λ s. s.failures)) carries grid mend reading servers made stored
+      (λ s. s.failures) lacks_memory) carries grid mend reading servers made stored
   pub told : outcome.text.items ≡ codes "happiness " ++ (decimal stored.happiness ++ codes "\n")
   pub status_is : outcome.status ≡ stored_status stored.is_cleared
 

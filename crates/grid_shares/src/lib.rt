@@ -8,6 +8,7 @@
 
 mod checking;
 mod choosing;
+mod made_shares;
 mod mending;
 mod placing;
 mod putting;

@@ -7,6 +7,7 @@ ghost use Rattle.share_leaves.specs.Reads.{WasRead};
 ghost use Rattle.fetched_shares.specs.Fetched.{IsReadOver, IsUnread};
 ghost use Rattle.grid_shares.specs.Remaking.{AreMadeAnew, IsBegun, read_places};
 
+use crate::made_shares::{MadeShares, lacks_memory, told_apart};
 use cap_text::VerifyCap;
 use fetched_shares::FetchedShares;
 use file_remaking::{RemakeError, prepare_remade};
@@ -14,18 +15,14 @@ use grid_faults::Fault;
 use grid_rules::becoming::fault_of_remaking;
 use local_grid::link::Link;
 use share_fetching::SharePlace;
-use share_leaves::{ReadBlock, read_block, read_candidates};
-use share_source::{ShareBytes, ShareSource};
+use share_leaves::{ReadBlock, ShareBytes, read_block};
+use share_source::ShareSource;
 use share_store::store::Store;
-use share_verify::geometry_of;
 use std::alloc::{AllocError, Global};
-use streamed_upload::remade::{RemadeStream, ready_remade};
+use streamed_upload::remade::ready_remade;
 use ueb::Ueb;
 use upload_core::ReadyUpload;
 use zfec_code::CodeError;
-
-/// Shares that are made anew of others, which are read for them, piece by piece.
-type MadeShares<S, L> = RemadeStream<ShareSource<FetchedShares<S, L>>>;
 
 /// All shares of a file, made ready for their upload, and where the shares stand that are read for
 /// them.
@@ -60,16 +57,14 @@ pub(crate) fn remake<S: Store + Drop, L: Link + Drop>(
         bytes: extension_block,
     } = block;
     let numbers = numbers_of(alloc, &places)?;
-    let mut source = begin_source(alloc, &ueb, &numbers, bytes)?;
+    let mut source = begin_source(alloc, ueb, numbers, bytes)?;
     match prepare_remade(alloc, &mut source, cap, &ueb, extension_block) {
         Ok(remade) => {
             let reading = read_places(alloc, &places, source.reading())?;
-            let ready = ready_remade(alloc, source, remade, happy)?;
+            let ready = told_apart(ready_remade(alloc, source, remade, happy)?);
             Ok(Made { ready, reading })
         }
-        Err(RemakeError::SourceFault) => Err(unread(
-            source.lacks_memory() || source.bytes().lacks_memory(),
-        )),
+        Err(RemakeError::SourceFault) => Err(unread(lacks_memory(&source))),
         Err(error) => Err(fault_of_remaking(error)),
     }
 }
@@ -150,15 +145,13 @@ fn first_block<B: ShareBytes>(
 // The source of the padded ciphertext of a file, over the shares with these numbers.
 fn begin_source<B: ShareBytes + Drop>(
     alloc: Global,
-    ueb: &Ueb,
-    numbers: &[u16],
+    ueb: Ueb,
+    numbers: Vec<u16>,
     bytes: B,
 ) -> Result<ShareSource<B>, Fault>
-    ensures { IfOk result (IsBegun B.gives B.fails ueb.now numbers.now bytes) }
+    ensures { IfOk result (IsBegun ueb numbers.items bytes) }
 {
-    let mut bytes = bytes;
-    let candidates = read_candidates(alloc, ueb, &mut bytes, numbers)?;
-    match ShareSource::new(alloc, geometry_of(ueb), candidates, bytes) {
+    match ShareSource::new(alloc, ueb, numbers, bytes) {
         Ok(source) => Ok(source),
         Err(CodeError::OutOfMemory) => Err(Fault::OutOfMemory),
         Err(_) => Err(Fault::NotEnoughShares),

@@ -8,7 +8,7 @@ use Rattle.share_fetching.specs.declared.range.SharePlace.{SharePlace}
 use Rattle.fetched_shares.specs.Fetched.{IsReadOver, IsUnread}
 use Rattle.share_source.specs.Decoded.{GivesDecoded}
 use Rattle.grid_shares.specs.Placing.{ArePlaced}
-use Rattle.grid_shares.specs.Remaking.{AreMadeAnew, remade_calls}
+use Rattle.grid_shares.specs.Remaking.{AreMadeAnew, lacks_memory, remade_calls}
 use Rattle.grid_shares.specs.Repairs.{ArePlacesOfGood}
 use Rattle.grid_shares.proofs.repairing.repair_over.Goals as goal
 
@@ -35,7 +35,7 @@ returns g c =
       reading = c.in_ok-made.made.reading.items;
       anew = subst (λ (ps : List SharePlace). AreMadeAnew gives fails c.args.cap.now c.args.happy ps c.in_ok-bytes.bytes c.in_ok-made.made.ready c.in_ok-made.made.reading.items) opened.places_are c.in_ok-made.ensures;
       stored = c.in_ok-stored.stored;
-      placed = subst (λ (ps : List SharePlace). ArePlaced (remade_calls (GivesDecoded gives fails) (λ s. s.failures)) carries grid c.args.placing.now.mend ps servers c.in_ok-made.made.ready c.in_ok-stored.stored) c.as_slice-2.ensures.value c.in_ok-stored.ensures;
+      placed = subst (λ (ps : List SharePlace). ArePlaced (remade_calls (GivesDecoded gives fails) (λ s. s.failures) lacks_memory) carries grid c.args.placing.now.mend ps servers c.in_ok-made.made.ready c.in_ok-stored.stored) c.as_slice-2.ensures.value c.in_ok-stored.ensures;
       told = ap (λ v. v.items) is.0 ∙ ap (λ v. v.items) c.into_bytes.ensures.value ∙ c.in_ok-line.ensures.ok;
       status_is = is.1 ∙ c.status.ensures;
     })
