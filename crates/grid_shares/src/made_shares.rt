@@ -61,8 +61,8 @@ fn told_by(fault: PieceFault, lacks_memory: bool) -> PieceFault
     }
 }
 
-/// Whether memory was refused: for a decoder, which the last read wanted that failed, or for a read
-/// of a share.
+/// Whether memory was refused: for leaves or a decoder, which the last read wanted that failed, or
+/// for a read of a share.
 pub(crate) fn lacks_memory<S: Store + Drop, L: Link + Drop>(source: &ReadShares<S, L>) -> bool
     ensures { result ≡ lacks_memory source.now }
 {

@@ -263,7 +263,7 @@ fn each_read_fails_in_turn(rt: HostRuntime) -> Result<(), Fail> {
 #[test]
 fn slots_keep_blocks(rt: HostRuntime) -> Result<(), Fail> {
     let alloc = rt.alloc();
-    let mut slots = BlockSlots::new(alloc, 256, 1 << 23, 4)?;
+    let mut slots = BlockSlots::new(alloc, 256, 1 << 27, 4)?;
     slots.put(0, 0, b"one");
     slots.put(0, 3, b"two");
     slots.put(1, 3, b"three");
