@@ -190,8 +190,8 @@ fn spares_take_the_places_of_shares_that_are_struck_out(rt: HostRuntime) -> Resu
     Ok(())
 }
 
-// A share whose own hashes or leaves cannot be read, or change, is struck out before a block of it is
-// read, and so is a spare.
+// A share whose own hashes or leaves cannot be read, or change, is struck out before a block of it
+// is read, and so is a spare.
 #[test]
 fn shares_without_leaves_are_struck_out(rt: HostRuntime) -> Result<(), Fail> {
     let faults = [
