@@ -24,6 +24,7 @@ grid_rules/src/ending.rt:DownloadStatus::Failed => Err(Fault::OutOfMemory),
 grid_faults/src/fault.rt:return Fault::OutOfMemory;
 grid_shares/src/checking.rt:check.report(rt.alloc())?.ok_or(Fault::OutOfMemory)
 grid_commands/src/lib.rt:_ => report(alloc, err, &Fault::OutOfMemory),
+grid_shares/src/made_shares.rt:PieceFault::SourceFault if lacks_memory => PieceFault::OutOfMemory,
 grid_shares/src/remaking.rt:Fault::OutOfMemory
 grid_shares/src/repairing.rt:let report = check.report(rt.alloc())?.ok_or(Fault::OutOfMemory)?;
 grid_commands/src/scrub_telling.rt:return Err(Failure::Fault(Fault::OutOfMemory));
