@@ -13,9 +13,9 @@ ghost use Rattle.file_remaking.specs.Remaking.{HasMore, HoldsShares, IsGroupRema
 ghost use Rattle.file_remaking.specs.Remaking.{IsRemakingFrom};
 
 use crate::error::RemakeError;
+use share_digests::WholeHashers;
 use share_gathering::{
-    Group, ShareSoFar, WholeHashers, add_leaves, add_segments, begin_shares, begin_wholes,
-    segments_at_once,
+    Group, ShareSoFar, add_leaves, add_segments, begin_shares, begin_wholes, segments_at_once,
 };
 use share_layout::Geometry;
 use sources::{Source, read_part};

@@ -17,12 +17,12 @@ ghost use Rattle.share_gathering.specs.Finishing.{HaveLeaves};
 ghost use Rattle.file_streaming.specs.Finishing.{IsFinished};
 ghost use Rattle.share_gathering.specs.Gathered.{Gathered, IsGathered};
 ghost use Rattle.share_gathering.specs.Shares.{HoldShares};
-ghost use Rattle.share_gathering.specs.Wholes.{AreGiven};
+ghost use Rattle.share_digests.specs.Wholes.{AreGiven};
 
 use crate::geometry::write_extension_block;
+use share_digests::WholeHashers;
 use share_gathering::{
-    Behind, Finished, ShareSoFar, Trees, WholeHashers, build_trees, finish_digests,
-    write_all_hashes,
+    Behind, Finished, ShareSoFar, Trees, build_trees, finish_digests, write_all_hashes,
 };
 use share_layout::Geometry;
 use std::alloc::{AllocError, Global};

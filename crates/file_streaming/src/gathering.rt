@@ -18,9 +18,10 @@ ghost use Rattle.share_gathering.specs.Groups.{gathered_group};
 use crate::error::PrepareError;
 use aes_ctr::Aes128;
 use block_making::Encoder;
+use share_digests::WholeHashers;
 use share_gathering::{
-    Group, ShareSoFar, WholeHashers, add_leaves, add_segments_beside, begin_shares, begin_wholes,
-    file_code, segments_at_once,
+    Group, ShareSoFar, add_leaves, add_segments_beside, begin_shares, begin_wholes, file_code,
+    segments_at_once,
 };
 use share_layout::Geometry;
 use sources::{Source, read_part};

@@ -3,5 +3,4 @@ pub mod Blocks
 pub mod GroupSteps
 pub mod Rows
 pub mod ShareBlocks
-pub mod GivenBytes
 pub mod Sections

@@ -22,13 +22,13 @@ use Rattle.file_encoding.proofs.OwnBlocks.{AreCut, are_cut, div_ceil_within, len
 use Rattle.share_gathering.specs.Gathered.{Gathered}
 use Rattle.share_gathering.specs.Groups.{IsGroup, at_once, gathered_group, row_of}
 use Rattle.share_gathering.specs.Shares.{HaveBlocksMore, HaveWholesMore, HoldShares}
-use Rattle.share_gathering.specs.Wholes.{AreGiven}
+use Rattle.share_digests.specs.Wholes.{AreGiven}
 use Rattle.share_gathering.specs.declared.groups.Group.{Group}
 use Rattle.share_gathering.specs.declared.shares.ShareSoFar.{ShareSoFar}
-use Rattle.share_gathering.specs.declared.wholes.WholeHashers.{WholeHashers}
-use Rattle.share_gathering.proofs.GivenBytes.{given-more}
+use Rattle.share_digests.specs.declared.wholes.WholeHashers.{WholeHashers}
 use Rattle.share_gathering.proofs.GroupSteps.{has_first, has_offset, pieces-more}
 use Rattle.share_gathering.proofs.OneByOne.{block_leaves-all, written-all}
+use Rattle.share_gathering.proofs.ShareBlocks.{given-more}
 
 -- the blocks that are made of a padded segment are those of the segment
 pub block-is : (k i size : ℕ) (segment padded : List ℕ) → 0 < k → padded ≡ padded_segment k segment → length padded ≡ k * size

@@ -1,17 +1,19 @@
 -- Shares with more blocks.
-use Rattle.std.proofs.Common.{◌≡◌, ℕ, zero, suc, ◌+◌, ◌-◌, ◌<◌, ◌≤◌, ◌≢◌, List, [], ◌∷◌, ◌++◌, length, take, drop, map, Some, refl, inl, inr, ap, sym, subst, ◌∙◌, arith}
+use Rattle.std.proofs.Common.{◌≡◌, ℕ, zero, suc, ◌+◌, ◌-◌, ◌*◌, ◌<◌, ◌≤◌, ◌≢◌, List, [], ◌∷◌, ◌++◌, length, take, drop, map, get_or, Some, refl, inl, inr, ap, sym, subst, ◌∙◌, arith}
 use Rattle.std.specs.Prelude.{slice_get}
 use Rattle.std.proofs.Math.ListN.{set, length-set}
 use Rattle.std.proofs.lemmas.Bool.{cases_eq, cases_lt}
 use Rattle.std.proofs.lemmas.List.{length-append, length-drop, length-take-le}
-use Rattle.std.proofs.lemmas.Option.{same_Some, slice_get_within}
+use Rattle.std.proofs.lemmas.Option.{same_Some, slice_get-get_or, slice_get_within}
 use borrow.Rule.Slice.PartMut.{put_mid}
 use Rattle.lemmas.proofs.Positions.{get_pushed, get_set, get_set_other}
 use Rattle.tagged_hash.specs.TaggedHash.{tagged_hash}
 use Rattle.tagged_hash.specs.declared.tag.Tag.TheVariants.{Block}
 use Rattle.share_layout.specs.Pieces.{pieces}
+use Rattle.share_digests.specs.Wholes.{AreGiven}
+use Rattle.share_digests.specs.declared.wholes.WholeHashers.{WholeHashers}
 use Rattle.share_gathering.specs.Gathered.{Gathered}
-use Rattle.share_gathering.specs.Shares.{HasBlocksMore, HaveBecome, HaveBlocksMore, HoldShares}
+use Rattle.share_gathering.specs.Shares.{HasBlocksMore, HaveBecome, HaveBlocksMore, HaveWholesMore, HoldShares}
 use Rattle.share_gathering.specs.declared.shares.ShareSoFar.{ShareSoFar}
 
 -- the first of these have become what they are now, and the others stand as they were
@@ -119,3 +121,12 @@ pub held-push : (s : Gathered) (shares : List ShareSoFar) (share : ShareSoFar) �
     → HoldShares s (shares ++ share ∷ [])
 held-push s shares share held new i other is =
     elim (get_pushed shares share other i is) [ inl before ↦ held i other before | inr last ↦ subst (λ (x : ShareSoFar). x.leaves.items ≡ s.block_leaves i) last.1 (new i) ]
+
+-- one block more for the hasher of each share
+pub given-more : (total n : ℕ) (written block : ℕ → List ℕ) (old new : List WholeHashers) → n ≡ total → HaveWholesMore n block old new → AreGiven total written old
+    → AreGiven total (λ i. written i ++ block i) new
+given-more total n written block old new same more held k j whole low within is =
+    let there : k < length old = omega (arith, slice_get_within new k whole is, more.count) in
+    let before : WholeHashers = get_or old k whole in
+    let was : slice_get old k ≡ Some before = slice_get-get_or old k whole there in
+    more.each k before whole was is j (written (7 * k + j)) low (omega (arith, within, same)) (held k j before low within was)

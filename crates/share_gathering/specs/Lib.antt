@@ -3,7 +3,6 @@ pub mod Gathered
 pub mod Groups
 pub mod Buffers
 pub mod Shares
-pub mod Wholes
 pub mod Finishing
 pub mod KeptFile
 pub mod Kept

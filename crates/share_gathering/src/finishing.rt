@@ -1,5 +1,5 @@
-//! What follows from the leaves that a pass over a file gathered: trees, the extension block and the
-//! digests of the shares.
+//! What follows from the leaves that a pass over a file gathered: trees, the extension block and
+//! the digests of the shares.
 
 ghost use Rattle.std.specs.Prelude.{◌≡◌, ◌+◌, ◌*◌, ◌<◌, ◌≤◌, ◌^◌, ◌++◌, ℕ, List, length, map, All};
 ghost use Rattle.std.specs.Prelude.{[], replicate, slice_index_or, take, IfOk};
@@ -16,11 +16,11 @@ ghost use Rattle.file_encoding.specs.Blocks.{numbered};
 ghost use Rattle.file_encoding.specs.Encoding.{share_hashes};
 ghost use Rattle.share_gathering.specs.Finishing.{HaveLeaves, bytes_behind};
 ghost use Rattle.share_gathering.specs.Finishing.{hashes_length};
-ghost use Rattle.share_gathering.specs.Wholes.{AreGiven, IsGivenAt};
+ghost use Rattle.share_digests.specs.Wholes.{AreGiven, IsGivenAt};
 
 use crate::shares::ShareSoFar;
-use crate::wholes::WholeHashers;
 use merkle::Tree;
+use share_digests::WholeHashers;
 use share_layout::{Geometry, Layout};
 use std::alloc::{AllocError, Global};
 use tagged_hash::TaggedHasher;

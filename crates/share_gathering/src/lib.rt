@@ -19,4 +19,4 @@ pub use groups::{Group, segments_at_once};
 pub use kept::{Kept, file_slots};
 pub use laws::{blocks_or_clash, digests_in_order, one_by_one};
 pub use shares::{ShareSoFar, add_leaves, add_segments, add_segments_beside, begin_shares};
-pub use wholes::{WholeHashers, begin_wholes};
+pub use wholes::begin_wholes;

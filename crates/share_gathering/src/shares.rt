@@ -11,11 +11,11 @@ ghost use Rattle.share_layout.specs.Pieces.{pieces};
 ghost use Rattle.share_gathering.specs.Gathered.{Gathered, gathered_none};
 ghost use Rattle.share_gathering.specs.Groups.{IsGroup, gathered_group, row_of};
 ghost use Rattle.share_gathering.specs.Shares.{HaveBlocksMore, HoldShares};
-ghost use Rattle.share_gathering.specs.Wholes.{AreGiven};
+ghost use Rattle.share_digests.specs.Wholes.{AreGiven};
 
 use crate::groups::Group;
-use crate::wholes::WholeHashers;
 use block_making::{encode_lane, lane_of};
+use share_digests::WholeHashers;
 use share_layout::Geometry;
 use std::alloc::{AllocError, Global};
 use tagged_hash::{Tag, TaggedHasher, tagged_pieces};

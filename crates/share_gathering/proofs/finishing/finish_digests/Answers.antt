@@ -10,7 +10,7 @@ use Rattle.lemmas.proofs.Positions.{got}
 use Rattle.tagged_hash.specs.TaggedHash.{tagged_hash}
 use Rattle.tagged_hash.specs.declared.tag.Tag.TheVariants.{WholeShare}
 use Rattle.share_gathering.specs.Finishing.{bytes_behind}
-use Rattle.share_gathering.specs.declared.wholes.WholeHashers.{WholeHashers}
+use Rattle.share_digests.specs.declared.wholes.WholeHashers.{WholeHashers}
 use Rattle.share_gathering.proofs.finishing.finish_digests.Goals as goal
 
 -- some digests more, or those that are left

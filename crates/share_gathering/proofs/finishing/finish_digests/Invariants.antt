@@ -2,7 +2,7 @@ use Rattle.std.proofs.Common.{◌≡◌, ℕ, ◌*◌, ◌<◌, List, [], ◌++�
 use Rattle.tagged_hash.specs.TaggedHash.{tagged_hash}
 use Rattle.tagged_hash.specs.declared.tag.Tag.TheVariants.{WholeShare}
 use Rattle.share_gathering.specs.Finishing.{bytes_behind}
-use Rattle.share_gathering.specs.Wholes.{AreGiven}
+use Rattle.share_digests.specs.Wholes.{AreGiven}
 use Rattle.share_gathering.proofs.finishing.finish_digests.Given as goal
 
 abbrev pub invariant-loop-whole : goal.invariant-loop-whole

@@ -7,8 +7,8 @@ use Rattle.std.specs.Int.{div_ceil}
 use Rattle.share_layout.specs.Geometry.{Geometry}
 use Rattle.tagged_hash.specs.TaggedHasher.{Holds}
 use Rattle.share_gathering.specs.Groups.{row_of}
-use Rattle.share_gathering.specs.Shares.{HasBlocksMore, HaveBlocksMore}
-use Rattle.share_gathering.specs.Wholes.{HavePieceMore, IsGivenAt}
+use Rattle.share_gathering.specs.Shares.{HasBlocksMore, HaveBlocksMore, HavePieceMore}
+use Rattle.share_digests.specs.Wholes.{IsGivenAt}
 use Rattle.share_gathering.specs.declared.groups.Group.{Group}
 use Rattle.share_gathering.specs.declared.shares.ShareSoFar.{ShareSoFar}
 use Rattle.share_gathering.proofs.GroupSteps.{has_first, has_offset}

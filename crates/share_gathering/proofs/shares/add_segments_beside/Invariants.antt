@@ -2,8 +2,7 @@ use Rattle.std.proofs.Common.{ℕ, ◌*◌, ◌≤◌, List, ◌++◌, length, m
 use Rattle.tagged_hash.specs.TaggedHasher.{Holds}
 use Rattle.tagged_hash.specs.declared.tag.Tag.{Tag}
 use Rattle.share_gathering.specs.Groups.{row_of}
-use Rattle.share_gathering.specs.Shares.{HasBlocksMore}
-use Rattle.share_gathering.specs.Wholes.{HavePieceMore}
+use Rattle.share_gathering.specs.Shares.{HasBlocksMore, HavePieceMore}
 use Rattle.share_gathering.proofs.ShareBlocks.{HaveSoFar}
 use Rattle.share_gathering.proofs.shares.add_segments_beside.Given as goal
 

@@ -5,7 +5,7 @@ use Rattle.lemmas.proofs.Positions.{get_of, get_other, get_set}
 use Rattle.tagged_hash.specs.TaggedHasher.{Holds, HoldsIn}
 use Rattle.tagged_hash.specs.declared.tag.Tag.{Tag}
 use Rattle.tagged_hash.specs.declared.hasher.TaggedHasher.{TaggedHasher}
-use Rattle.share_gathering.proofs.wholes.update_seven.Goals as goal
+use Rattle.share_digests.proofs.wholes.update_seven.Goals as goal
 
 -- what stands at another position stays there
 stays : (hashers : List TaggedHasher) (i j : ℕ) (x : TaggedHasher) (tag : Tag) (given : List ℕ) → j ≢ i → HoldsIn hashers j tag given

@@ -1,8 +1,8 @@
 -- What the hashers of whole shares were given.
-use Rattle.std.specs.Prelude.{◌≡◌, ℕ, ◌+◌, ◌*◌, ◌<◌, List, ◌++◌, slice_get, Some}
+use Rattle.std.specs.Prelude.{◌≡◌, ℕ, ◌+◌, ◌*◌, ◌<◌, List, slice_get, Some}
 use Rattle.tagged_hash.specs.TaggedHasher.{HoldsIn}
 use Rattle.tagged_hash.specs.declared.tag.Tag.TheVariants.{WholeShare}
-use Rattle.share_gathering.specs.declared.wholes.WholeHashers.{WholeHashers}
+use Rattle.share_digests.specs.declared.wholes.WholeHashers.{WholeHashers}
 
 -- share j of seven is there, and its hasher was given these bytes
 pub record IsGivenAt (whole : WholeHashers) (j : ℕ) (given : List ℕ) : Type 0 where
@@ -13,8 +13,3 @@ pub record IsGivenAt (whole : WholeHashers) (j : ℕ) (given : List ℕ) : Type 
 abbrev pub AreGiven : ℕ → (ℕ → List ℕ) → List WholeHashers → Type 0
 AreGiven total written wholes = (k j : ℕ) (whole : WholeHashers) → j < 7 → 7 * k + j < total
     → slice_get wholes k ≡ Some whole → IsGivenAt whole j (written (7 * k + j))
-
--- the hashers at position k of so many shares were given a piece more for each
-abbrev pub HavePieceMore : ℕ → (ℕ → List ℕ) → ℕ → WholeHashers → WholeHashers → Type 0
-HavePieceMore total piece k old new = (j : ℕ) (given : List ℕ) → j < 7 → 7 * k + j < total
-    → IsGivenAt old j given → IsGivenAt new j (given ++ piece (7 * k + j))

@@ -1,0 +1,6 @@
+//! The digests of shares, seven side by side.
+#![tactic(auto)]
+
+mod wholes;
+
+pub use wholes::WholeHashers;
