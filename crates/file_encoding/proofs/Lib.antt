@@ -24,6 +24,7 @@ pub mod PaddedBelow
 pub mod PlainText
 pub mod Making
 pub mod DecodedFiles
+pub mod HashedShares
 pub mod BoundEntries
 pub mod RisingNumbers
 pub mod BoundBlocks

@@ -17,6 +17,7 @@ pub mod GoodShares
 -- words of private clauses
 pub mod Drafts
 pub mod Blocks
+pub mod Digests
 pub mod BegunFiles
 pub mod Decoding
 pub mod LowestShares

@@ -7,6 +7,7 @@ ghost use Rattle.aes_ctr.specs.CounterMode.{xored};
 ghost use Rattle.cap_text.specs.declared.cap.Cap.TheVariants.{Chk, Lit};
 ghost use Rattle.cap_text.specs.Cap.{ReadCapValue, read_cap_value};
 ghost use Rattle.tagged_hash.specs.ConvergentKey.{IsSecret};
+ghost use Rattle.tagged_hash.specs.TaggedHash.{share_digest};
 ghost use Rattle.merkle.specs.Tree.{height, tree_nodes, tree_root};
 ghost use Rattle.ueb.specs.Shape.{IsFile, IsSegmentSize, rounded_up};
 ghost use Rattle.ueb.specs.Limits.{max_file_size, max_length, min_file_size};
@@ -22,6 +23,7 @@ ghost use Rattle.file_encoding.specs.Blocks.{draft_of, padded_blocks};
 ghost use Rattle.file_encoding.specs.Params.{HasTooManySegments, IsEncodable, parameters_of};
 
 use crate::blocks::Segments;
+use crate::digests::{HashedBeside, finish_digests, hash_beside};
 use crate::draft::Begun;
 use crate::error::EncodeError;
 use crate::params::Params;
@@ -30,17 +32,18 @@ use crate::shares::{Common, begin_shares, build_share_tree, finish_shares};
 use aes_ctr::Aes128;
 use cap_text::{Cap, LitCap, ReadCap};
 use merkle::Tree;
-use share_layout::Geometry;
+use share_layout::{Geometry, Offsets};
 use std::alloc::{AllocError, Global};
 use tagged_hash::{Tag, convergent_key, tagged};
 use ueb::{Expect, MAX_FILE_SIZE, MIN_FILE_SIZE, Ueb};
 use zfec_code::{Code, CodeError};
 
-/// An encoded file: its cap and its shares, by number.
+/// An encoded file: its cap, its shares by number, and their digests.
 #[derive(Drop)]
 pub struct Encoded {
     pub cap: Cap,
     pub shares: Vec<Share>,
+    pub digests: Vec<[u8; 32]>,
 }
 
 /// A text encrypted where it stands, or a ciphertext decrypted, under a key of its own.
@@ -159,12 +162,13 @@ fn file_cap(geometry: &Geometry, key: [u8; 16], ueb_hash: [u8; 32]) -> ReadCap
     }
 }
 
-// A file's shares up to their block trees, and what they leave to tell in the extension block.
+// A file's shares up to their block trees, what they leave to tell in the extension block, and what
+// was hashed of them.
 #[derive(Drop)]
 struct BegunFile {
-    crypttext_hash: [u8; 32],
     ciphertext_root: [u8; 32],
     shares: Vec<Begun>,
+    hashed: HashedBeside,
 }
 
 // Begins all shares of a ciphertext.
@@ -176,14 +180,14 @@ fn begin_ciphertext(
     requires { length ciphertext.items ≡ geometry.now.size }
     ensures { IfOk result (IsBegun geometry.now ciphertext.items) }
 {
-    let crypttext_hash = tagged(Tag::Ciphertext, &ciphertext);
     let ciphertext_tree = ciphertext_tree(alloc, geometry, &ciphertext)?;
     let padded = pad(ciphertext, geometry.needed())?;
     let shares = begin_file(alloc, geometry, &padded, &ciphertext_tree)?;
+    let hashed = hash_beside(alloc, &padded[..geometry.size() as usize], &shares)?;
     Ok(BegunFile {
-        crypttext_hash,
         ciphertext_root: ciphertext_tree.root(),
         shares,
+        hashed,
     })
 }
 
@@ -203,20 +207,24 @@ fn finish_ciphertext(
     ensures shares { (ciphertext : List ℕ) → IsBegun geometry.now ciphertext begun
         → IfOk result (λ e. e.shares.items
         ≡ (ciphertext_encoding geometry.now key ciphertext).shares) }
+    ensures digests { IfOk result (λ e. e.digests.items ≡ map share_digest e.shares.items) }
 {
     let share_tree = build_share_tree(alloc, &begun.shares)?;
     let extension_block = write_extension_block(
         alloc,
         geometry,
-        begun.crypttext_hash,
+        begun.hashed.crypttext_hash,
         begun.ciphertext_root,
         share_tree.root(),
     )?;
     let shares = finish_shares(alloc, begun.shares, &share_tree, &extension_block)?;
+    let given = Offsets::of(geometry).share_hashes as usize;
+    let digests = finish_digests(alloc, &shares, given, begun.hashed.wholes)?;
     let cap = file_cap(geometry, key, tagged(Tag::ExtensionBlock, &extension_block));
     Ok(Encoded {
         cap: Cap::Chk(cap),
         shares,
+        digests,
     })
 }
 
@@ -235,13 +243,14 @@ fn encode_ciphertext(
         (ciphertext_encoding geometry.now key ciphertext.items).cap) }
     ensures shares { IfOk result (λ e. e.shares.items ≡
         (ciphertext_encoding geometry.now key ciphertext.items).shares) }
+    ensures digests { IfOk result (λ e. e.digests.items ≡ map share_digest e.shares.items) }
 {
     let begun = begin_ciphertext(alloc, geometry, ciphertext)?;
     finish_ciphertext(alloc, geometry, key, begun)
 }
 
-/// Encodes a file: its cap and its shares, under a key that depends on the file, the secret, the
-/// numbers of shares and the segment size.
+/// Encodes a file: its cap, its shares and their digests, under a key that depends on the file, the
+/// secret, the numbers of shares and the segment size.
 ///
 /// The secret has at most 64 bytes. A file of less than `ueb::MIN_FILE_SIZE` bytes has no shares:
 /// its cap holds it. Refuses `TooLarge` and `TooManySegments`, in this order, and `OutOfMemory`.
@@ -259,6 +268,7 @@ pub fn encode_all(
     ensures shares { min_file_size ≤ length file.now → IfOk result
         (λ e. e.shares.items ≡ (encoding_of file.now secret.now
         (parameters_of params.now)).shares) }
+    ensures digests { IfOk result (λ e. e.digests.items ≡ map share_digest e.shares.items) }
     // When each refusal comes.
     ensures fits { min_file_size ≤ length file.now → IfOk result
         (λ _. IsEncodable (length file.now) params.now) }
@@ -276,6 +286,7 @@ pub fn encode_all(
             Ok(lit) => Ok(Encoded {
                 cap: Cap::Lit(lit),
                 shares: Vec::new(alloc),
+                digests: Vec::new(alloc),
             }),
             Err(_) => unreachable!(),
         };

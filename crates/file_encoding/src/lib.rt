@@ -5,6 +5,7 @@
 mod blocks;
 mod decoded;
 mod decoding;
+mod digests;
 mod draft;
 mod encoding;
 mod error;

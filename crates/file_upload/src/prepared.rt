@@ -70,7 +70,7 @@ pub fn prepare(
     ensures memory { IsEncodable (length file.now) params.now
         → IfErr result (λ e. e ≡ EncodeError.OutOfMemory) }
 {
-    let Encoded { cap, shares } = encode_all(alloc, file, secret, params)?;
+    let Encoded { cap, shares, .. } = encode_all(alloc, file, secret, params)?;
     match cap {
         Cap::Chk(cap) => {
             let happy = params.happy();

@@ -305,7 +305,7 @@ fn shares_of_ten(alloc: Global) -> Option<Vec<Share>> {
         file[i] = i as u8;
     }
     let params = Params::new(3, 1, 10, 131_072).ok()?;
-    let Encoded { cap: _, shares } = encode_all(alloc, &file, b"", &params).ok()?;
+    let Encoded { shares, .. } = encode_all(alloc, &file, b"", &params).ok()?;
     Some(shares)
 }
 

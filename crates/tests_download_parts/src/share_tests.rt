@@ -29,7 +29,7 @@ fn shares_of(alloc: Global, size: usize, total: u64) -> Option<Shares> {
         *byte = (i % 251) as u8;
     }
     let params = Params::new(1, 1, total, 6).ok()?;
-    let Encoded { cap, shares } = encode_all(alloc, &file, b"", &params).ok()?;
+    let Encoded { cap, shares, .. } = encode_all(alloc, &file, b"", &params).ok()?;
     let Cap::Chk(cap) = cap else {
         return None;
     };

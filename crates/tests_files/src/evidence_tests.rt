@@ -19,7 +19,7 @@ struct Source {
 
 // The file, whose byte i is i modulo 251, under a secret of at most 64 bytes.
 fn source_of(alloc: Global, secret: &[u8]) -> Option<Source> {
-    let Encoded { cap, shares } = encoded(alloc, secret)?;
+    let Encoded { cap, shares, .. } = encoded(alloc, secret)?;
     let Cap::Chk(cap) = cap else {
         return None;
     };

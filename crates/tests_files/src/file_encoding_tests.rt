@@ -126,6 +126,19 @@ pub(crate) fn have_digests(
     Ok(true)
 }
 
+// Whether digests are written as these texts, in their order.
+fn are_written(alloc: Global, digests: &[[u8; 32]], texts: &[&str]) -> Result<bool, AllocError> {
+    if digests.len() != texts.len() {
+        return Ok(false);
+    }
+    for (digest, text) in digests.iter().zip(texts) {
+        if hexadecimal(alloc, digest)?.as_str() != *text {
+            return Ok(false);
+        }
+    }
+    Ok(true)
+}
+
 // Whether a cap is written as this text.
 fn is_written(alloc: Global, cap: &Cap, text: &str) -> Result<bool, AllocError> {
     Ok(format!(in alloc; "{cap}")?.as_str() == text)
@@ -157,7 +170,11 @@ fn becomes(
     let (size, needed, total, segment) = numbers;
     let file = counted(alloc, size)?;
     let e = encoded(alloc, &file, secret, needed, total, segment)?;
-    Ok(is_written(alloc, &e.cap, cap)? && have_digests(alloc, &e.shares, len, digests)?)
+    Ok(
+        is_written(alloc, &e.cap, cap)?
+            && have_digests(alloc, &e.shares, len, digests)?
+            && are_written(alloc, &e.digests, digests)?,
+    )
 }
 
 #[test]
@@ -166,6 +183,7 @@ fn encodes_zeros_as_others_do(rt: HostRuntime) -> Result<(), Fail> {
     let e = taken(encoded(alloc, &[0; 56], NO_SECRET, 1, 1, SEGMENT))?;
     assert!(rt; is_written(alloc, &e.cap, CAPS[0])?);
     assert!(rt; have_digests(alloc, &e.shares, 531, &ONE)?);
+    assert!(rt; are_written(alloc, &e.digests, &ONE)?);
     Ok(())
 }
 
@@ -199,7 +217,7 @@ fn reads_or_is_refused(alloc: Global) -> bool {
     let Ok(file) = counted(alloc, 300) else {
         return true;
     };
-    let Ok(Encoded { cap, shares }) = encoded(alloc, &file, NO_SECRET, 2, 3, 100) else {
+    let Ok(Encoded { cap, shares, .. }) = encoded(alloc, &file, NO_SECRET, 2, 3, 100) else {
         return true;
     };
     let Cap::Chk(cap) = cap else {
@@ -237,6 +255,8 @@ fn encodes_256_of_256_as_others_do(rt: HostRuntime) -> Result<(), Fail> {
     assert!(rt; is_written(alloc, &e.cap, CAPS[4])?);
     assert!(rt; e.shares.len() == 256);
     assert!(rt; digest_of_digests(alloc, &e.shares)?.as_str() == ALL_OF_256);
+    let told = tagged(Tag::WholeShare, e.digests.as_flattened());
+    assert!(rt; hexadecimal(alloc, &told)?.as_str() == ALL_OF_256);
     Ok(())
 }
 
@@ -246,7 +266,7 @@ const HEADER: &str = "0000000100000013000000130000002400000037000000570000007700
 // The shares of 56 bytes at 3 of 10, whose byte i is i modulo 251.
 fn three_of_ten(alloc: Global) -> Result<Vec<Share>, EncodeError> {
     let file = counted(alloc, 56)?;
-    let Encoded { cap: _, shares } = encoded(alloc, &file, NO_SECRET, 3, 10, SEGMENT)?;
+    let Encoded { shares, .. } = encoded(alloc, &file, NO_SECRET, 3, 10, SEGMENT)?;
     Ok(shares)
 }
 

@@ -34,7 +34,7 @@ fn is_file(text: &[u8]) -> bool {
 
 // The cap of the file and its shares.
 fn whole(alloc: Global) -> Option<(ReadCap, Vec<Share>)> {
-    let Encoded { cap, shares } = encoded(alloc)?;
+    let Encoded { cap, shares, .. } = encoded(alloc)?;
     let Cap::Chk(cap) = cap else {
         return None;
     };

@@ -40,7 +40,7 @@ fn store_counted(
 ) -> Result<Stored, Refused> {
     let (size, needed, total, segment) = numbers;
     let file = taken(counted(alloc, size))?;
-    let Encoded { cap, shares } = taken(encoded(alloc, &file, secret, needed, total, segment))?;
+    let Encoded { cap, shares, .. } = taken(encoded(alloc, &file, secret, needed, total, segment))?;
     match verify_cap(&cap) {
         Some(cap) => Ok(Stored { cap, shares }),
         None => Err(Refused),

@@ -145,7 +145,7 @@ pub(crate) fn whole_file(
     let Ok(params) = Params::new(needed, 1, total, segment) else {
         return Ok(None);
     };
-    let Ok(Encoded { cap, shares }) = encode_all(alloc, &file, b"", &params) else {
+    let Ok(Encoded { cap, shares, .. }) = encode_all(alloc, &file, b"", &params) else {
         return Ok(None);
     };
     let Cap::Chk(cap) = cap else {

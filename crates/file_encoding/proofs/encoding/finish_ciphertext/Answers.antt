@@ -1,5 +1,6 @@
 use Rattle.std.proofs.Common.{◌≡◌, ℕ, List, length, map, get_or, All, ap, sym, ◌∙◌, arith}
 use Rattle.std.proofs.lemmas.List.{get_or-map, length-map}
+use Rattle.std.specs.Int.{div_ceil}
 use Rattle.std.proofs.lemmas.List.FromFn.{get_or-map-range_with_len, length-map-range_with_len}
 use Rattle.std.proofs.lemmas.Simd.{map-map}
 use Rattle.cap_text.specs.declared.cap.Cap.TheVariants.{Chk}
@@ -12,10 +13,12 @@ use Rattle.share_layout.specs.Pieces.{segments_of}
 use Rattle.proved_parts.specs.FileOf.{segment_hashes}
 use Rattle.file_encoding.specs.BegunFiles.{IsBegun}
 use Rattle.file_encoding.specs.Blocks.{draft_of, finished}
+use Rattle.file_encoding.specs.Digests.{beginning_of, begun_bytes}
 use Rattle.file_encoding.specs.Drafts.{DraftState}
 use Rattle.file_encoding.specs.Encoding.{extension_block_contents, padded_segment, share_leaves}
 use Rattle.file_encoding.specs.declared.encoding.BegunFile.{BegunFile}
 use Rattle.file_encoding.specs.declared.draft.Begun.{Begun}
+use Rattle.file_encoding.proofs.HashedShares.{first_bytes, given_same}
 use Rattle.file_encoding.proofs.Whole.{cap_is, roots_are, shares_are}
 use Rattle.file_encoding.proofs.encoding.finish_ciphertext.Goals as goal
 
@@ -69,7 +72,7 @@ module _ (g : Geometry) (text : List ℕ) (begun : BegunFile) (is : IsBegun g te
         total_shares = g.total;
         size = g.size;
         segment_size = g.segment_size;
-        crypttext_hash = begun.crypttext_hash;
+        crypttext_hash = begun.hashed.crypttext_hash;
         crypttext_root_hash = begun.ciphertext_root;
         share_root_hash = root;
       }) → extension_block ≡ ueb_text (extension_block_contents g text (segments_of g text))
@@ -85,13 +88,33 @@ module _ (g : Geometry) (text : List ℕ) (begun : BegunFile) (is : IsBegun g te
         share_root_hash = leads i;
       })
 
+pub finish_digests-requires : goal.finish_digests-requires
+finish_digests-requires c =
+    let g : Geometry = c.args.geometry.now in
+    let text : List ℕ = c.requires.begun.0 in
+    let is : IsBegun g text c.args.begun = c.requires.begun.1 in
+    let begun : List Begun = c.args.begun.shares.items in
+    let tree : List (List ℕ) = c.in_ok-share_tree.share_tree in
+    let block : List ℕ = c.deref-2.result.now in
+    let nodes : List (List ℕ) = tree_nodes (segment_hashes (segments_of g text)) in
+    let shares : c.deref-3.result.now ≡ map (λ (b : Begun). finished tree block b.draft) begun = c.deref-3.ensures.value ∙ c.in_ok-shares.ensures in
+    let all : length c.deref-3.result.now ≡ g.total = ap length shares ∙ length-map begun (λ (b : Begun). finished tree block b.draft) ∙ count g text c.args.begun is in
+    record {
+      groups = is.groups ∙ ap (λ (n : ℕ). div_ceil n 7) (sym all);
+      given =
+          given_same g.total (length c.deref-3.result.now) (begun_bytes begun) (beginning_of c.deref-3.result.now c.of-given.result.share_hashes) c.args.begun.hashed.wholes.items all
+          (λ i low. first_bytes g (padded_segment g.needed text) nodes begun tree block i is.shares low
+          ∙ λ p. beginning_of (sym shares p) (sym c.of-given.ensures.offsets p).share_hashes i)
+          is.given;
+    }
+
 pub returns-clause-cap : goal.returns-clause-cap
 returns-clause-cap c = λ text is.
     let g : Geometry = c.args.geometry.now in
     let tree = leaves g text c.args.begun c.deref.result.now c.in_ok-share_tree.share_tree is c.deref.ensures.value c.in_ok-share_tree.ensures in
     let block = block_is g text c.args.begun is c.root.result c.in_ok-extension_block.extension_block.items (c.root.ensures ∙ ap tree_root tree.0) c.in_ok-extension_block.ensures.text in
     ap Chk (cap_is g c.args.key text c.in_ok-extension_block.extension_block.items c.tagged.result c.file_cap-cap.result
-    block (c.tagged.ensures ∙ ap (tagged_hash ExtensionBlock) c.deref-3.ensures.value) c.file_cap-cap.ensures)
+    block (c.tagged.ensures ∙ ap (tagged_hash ExtensionBlock) c.deref-4.ensures.value) c.file_cap-cap.ensures)
 
 pub returns-clause-shares : goal.returns-clause-shares
 returns-clause-shares c = λ text is.
