@@ -44,7 +44,7 @@ impl Model for PreparedUpload {
     ghost invariant = { λ p. p.upload.goal ≡ shares_goal (verify_cap_of p.cap) p.upload.pieces };
 }
 
-/// Encodes a file and gathers its shares' digests. The secret has at most 64 bytes.
+/// Encodes a file, with the digests of its shares. The secret has at most 64 bytes.
 ///
 /// Refuses as `encode_all` does: `TooLarge` and `TooManySegments`, in this order, and
 /// `OutOfMemory`.
@@ -70,11 +70,15 @@ pub fn prepare(
     ensures memory { IsEncodable (length file.now) params.now
         → IfErr result (λ e. e ≡ EncodeError.OutOfMemory) }
 {
-    let Encoded { cap, shares, .. } = encode_all(alloc, file, secret, params)?;
+    let Encoded {
+        cap,
+        shares,
+        digests,
+    } = encode_all(alloc, file, secret, params)?;
     match cap {
         Cap::Chk(cap) => {
             let happy = params.happy();
-            let upload = ready_shares(alloc, cap.to_verify(), happy, shares)?;
+            let upload = ready_shares(alloc, cap.to_verify(), happy, shares, digests)?;
             Ok(FileUpload::Shares(PreparedUpload { cap, upload }))
         }
         Cap::Lit(cap) => Ok(FileUpload::Literal(cap)),

@@ -9,7 +9,7 @@ ghost use Rattle.file_upload.specs.Repair.{AreMadeOf};
 ghost use Rattle.file_upload.specs.RepairError.{refusal_number};
 ghost use Rattle.file_upload.specs.Shares.{MayWant};
 
-use crate::shares::ready_shares;
+use crate::shares::ready_remade;
 use cap_text::VerifyCap;
 use file_encoding::{DecodedFile, ReadError, Share, decode_shares, slices_of};
 use std::alloc::{AllocError, Global};
@@ -96,7 +96,7 @@ pub fn prepare_repair(
         return Err(RepairError::BadParameters);
     }
     let shares = remake(alloc, cap, good)?;
-    Ok(ready_shares(alloc, *cap, happy, shares)?)
+    Ok(ready_remade(alloc, *cap, happy, shares)?)
 }
 
 // All shares of a file. The good ones are let go before the others are made, and the file with them

@@ -1,9 +1,7 @@
-use Rattle.std.proofs.Common.{◌≡◌, ◌∙◌, ◌<◌, ◌≤◌, Err, Result, rules, sym}
-use Rattle.std.specs.Prelude.{IsErrOf}
+use Rattle.std.proofs.Common.{◌≡◌, ◌<◌, ◌≤◌, rules}
 use Rattle.file_encoding.specs.declared.reading.ReadError.{ReadError}
 use Rattle.file_encoding.specs.declared.reading.ReadError.TheVariants as all
 use Rattle.file_upload.specs.RepairError.{refusal_of_all}
-use Rattle.file_upload.specs.declared.repair.RepairError.{RepairError}
 use Rattle.file_upload.specs.declared.repair.RepairError.TheVariants.{Inconsistent}
 use Rattle.file_upload.proofs.OneLength.{passing_are_fit}
 use Rattle.file_upload.proofs.repair.prepare_repair.Goals as goal
@@ -18,8 +16,8 @@ returns-in_err-shares-clause-inconsistent c = λ is.
     let was : c.in_err-shares.field-0.0 ≡ all.Inconsistent = was_inconsistent c.in_err-shares.field-0.0 (search rules) in
     c.in_err-shares.ensures.inconsistent (search rules)
 
-pub ready_shares-requires : goal.ready_shares-requires
-ready_shares-requires c =
+pub ready_remade-requires : goal.ready_remade-requires
+ready_remade-requires c =
     let some : 0 < c.args.cap.now.total = search rules in
     let few : c.args.cap.now.total ≤ 256 = search rules in
     passing_are_fit c.args.cap.now c.in_ok-shares.shares.items some few c.in_ok-shares.ensures.passing
