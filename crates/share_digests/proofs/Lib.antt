@@ -1,1 +1,2 @@
 pub mod GivenBytes
+pub mod Lanes

@@ -3,4 +3,4 @@
 
 mod wholes;
 
-pub use wholes::WholeHashers;
+pub use wholes::{HashedBlocks, WholeHashers};

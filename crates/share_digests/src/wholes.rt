@@ -1,13 +1,13 @@
 //! The digests of whole shares, whose bytes come in pieces: those of seven shares are made side by
 //! side, and another text may ride beside them.
 
-ghost use Rattle.std.specs.Prelude.{◌≡◌, ◌<◌, ◌≤◌, ◌++◌, ℕ, List, []};
-ghost use Rattle.std.specs.Prelude.{length, slice_index_or, take};
+ghost use Rattle.std.specs.Prelude.{◌≡◌, ◌≢◌, ◌+◌, ◌<◌, ◌≤◌, ◌++◌, ℕ, List, []};
+ghost use Rattle.std.specs.Prelude.{length, min, slice_index_or, take};
 ghost use Rattle.sha2_lanes.specs.Lanes.{text};
 ghost use Rattle.tagged_hash.specs.TaggedHash.{tagged_hash};
 ghost use Rattle.tagged_hash.specs.TaggedHasher.{Holds, HoldsIn};
 ghost use Rattle.tagged_hash.specs.declared.tag.Tag.{Tag};
-ghost use Rattle.tagged_hash.specs.declared.tag.Tag.TheVariants.{WholeShare};
+ghost use Rattle.tagged_hash.specs.declared.tag.Tag.TheVariants.{Block, WholeShare};
 ghost use Rattle.share_digests.specs.Wholes.{IsGivenAt};
 
 use std::mem;
@@ -20,6 +20,15 @@ pub struct WholeHashers {
     hashers: [TaggedHasher; 8],
     // How many shares there are.
     count: usize,
+}
+
+/// What was hashed beside the blocks that at most three whole shares were given.
+#[derive(Drop)]
+pub struct HashedBlocks {
+    /// The hash of each block.
+    pub blocks: [[u8; 32]; 3],
+    /// How much of another text was given to its hasher.
+    pub len: usize,
 }
 
 impl WholeHashers {
@@ -69,13 +78,36 @@ impl WholeHashers {
         ensures other { (tag : Tag) (given : List ℕ) → Holds other.old tag given
             → Holds other.new tag (given ++ take result rest.now) }
     {
-        let len = pieces[0].len().min(rest.len());
-        if len == 0 || self.count == 1 {
+        if self.count == 1 {
             self.update(pieces);
             return 0;
         }
-        update_seven(&mut self.hashers, pieces, other, &rest[..len]);
-        len
+        give_beside(&mut self.hashers, pieces, other, rest)
+    }
+
+    /// Gives each of at most three shares a block, and another hasher the beginning of its text,
+    /// as long as the first block. Beside them each block is hashed by itself, in a lane that is
+    /// nobody's.
+    pub fn update_hashing(
+        &mut self,
+        blocks: &[&[u8]; 3],
+        other: &mut TaggedHasher,
+        rest: &[u8],
+    ) -> HashedBlocks
+        ensures shares { (j : ℕ) (given : List ℕ) → j < 3 → IsGivenAt self.old j given
+            → IsGivenAt self.new j (given ++ text blocks.now j) }
+        ensures blocks { (j : ℕ) → j < 3
+            → slice_index_or result.blocks j [] ≡ tagged_hash Block (text blocks.now j) }
+        ensures len { result.len ≡ min (length (text blocks.now 0)) (length rest.now) }
+        ensures other { (tag : Tag) (given : List ℕ) → Holds other.old tag given
+            → Holds other.new tag (given ++ take result.len rest.now) }
+    {
+        begin_blocks(&mut self.hashers);
+        let len = give_beside(&mut self.hashers, &twice(blocks), other, rest);
+        HashedBlocks {
+            blocks: finish_blocks(&mut self.hashers),
+            len,
+        }
     }
 
     /// Gives all shares the same bytes.
@@ -104,6 +136,29 @@ impl WholeHashers {
     }
 }
 
+// Gives seven hashers their pieces, and beside them another one the beginning of its text, as long
+// as the first piece. Says how much that is.
+fn give_beside(
+    hashers: &mut [TaggedHasher; 8],
+    pieces: &[&[u8]; 8],
+    other: &mut TaggedHasher,
+    rest: &[u8],
+) -> usize
+    ensures seven { (j : ℕ) (tag : Tag) (given : List ℕ) → j < 7 → HoldsIn hashers.old j tag given
+        → HoldsIn hashers.new j tag (given ++ text pieces.now j) }
+    ensures len { result ≡ min (length (text pieces.now 0)) (length rest.now) }
+    ensures other { (tag : Tag) (given : List ℕ) → Holds other.old tag given
+        → Holds other.new tag (given ++ take result rest.now) }
+{
+    let len = pieces[0].len().min(rest.len());
+    if len == 0 {
+        update_eight(hashers, pieces);
+    } else {
+        update_seven(hashers, pieces, other, &rest[..len]);
+    }
+    len
+}
+
 // Gives seven hashers their pieces, and beside them another one its own, in the place of the last.
 fn update_seven(
     hashers: &mut [TaggedHasher; 8],
@@ -129,4 +184,50 @@ fn with_last<'a>(pieces: &[&'a [u8]; 8], last: &'a [u8]) -> [&'a [u8]; 8]
     [
         pieces[0], pieces[1], pieces[2], pieces[3], pieces[4], pieces[5], pieces[6], last,
     ]
+}
+
+// Puts new hashers of blocks into the three lanes behind those of three shares.
+fn begin_blocks(hashers: &mut [TaggedHasher; 8])
+    ensures shares { (j : ℕ) (tag : Tag) (given : List ℕ) → j < 3 → HoldsIn hashers.old j tag given
+        → HoldsIn hashers.new j tag given }
+    ensures blocks { (j : ℕ) → j < 3 → HoldsIn hashers.new (3 + j) Block [] }
+{
+    for lane in 3..6 {
+        hashers[lane] = TaggedHasher::new(Tag::Block);
+    }
+}
+
+// The blocks of three shares in the lanes of the shares, and in those behind these. The others have
+// the first block.
+fn twice<'a>(blocks: &[&'a [u8]; 3]) -> [&'a [u8]; 8]
+    ensures shares { (j : ℕ) → j < 3 → text result j ≡ text blocks.now j }
+    ensures blocks { (j : ℕ) → j < 3 → text result (3 + j) ≡ text blocks.now j }
+{
+    let [a, b, c] = *blocks;
+    [a, b, c, a, b, c, a, a]
+}
+
+// The hashes of the blocks that the three hashers behind those of three shares were given.
+fn finish_blocks(hashers: &mut [TaggedHasher; 8]) -> [[u8; 32]; 3]
+    ensures shares { (j : ℕ) (tag : Tag) (given : List ℕ) → j < 3 → HoldsIn hashers.old j tag given
+        → HoldsIn hashers.new j tag given }
+    ensures blocks { (j : ℕ) (given : List ℕ) → j < 3 → HoldsIn hashers.old (3 + j) Block given
+        → slice_index_or result j [] ≡ tagged_hash Block given }
+{
+    [
+        finish_at(hashers, 3),
+        finish_at(hashers, 4),
+        finish_at(hashers, 5),
+    ]
+}
+
+// The hash of what one of eight hashers was given. In its lane stands a new one.
+fn finish_at(hashers: &mut [TaggedHasher; 8], lane: usize) -> [u8; 32]
+    requires { lane < 8 }
+    ensures others { (j : ℕ) (tag : Tag) (given : List ℕ) → j ≢ lane
+        → HoldsIn hashers.old j tag given → HoldsIn hashers.new j tag given }
+    ensures hash { (tag : Tag) (given : List ℕ) → HoldsIn hashers.old lane tag given
+        → result ≡ tagged_hash tag given }
+{
+    mem::replace(&mut hashers[lane], TaggedHasher::new(Tag::Block)).finish()
 }
