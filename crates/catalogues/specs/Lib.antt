@@ -1,0 +1,13 @@
+-- what public contracts rest on
+pub mod Names
+pub mod Lines
+pub mod Heads
+pub mod Catalogues
+pub mod Laws
+pub mod Below
+pub mod CatalogueError
+-- words of private clauses
+pub mod Pieces
+pub mod HeadParts
+pub mod PartsLeft
+pub mod Unwritten
