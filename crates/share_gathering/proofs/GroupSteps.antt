@@ -157,3 +157,9 @@ padded-piece g group i room buffer is low long padding room_is small =
 -- there is a first one
 pub has_first : (g : Geometry) (group : Group) → IsGroup g group → 0 < group.count
 has_first g group is = omega (arith, is.count, is.some, (few_at_once g).0)
+
+-- a group's bytes are all in the buffer
+pub group_long : (g : Geometry) (group : Group) (segments : List ℕ) → IsGroup g group → length segments ≡ 8 * g.segment_size → length (take group.len segments) ≡ group.len
+group_long g group segments is long =
+    let at = has_offset g group 0 is (has_first g group is) in
+    length-take-le group.len segments (omega (arith, at.fits, long))

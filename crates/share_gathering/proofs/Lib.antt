@@ -3,4 +3,5 @@ pub mod Blocks
 pub mod GroupSteps
 pub mod Rows
 pub mod ShareBlocks
+pub mod FewBlocks
 pub mod Sections

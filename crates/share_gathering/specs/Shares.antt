@@ -1,11 +1,17 @@
 -- What is held of each share while the segments of its file go by.
-use Rattle.std.specs.Prelude.{◌≡◌, ℕ, ◌+◌, ◌*◌, ◌<◌, List, ◌++◌, length, map, slice_get, Some}
+use Rattle.std.specs.Prelude.{◌≡◌, ℕ, ◌+◌, ◌-◌, ◌*◌, ◌<◌, ◌≤◌, List, ◌++◌, length, map, drop}
+use Rattle.std.specs.Prelude.{replicate, slice_get, Some}
+use Rattle.std.specs.Int.{div_ceil}
 use Rattle.tagged_hash.specs.TaggedHash.{tagged_hash}
 use Rattle.tagged_hash.specs.declared.tag.Tag.TheVariants.{Block}
+use Rattle.zfec_code.specs.Shares.{Parameters}
+use Rattle.share_layout.specs.Geometry.{Geometry}
 use Rattle.share_layout.specs.Pieces.{pieces}
 use Rattle.share_gathering.specs.Gathered.{Gathered}
-use Rattle.share_digests.specs.Wholes.{IsGivenAt}
+use Rattle.share_gathering.specs.Groups.{IsGroup, gathered_group}
+use Rattle.share_digests.specs.Wholes.{AreGiven, IsGivenAt}
 use Rattle.share_digests.specs.declared.wholes.WholeHashers.{WholeHashers}
+use Rattle.share_gathering.specs.declared.groups.Group.{Group}
 use Rattle.share_gathering.specs.declared.shares.ShareSoFar.{ShareSoFar}
 
 -- each of these has become what it is now, by its number
@@ -36,3 +42,27 @@ HaveWholesMore total rows old new = HaveBecome (HavePieceMore total rows) old ne
 abbrev pub HoldShares : Gathered → List ShareSoFar → Type 0
 HoldShares s shares = (i : ℕ) (share : ShareSoFar) → slice_get shares i ≡ Some share
     → share.leaves.items ≡ s.block_leaves i
+
+-- what a group of segments is gathered with: the segments, which stand one after another with zeros
+-- behind the last, the code of their file, room for the blocks of eight shares, and all shares with
+-- their hashers
+pub record CanGather (g : Geometry) (code : Parameters) (some : Group) (segments lanes : List ℕ)
+    (all : List ShareSoFar) (hashers : List WholeHashers) : Type 0 where
+  pub group : IsGroup g some
+  pub needed : code.k ≡ g.needed
+  pub total : code.n ≡ g.total
+  pub segments_long : length segments ≡ 8 * g.segment_size
+  pub padding : drop some.len segments ≡ replicate (8 * g.segment_size - some.len) 0
+  pub room : 8 * some.row ≤ length lanes
+  pub shares : length all ≡ g.total
+  pub wholes : length hashers ≡ div_ceil g.total 7
+
+-- shares that held what was gathered hold what is gathered with the ciphertext of a group more
+abbrev pub HoldSharesMore : Geometry → Group → List ℕ → List ShareSoFar → List ShareSoFar → Type 0
+HoldSharesMore g group text old new = (s : Gathered) → HoldShares s old
+    → HoldShares (gathered_group g group text s) new
+
+-- so it is of what the hashers of whole shares were given
+abbrev pub AreGivenMore : Geometry → Group → List ℕ → List WholeHashers → List WholeHashers → Type 0
+AreGivenMore g group text old new = (s : Gathered) → AreGiven g.total s.written old
+    → AreGiven g.total (gathered_group g group text s).written new

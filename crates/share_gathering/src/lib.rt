@@ -4,6 +4,7 @@
 
 mod buffers;
 mod code;
+mod few;
 mod finishing;
 mod groups;
 mod kept;

@@ -2,17 +2,18 @@
 
 ghost use Rattle.std.specs.Prelude.{◌≡◌, ◌+◌, ◌-◌, ◌*◌, ◌<◌, ◌≤◌, ◌++◌, ℕ, List, IfOk, OnOk};
 ghost use Rattle.std.specs.Prelude.{drop, length, map, replicate, take};
-ghost use Rattle.std.specs.Int.{div_ceil};
 ghost use Rattle.sha2_lanes.specs.Lanes.{text};
 ghost use Rattle.tagged_hash.specs.TaggedHash.{tagged_hash};
 ghost use Rattle.tagged_hash.specs.TaggedHasher.{Holds};
 ghost use Rattle.tagged_hash.specs.declared.tag.Tag.{Tag};
+ghost use Rattle.share_layout.specs.Geometry.{block_size};
 ghost use Rattle.share_layout.specs.Pieces.{pieces};
-ghost use Rattle.share_gathering.specs.Gathered.{Gathered, gathered_none};
-ghost use Rattle.share_gathering.specs.Groups.{IsGroup, gathered_group, row_of};
-ghost use Rattle.share_gathering.specs.Shares.{HaveBlocksMore, HoldShares};
-ghost use Rattle.share_digests.specs.Wholes.{AreGiven};
+ghost use Rattle.share_gathering.specs.Gathered.{gathered_none};
+ghost use Rattle.share_gathering.specs.Groups.{IsGroup, row_of};
+ghost use Rattle.share_gathering.specs.Shares.{AreGivenMore, CanGather, HaveBlocksMore};
+ghost use Rattle.share_gathering.specs.Shares.{HaveWholesMore, HoldShares, HoldSharesMore};
 
+use crate::few::{add_blocks, have_free_lanes};
 use crate::groups::Group;
 use block_making::{encode_lane, lane_of};
 use share_digests::WholeHashers;
@@ -53,20 +54,11 @@ pub fn add_segments(
     shares: &mut [ShareSoFar],
     wholes: &mut [WholeHashers],
 ) -> Result<(), AllocError>
-    requires group { IsGroup geometry.now group }
-    requires needed { code.now.k ≡ geometry.now.needed }
-    requires total { code.now.n ≡ geometry.now.total }
-    requires segments { length segments.now ≡ 8 * geometry.now.segment_size }
-    requires padding { drop group.len segments.now
-        ≡ replicate (8 * geometry.now.segment_size - group.len) 0 }
-    requires room { 8 * group.row ≤ length lanes.old }
-    requires shares { length shares.old ≡ geometry.now.total }
-    requires wholes { length wholes.old ≡ div_ceil geometry.now.total 7 }
-    ensures shares { (s : Gathered) → HoldShares s shares.old → OnOk result (HoldShares
-        (gathered_group geometry.now group (take group.len segments.now) s) shares.new) }
-    ensures wholes { (s : Gathered) → AreGiven geometry.now.total s.written wholes.old
-        → OnOk result (AreGiven geometry.now.total
-        (gathered_group geometry.now group (take group.len segments.now) s).written wholes.new) }
+    requires { CanGather geometry.now code.now group segments.now lanes.old shares.old wholes.old }
+    ensures shares { OnOk result (HoldSharesMore geometry.now group
+        (take group.len segments.now) shares.old shares.new) }
+    ensures wholes { OnOk result (AreGivenMore geometry.now group
+        (take group.len segments.now) wholes.old wholes.new) }
 {
     let mut nobody = TaggedHasher::new(Tag::WholeShare);
     add_segments_beside(
@@ -95,20 +87,42 @@ pub fn add_segments_beside(
     other: &mut TaggedHasher,
     beside: &[u8],
 ) -> Result<(), AllocError>
-    requires group { IsGroup geometry.now group }
-    requires needed { code.now.k ≡ geometry.now.needed }
-    requires total { code.now.n ≡ geometry.now.total }
-    requires segments { length segments.now ≡ 8 * geometry.now.segment_size }
-    requires padding { drop group.len segments.now
-        ≡ replicate (8 * geometry.now.segment_size - group.len) 0 }
-    requires room { 8 * group.row ≤ length lanes.old }
-    requires shares { length shares.old ≡ geometry.now.total }
-    requires wholes { length wholes.old ≡ div_ceil geometry.now.total 7 }
-    ensures shares { (s : Gathered) → HoldShares s shares.old → OnOk result (HoldShares
-        (gathered_group geometry.now group (take group.len segments.now) s) shares.new) }
-    ensures wholes { (s : Gathered) → AreGiven geometry.now.total s.written wholes.old
-        → OnOk result (AreGiven geometry.now.total
-        (gathered_group geometry.now group (take group.len segments.now) s).written wholes.new) }
+    requires { CanGather geometry.now code.now group segments.now lanes.old shares.old wholes.old }
+    ensures shares { OnOk result (HoldSharesMore geometry.now group
+        (take group.len segments.now) shares.old shares.new) }
+    ensures wholes { OnOk result (AreGivenMore geometry.now group
+        (take group.len segments.now) wholes.old wholes.new) }
+    ensures other { (tag : Tag) (text : List ℕ) → Holds other.old tag text
+        → OnOk result (Holds other.new tag (text ++ beside.now)) }
+{
+    if have_free_lanes(geometry, beside) {
+        add_few(
+            code, geometry, group, segments, lanes, shares, wholes, other, beside,
+        )
+    } else {
+        add_sevens(
+            code, geometry, group, segments, lanes, shares, wholes, other, beside,
+        )
+    }
+}
+
+// The same for any number of shares, seven at a time.
+fn add_sevens(
+    code: &Code,
+    geometry: &Geometry,
+    group: Group,
+    segments: &[u8],
+    lanes: &mut [u8],
+    shares: &mut [ShareSoFar],
+    wholes: &mut [WholeHashers],
+    other: &mut TaggedHasher,
+    beside: &[u8],
+) -> Result<(), AllocError>
+    requires { CanGather geometry.now code.now group segments.now lanes.old shares.old wholes.old }
+    ensures shares { OnOk result (HaveBlocksMore group.count (block_size geometry.now)
+        (row_of geometry.now group (take group.len segments.now)) shares.old shares.new) }
+    ensures wholes { OnOk result (HaveWholesMore geometry.now.total
+        (row_of geometry.now group (take group.len segments.now)) wholes.old wholes.new) }
     ensures other { (tag : Tag) (text : List ℕ) → Holds other.old tag text
         → OnOk result (Holds other.new tag (text ++ beside.now)) }
 {
@@ -124,6 +138,33 @@ pub fn add_segments_beside(
     }
     other.update(&beside[given..]);
     Ok(())
+}
+
+// The same for at most three shares: each block is hashed beside the whole shares.
+fn add_few(
+    code: &Code,
+    geometry: &Geometry,
+    group: Group,
+    segments: &[u8],
+    lanes: &mut [u8],
+    shares: &mut [ShareSoFar],
+    wholes: &mut [WholeHashers],
+    other: &mut TaggedHasher,
+    beside: &[u8],
+) -> Result<(), AllocError>
+    requires can { CanGather geometry.now code.now group segments.now lanes.old shares.old
+        wholes.old }
+    requires few { geometry.now.total ≤ 3 }
+    ensures shares { OnOk result (HaveBlocksMore group.count (block_size geometry.now)
+        (row_of geometry.now group (take group.len segments.now)) shares.old shares.new) }
+    ensures wholes { OnOk result (HaveWholesMore geometry.now.total
+        (row_of geometry.now group (take group.len segments.now)) wholes.old wholes.new) }
+    ensures other { (tag : Tag) (text : List ℕ) → Holds other.old tag text
+        → OnOk result (Holds other.new tag (text ++ beside.now)) }
+{
+    let size = geometry.block_size() as usize;
+    encode_rows(code, geometry, group, segments, 0, shares.len(), lanes);
+    add_blocks(lanes, group, size, shares, &mut wholes[0], other, beside)
 }
 
 // Writes the blocks of so many shares, from one on, into lanes: those of a share stand one after

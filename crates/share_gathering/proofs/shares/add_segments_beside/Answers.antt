@@ -1,94 +1,27 @@
-use Rattle.std.proofs.Common.{◌≡◌, ℕ, ◌+◌, ◌-◌, ◌*◌, ◌<◌, ◌≤◌, List, ◌++◌, length, drop, min, take, ap, subst, sym, ◌∙◌, arith}
-use Rattle.std.proofs.lemmas.Grind.{div_ceil_times}
-use Rattle.std.proofs.Math.Seq.{take-add}
-use Rattle.std.proofs.lemmas.List.{append_assoc, length-drop, length-take-le, take-append-drop, take_all}
-use Rattle.std.proofs.lemmas.Option.{slice_get-get_or}
-use Rattle.std.specs.Int.{div_ceil}
-use Rattle.share_layout.specs.Geometry.{Geometry}
-use Rattle.tagged_hash.specs.TaggedHasher.{Holds}
-use Rattle.share_gathering.specs.Groups.{row_of}
-use Rattle.share_gathering.specs.Shares.{HasBlocksMore, HaveBlocksMore, HavePieceMore}
-use Rattle.share_digests.specs.Wholes.{IsGivenAt}
-use Rattle.share_gathering.specs.declared.groups.Group.{Group}
-use Rattle.share_gathering.specs.declared.shares.ShareSoFar.{ShareSoFar}
-use Rattle.share_gathering.proofs.GroupSteps.{has_first, has_offset}
+use Rattle.std.proofs.Common.{refl, take}
+use Rattle.std.proofs.lemmas.Result.{on_ok_weaker}
+use Rattle.share_gathering.proofs.GroupSteps.{group_long}
 use Rattle.share_gathering.proofs.Rows.{rows-shares, rows-wholes}
-use Rattle.share_gathering.proofs.ShareBlocks.{HaveSoFar, same_blocks, so_far-all, so_far-group, so_far-more}
 use Rattle.share_gathering.proofs.shares.add_segments_beside.Goals as goal
 
-pub add_rows-requires-clause-at_once : goal.add_rows-requires-clause-at_once
-add_rows-requires-clause-at_once c = (has_offset c.args.geometry.now c.args.group 0 c.requires.group (has_first c.args.geometry.now c.args.group c.requires.group)).few
+pub returns-then-have_free_lanes-clause-shares : goal.returns-then-have_free_lanes-clause-shares
+returns-then-have_free_lanes-clause-shares c = on_ok_weaker c.add_few.result
+    (λ more s held. rows-shares c.args.geometry.now c.args.group (take c.args.group.len c.args.segments.now) s c.args.shares.now c.add_few.new.shares c.requires.group
+    (group_long c.args.geometry.now c.args.group c.args.segments.now c.requires.group c.requires.segments_long) more held)
+    c.add_few.ensures.shares
 
-pub loop-seven-preserved : goal.loop-seven-preserved
-loop-seven-preserved c =
-    let group : Group = c.args.group in
-    let leaves : ℕ = group.count in
-    let size : ℕ = c.block_size-size.result in
-    let rows : ℕ → List ℕ = row_of c.args.geometry.now group (take group.len c.args.segments.now) in
-    let old : List ShareSoFar = c.args.shares.now in
-    let now : List ShareSoFar = c.loop-seven.shares in
-    let total : ℕ = length old in
-    let given : ℕ = c.loop-seven.given in
-    let beside : List ℕ = c.args.beside.now in
-    let n : ℕ = c.loop-seven.seven in
-    let first : ℕ = 7 * n in
-    let count : ℕ = c.min-end.result - first in
-    let groups = div_ceil_times total 7 (omega arith) in
-    let low : first ≤ total = omega (arith, c.loop-seven-test.true, c.loop-seven.auto.seven-end, c.div_ceil-seven-end.ensures, groups.1) in
-    let within : first + count ≤ length now = omega (arith, low, c.min-end.ensures, c.loop-seven.auto.shares) in
-    let here : min first total ≡ first = omega (arith, low) in
-    let next : first + count ≡ min (7 * (n + 1)) total = omega (arith, low, c.min-end.ensures, c.loop-seven.auto.shares) in
-    let all : length c.args.wholes.now ≡ div_ceil total 7 = c.requires.wholes ∙ ap (λ m. div_ceil m 7) (sym c.requires.shares) in
-    let many : n < length c.loop-seven.wholes = omega (arith, c.loop-seven-test.true, c.loop-seven.auto.seven-end, c.div_ceil-seven-end.ensures, all, c.loop-seven.auto.wholes) in
-    let tail : take (length beside - given) (drop given beside) ≡ drop given beside = take_all (length beside - given) (drop given beside) (omega (arith, length-drop given beside)) in
-    record {
-      shares =
-          subst (HaveSoFar (HasBlocksMore leaves size rows) old _) next
-          (so_far-group leaves size rows old now c.add_rows.new.shares first count within (subst (HaveSoFar (HasBlocksMore leaves size rows) old now) here c.loop-seven.invariant.shares)
-          (same_blocks leaves size rows old now c.add_rows.new.shares first count within _ c.encode_rows.ensures c.in_ok-add_rows.ensures));
-      wholes =
-          so_far-more (HavePieceMore total rows) c.args.wholes.now c.loop-seven.wholes n _ c.update_beside-given.new.self c.loop-seven.invariant.wholes many
-          (slice_get-get_or c.loop-seven.wholes n _ many)
-          (λ j given below inside was.
-          let lane : j < count = omega (arith, inside, below, c.min-end.ensures, c.loop-seven.auto.shares) in
-          subst (λ (piece : List ℕ). IsGivenAt c.update_beside-given.new.self j (given ++ piece)) (c.all_lanes-blocks.ensures j (omega (arith, below)) ∙ c.encode_rows.ensures j lane)
-          (c.update_beside-given.ensures.shares j given below was));
-      within = omega (arith, c.update_beside-given.ensures.within, ap length tail, length-drop given beside, c.loop-seven.invariant.within);
-      other = λ tag text held.
-          subst (λ (t : List ℕ). Holds c.update_beside-given.new.other tag (text ++ t)) (sym (take-add given c.update_beside-given.result beside))
-          (subst (Holds c.update_beside-given.new.other tag) (append_assoc text (take given beside) (take c.update_beside-given.result (drop given beside)))
-          (subst (λ (l : List ℕ). Holds c.update_beside-given.new.other tag ((text ++ take given beside) ++ take c.update_beside-given.result l)) tail
-          (c.update_beside-given.ensures.other tag (text ++ take given beside) (c.loop-seven.invariant.other tag text held))));
-    }
+pub returns-then-have_free_lanes-clause-wholes : goal.returns-then-have_free_lanes-clause-wholes
+returns-then-have_free_lanes-clause-wholes c = on_ok_weaker c.add_few.result
+    (λ more s given. rows-wholes c.args.geometry.now c.args.group (take c.args.group.len c.args.segments.now) s c.args.geometry.now.total c.args.wholes.now c.add_few.new.wholes refl more given)
+    c.add_few.ensures.wholes
 
-pub returns-clause-shares : goal.returns-clause-shares
-returns-clause-shares c = λ s held.
-    let g : Geometry = c.args.geometry.now in
-    let group : Group = c.args.group in
-    let at = has_offset g group 0 c.requires.group (has_first g group c.requires.group) in
-    let text : List ℕ = take group.len c.args.segments.now in
-    let long : length text ≡ group.len = length-take-le group.len c.args.segments.now (omega (arith, at.fits, c.requires.segments)) in
-    let all = (div_ceil_times (length c.args.shares.now) 7 (omega arith)).0 in
-    rows-shares g group text s c.args.shares.now c.loop-seven.shares c.requires.group long
-    (subst (λ n. HaveBlocksMore group.count n (row_of g group text) c.args.shares.now c.loop-seven.shares) c.block_size-size.ensures.value
-    (so_far-all _ _ _ _ c.loop-seven.invariant.shares (omega (arith, c.loop-seven-test.false, c.loop-seven.auto.seven-end, c.div_ceil-seven-end.ensures, c.loop-seven.auto.shares, all))))
-    held
+pub returns-else-have_free_lanes-clause-shares : goal.returns-else-have_free_lanes-clause-shares
+returns-else-have_free_lanes-clause-shares c = on_ok_weaker c.add_sevens.result
+    (λ more s held. rows-shares c.args.geometry.now c.args.group (take c.args.group.len c.args.segments.now) s c.args.shares.now c.add_sevens.new.shares c.requires.group
+    (group_long c.args.geometry.now c.args.group c.args.segments.now c.requires.group c.requires.segments_long) more held)
+    c.add_sevens.ensures.shares
 
-pub returns-clause-wholes : goal.returns-clause-wholes
-returns-clause-wholes c = λ s given.
-    let g : Geometry = c.args.geometry.now in
-    let group : Group = c.args.group in
-    let all : length c.args.wholes.now ≡ div_ceil (length c.args.shares.now) 7 = c.requires.wholes ∙ ap (λ m. div_ceil m 7) (sym c.requires.shares) in
-    rows-wholes g group (take group.len c.args.segments.now) s (length c.args.shares.now) c.args.wholes.now c.loop-seven.wholes c.requires.shares
-    (so_far-all _ _ _ _ c.loop-seven.invariant.wholes (omega (arith, c.loop-seven-test.false, c.loop-seven.auto.seven-end, c.div_ceil-seven-end.ensures, c.loop-seven.auto.wholes, all)))
-    given
-
-pub returns-clause-other : goal.returns-clause-other
-returns-clause-other c = λ tag text held.
-    let given : ℕ = c.loop-seven.given in
-    let beside : List ℕ = c.args.beside.now in
-    let tail : take (length beside - given) (drop given beside) ≡ drop given beside = take_all (length beside - given) (drop given beside) (omega (arith, length-drop given beside)) in
-    subst (λ (t : List ℕ). Holds c.update.new.self tag (text ++ t)) (take-append-drop given beside)
-    (subst (Holds c.update.new.self tag) (append_assoc text (take given beside) (drop given beside))
-    (subst (λ (l : List ℕ). Holds c.update.new.self tag ((text ++ take given beside) ++ l)) tail
-    (c.update.ensures tag (text ++ take given beside) (c.loop-seven.invariant.other tag text held))))
+pub returns-else-have_free_lanes-clause-wholes : goal.returns-else-have_free_lanes-clause-wholes
+returns-else-have_free_lanes-clause-wholes c = on_ok_weaker c.add_sevens.result
+    (λ more s given. rows-wholes c.args.geometry.now c.args.group (take c.args.group.len c.args.segments.now) s c.args.geometry.now.total c.args.wholes.now c.add_sevens.new.wholes refl more given)
+    c.add_sevens.ensures.wholes

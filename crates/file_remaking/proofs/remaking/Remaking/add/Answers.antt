@@ -1,4 +1,5 @@
-use Rattle.std.proofs.Common.{◌≡◌, ◌-◌, ℕ, List, ◌++◌, length, take, drop, min, ap, subst, sym, ◌∙◌, arith}
+use Rattle.std.proofs.Common.{rules, ◌≡◌, ◌-◌, ℕ, List, ◌++◌, length, take, drop, min, ap, subst, sym, ◌∙◌, arith}
+use Rattle.std.proofs.lemmas.Grind.{common_steps}
 use Rattle.std.proofs.lemmas.List.{length-take-le, take-take, take_at}
 use Rattle.std.proofs.lemmas.List.{with_items_is}
 use Rattle.std.specs.Vec.{with_items}
@@ -39,8 +40,17 @@ slice_bounds-fill-start c =
     let at = has_offset c.args.geometry.now c.args.group 0 c.requires.group (has_first c.args.geometry.now c.args.group c.requires.group) in
     omega (arith, at.fits, c.requires.segments)
 
-pub add_segments-requires-clause-room : goal.add_segments-requires-clause-room
-add_segments-requires-clause-room c = omega (arith, row-room c.args.geometry.now c.args.group c.requires.group, c.requires.lanes)
+pub add_segments-requires : goal.add_segments-requires
+add_segments-requires c = record {
+  group = c.requires.group;
+  needed = c.requires.needed;
+  total = c.requires.total;
+  segments_long = search rules;
+  padding = grind (arith, common_steps);
+  room = omega (arith, row-room c.args.geometry.now c.args.group c.requires.group, c.requires.lanes);
+  shares = search rules;
+  wholes = search rules;
+}
 
 pub returns-clause-more : goal.returns-clause-more
 returns-clause-more c =

@@ -1,4 +1,5 @@
-use Rattle.std.proofs.Common.{◌≡◌, ◌-◌, ℕ, List, ◌++◌, length, take, drop, ap, subst, sym, ◌∙◌, arith}
+use Rattle.std.proofs.Common.{rules, ◌≡◌, ◌-◌, ℕ, List, ◌++◌, length, take, drop, ap, subst, sym, ◌∙◌, arith}
+use Rattle.std.proofs.lemmas.Grind.{common_steps}
 use Rattle.std.proofs.lemmas.List.{length-append, length-take, length-take-le, take_at}
 use Rattle.std.proofs.lemmas.List.{with_items_is}
 use Rattle.std.specs.Vec.{with_items}
@@ -64,8 +65,17 @@ slice_bounds-fill-start c =
 pub add_leaves-requires : goal.add_leaves-requires
 add_leaves-requires c = (has_offset c.args.geometry.now c.args.group 0 c.requires.group (has_first c.args.geometry.now c.args.group c.requires.group)).few
 
-pub add_segments_beside-requires-clause-room : goal.add_segments_beside-requires-clause-room
-add_segments_beside-requires-clause-room c = omega (arith, row-room c.args.geometry.now c.args.group c.requires.group, c.requires.lanes)
+pub add_segments_beside-requires : goal.add_segments_beside-requires
+add_segments_beside-requires c = record {
+  group = c.requires.group;
+  needed = c.requires.needed;
+  total = c.requires.total;
+  segments_long = search rules;
+  padding = grind (arith, common_steps);
+  room = omega (arith, row-room c.args.geometry.now c.args.group c.requires.group, c.requires.lanes);
+  shares = search rules;
+  wholes = search rules;
+}
 
 pub slice_bounds-add_segments_beside-end : goal.slice_bounds-add_segments_beside-end
 slice_bounds-add_segments_beside-end c =
