@@ -4,7 +4,7 @@
 set -e
 here=$(cd "$(dirname "$0")" && pwd)
 . "$here/../prepare.sh"
-prepare "tagged_hash cap_text file_encoding sha2"
+prepare "cap_text file_encoding sha2"
 echo "A whole file encoded (put) and read (get): the time, that of hashing as many bytes by sha2,"
 echo "and their ratio."
 export GLIBC_TUNABLES="glibc.malloc.hugetlb=1${GLIBC_TUNABLES:+:$GLIBC_TUNABLES}"
