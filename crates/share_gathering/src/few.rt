@@ -18,18 +18,14 @@ use tagged_hash::{TaggedHasher, pieces_from};
 
 // What eight hashers begin and end with each of them hashes alone, some half a KiB: blocks that
 // are not much longer are better hashed eight of a share side by side.
-const LONG_BLOCK: u32 = 8 << 10;
+const LONG_BLOCK: u32 = 4 << 10;
 
 // Whether the blocks of a file's shares are hashed beside the whole shares: there are lanes for
-// both, and the blocks are long. One share needs no lanes unless another text rides beside it.
-pub(crate) fn have_free_lanes(geometry: &Geometry, beside: &[u8]) -> bool
+// both, and the blocks are long. A share that is alone needs no lanes: it is faster by itself.
+pub(crate) fn have_free_lanes(geometry: &Geometry) -> bool
     ensures { IsTrue result → geometry.now.total ≤ 3 }
 {
-    let few = match geometry.total() {
-        1 => !beside.is_empty(),
-        total => total <= 3,
-    };
-    few && geometry.block_size() >= LONG_BLOCK
+    matches!(geometry.total(), 2 | 3) && geometry.block_size() >= LONG_BLOCK
 }
 
 // Gathers the blocks of at most three shares, each in its lane, and gives another hasher its text.

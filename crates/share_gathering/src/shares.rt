@@ -95,7 +95,7 @@ pub fn add_segments_beside(
     ensures other { (tag : Tag) (text : List ℕ) → Holds other.old tag text
         → OnOk result (Holds other.new tag (text ++ beside.now)) }
 {
-    if have_free_lanes(geometry, beside) {
+    if have_free_lanes(geometry) {
         add_few(
             code, geometry, group, segments, lanes, shares, wholes, other, beside,
         )
