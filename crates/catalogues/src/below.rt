@@ -1,7 +1,7 @@
 //! Names of files below a folder.
 
 ghost use Rattle.std.specs.Prelude.{◌≡◌, ◌++◌, ◌↔◌, ℕ, List, Err, IfErr, IfOk, IfSome};
-ghost use Rattle.std.specs.Prelude.{◌≢◌, IsOkAnd, IsTrue, MatchOption, Some};
+ghost use Rattle.std.specs.Prelude.{◌≢◌, [], IfNone, IsOkAnd, IsTrue, MatchOption, Some};
 ghost use Rattle.std.specs.List.{AllByRecursion, join_with_byte};
 ghost use Rattle.std.specs.Option.{option_copied, option_to_list};
 ghost use Rattle.catalogues.specs.Below.{IsBelow, IsBelowBehind, IsLeading};
@@ -40,6 +40,7 @@ impl<'a> Parts<'a> {
     /// The next part, if there is one.
     pub fn next_part(&mut self) -> Option<&'a [u8]>
         ensures next { self.old ≡ option_to_list (option_copied result) ++ self.new }
+        ensures end { IfNone result (self.old ≡ []) }
         ensures part { IfSome result (λ part. IsPart part.now) }
     {
         let Some(left) = self.left else {
