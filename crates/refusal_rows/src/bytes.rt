@@ -2,6 +2,8 @@
 
 use crate::rows::Rows;
 use cap_text::CapError;
+use catalogues::CatalogueError;
+use connections::AddressError;
 use merkle::OfferError;
 use sources::{PartFault, SourceFault};
 use std::alloc::AllocError;
@@ -15,7 +17,9 @@ pub(crate) fn tell_all(rows: &mut Rows) -> Result<(), AllocError> {
     tell_trees(rows)?;
     tell_caps(rows)?;
     tell_blocks(rows)?;
-    tell_frames(rows)
+    tell_frames(rows)?;
+    tell_catalogues(rows)?;
+    tell_addresses(rows)
 }
 
 fn tell_sources(rows: &mut Rows) -> Result<(), AllocError> {
@@ -84,6 +88,29 @@ fn tell_frames(rows: &mut Rows) -> Result<(), AllocError> {
         WireError::BadFields,
     ] {
         rows.tell("wire::WireError", error.number(), &error)?;
+    }
+    Ok(())
+}
+
+fn tell_catalogues(rows: &mut Rows) -> Result<(), AllocError> {
+    for error in [
+        CatalogueError::OutOfMemory,
+        CatalogueError::NotACatalogue,
+        CatalogueError::NotALine(1),
+        CatalogueError::BadName,
+    ] {
+        rows.tell("catalogues::CatalogueError", error.number(), &error)?;
+    }
+    Ok(())
+}
+
+fn tell_addresses(rows: &mut Rows) -> Result<(), AllocError> {
+    for error in [
+        AddressError::OutOfMemory,
+        AddressError::BadAddress,
+        AddressError::NotLocal,
+    ] {
+        rows.tell("connections::AddressError", error.number(), &error)?;
     }
     Ok(())
 }
