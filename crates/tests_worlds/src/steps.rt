@@ -183,7 +183,7 @@ fn cap_of(alloc: Global, file: &File) -> Option<ReadCap> {
 }
 
 fn cap_of_filled(alloc: Global, byte: u8, needed: u64, total: u64) -> Option<ReadCap> {
-    let Encoded { cap, shares: _ } = encoded(alloc, byte, needed, total)?;
+    let Encoded { cap, .. } = encoded(alloc, byte, needed, total)?;
     match cap {
         Cap::Chk(cap) => Some(cap),
         Cap::Verify(_) | Cap::Lit(_) => None,
