@@ -19,7 +19,8 @@ differences=$(
         grep -q "^ *- \`$name\`" "$map" || echo "$map has no entry for $name"
     done
     grep -o '^ *- `[a-z0-9_]*`.*' "$map" | sed 's/^ *- `\([a-z0-9_]*\)`/\1/' |
-        awk 'NR == FNR { split($0, line, ":"); sub(/ .*/, "", line[1]); deps[line[1]] = " " line[2] " "; next }
+        awk 'NR == FNR { split($0, line, ":"); sub(/ .*/, "", line[1])
+                  deps[line[1]] = " " line[2] " "; next }
             { name = $1; sub(/[,:].*/, "", name); if (!(name in deps)) next
               place[++count] = name; position[name] = count; rest[name] = $0 }
             END {

@@ -187,8 +187,8 @@ read_fails() {
         status=$?
         case $(cat mark) in
             "read $room/small")
-                [ $status = 7 ] && [ "$(tail -n 1 err)" = 'grid: 75 SourceFault' ] && [ ! -s out ] &&
-                    [ "$(count_closed g)" = 0 ] && return ;;
+                [ $status = 7 ] && [ "$(tail -n 1 err)" = 'grid: 75 SourceFault' ] &&
+                    [ ! -s out ] && [ "$(count_closed g)" = 0 ] && return ;;
         esac
     done
     false

@@ -88,7 +88,8 @@ TIMEFORMAT='%3U %3S'
 for _ in 1 2 3 4 5 6; do
     { time "$program" get "$cap" --grid grid --from $offset --to $((offset + 1)) > out; } 2>> times
 done
-cmp -s out <(tail -c +$((offset + 1)) file | head -c 1) || { echo "another byte came back"; exit 1; }
+cmp -s out <(tail -c +$((offset + 1)) file | head -c 1) ||
+    { echo "another byte came back"; exit 1; }
 told "get of $large MiB" "$(peak "$program" get "$cap" --grid grid)" $((large << 20))
 cmp -s out file || { echo "the file that came back is another"; exit 1; }
 # The kernel counts what a shell and the commands that it waited for read.

@@ -2,7 +2,8 @@
 
 ghost use Rattle.std.specs.Prelude.{◌≡◌, IfOk};
 ghost use Rattle.upload_core.specs.Calls.{upload_calls};
-ghost use Rattle.carried_operations.specs.Kept.{AcknowledgedAreKept, AllStay, AreSound, memory_carries};
+ghost use Rattle.carried_operations.specs.Kept.{AcknowledgedAreKept, AllStay, AreSound};
+ghost use Rattle.carried_operations.specs.Kept.{memory_carries};
 ghost use Rattle.carried_operations.specs.Stored.{HasBegun, IsCarried};
 
 use local_grid::error::LoopError;

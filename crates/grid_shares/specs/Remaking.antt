@@ -55,8 +55,8 @@ pub record AreMadeAnew {B : Type 0} (gives : Gives B) (fails : Fails B) (cap : V
   pub made_is : made ≡ ready_remade made.pieces happy
   pub reading_is : reading ≡ read_places places made.pieces.source.reading
 
--- memory was refused: for leaves or a decoder, which the last read wanted that failed, or for a read
--- of a share
+-- memory was refused: for leaves or a decoder, which the last read wanted that failed, or for a
+-- read of a share
 abbrev pub lacks_memory : {S L : Type 0} → Decoding (FetchedState S L) → Bool
 lacks_memory source = source.lacks_memory || source.candidates.bytes.lacks_memory
 

@@ -26,8 +26,8 @@ abbrev pub geometry_of : ℕ → ℕ → ℕ → ℕ → Geometry
 geometry_of size needed total max =
     geometry_with size needed total (rounded_up (min max size) needed)
 
--- the same of the text with its padding: the size is the least multiple of the shares needed that is
--- the file's or more
+-- the same of the text with its padding: the size is the least multiple of the shares needed that
+-- is the file's or more
 abbrev pub with_padding : Geometry → Geometry
 with_padding g = record g { size = rounded_up g.size g.needed }
 
@@ -89,8 +89,8 @@ unfoldable pub max_padded : ℕ → ℕ
 max_padded needed = rounded_up max_file_size needed
 
 -- The geometry of some file, or of its text with the padding. Its segment size is that of some
--- greatest length: a multiple of the shares needed, and no more than the text's size or the greatest
--- length that there is, each rounded up to such a multiple.
+-- greatest length: a multiple of the shares needed, and no more than the text's size or the
+-- greatest length that there is, each rounded up to such a multiple.
 pub record IsGeometry (g : Geometry) : Type 0 where
   pub some : 0 < g.size
   pub not_large : g.size ≤ max_padded g.needed

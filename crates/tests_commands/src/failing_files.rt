@@ -1,4 +1,5 @@
-//! The host's file system, in which one call on a file or folder fails, or at which a share changes.
+//! The host's file system, in which one call on a file or folder fails, or at which a share
+//! changes.
 
 use crate::runs::path;
 use std::alloc::{Allocator, Global};

@@ -1,7 +1,7 @@
 // Repairs in which one call on a file or folder fails, or a share changes at one, each in turn.
 //
-// What is read of a share counts only where it leads to the cap, so another share takes the place of
-// one that fails or changes, also between two readings of it.
+// What is read of a share counts only where it leads to the cap, so another share takes the place
+// of one that fails or changes, also between two readings of it.
 
 use crate::failing_files::{CHANGED, Calls, FailingFiles};
 use crate::failing_files_tests::{is_file_fault, status_of};

@@ -410,8 +410,8 @@ static NO_LOOKS: [Call; 3] = [
     Call::List(INDEX, b"\x03", 7),
 ];
 
-// A look that fails is a fault, after which the share is there as before: it is listed and read once
-// looks go well.
+// A look that fails is a fault, after which the share is there as before: it is listed and read
+// once looks go well.
 #[test]
 fn failed_looks(rt: HostRuntime) -> Result<(), Fail> {
     remove(&rt)?;
