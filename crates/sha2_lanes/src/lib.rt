@@ -2,9 +2,8 @@
 //!
 //! `double_sha256_of_eight` hashes eight messages of one length side by side. `Sha256Stream` hashes
 //! one message that comes in pieces: it makes the schedules of eight blocks in a row side by side,
-//! and runs their rounds one block after the other. `Sha256Streams` hashes eight messages of one
-//! length, side by side, that come in pieces. The definition is that of the crate `sha2`. No call
-//! takes memory.
+//! and runs their rounds one block after the other. `update_eight` gives eight of them a piece each,
+//! side by side. The definition is that of the crate `sha2`. No call takes memory.
 #![tactic(auto)]
 
 ghost use Rattle.std.specs.Prelude.{◌≡◌, ◌<◌, ◌^◌, ◌++◌, All, length, map};
@@ -20,12 +19,10 @@ mod round;
 mod schedule;
 mod side_by_side;
 mod stream;
-mod streams;
 mod words;
 
 pub use side_by_side::update_eight;
 pub use stream::Sha256Stream;
-pub use streams::Sha256Streams;
 
 /// SHA-256, applied twice, of `prefix` with each of eight messages behind it. The messages have
 /// `len` bytes each, and the prefix has fewer than 2^32.

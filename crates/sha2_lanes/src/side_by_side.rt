@@ -3,15 +3,15 @@
 ghost use Rattle.std.specs.Prelude.{◌≡◌, ◌+◌, ◌*◌, ◌%◌, ◌^◌, ◌<◌, ◌≤◌, ◌++◌, ◌⊎◌, ℕ, List};
 ghost use Rattle.std.specs.Prelude.{Some, drop, length, slice_get, slice_index, take};
 ghost use Rattle.sha2.specs.Sha256.{hash_after};
-ghost use Rattle.sha2_lanes.specs.Lanes.{text};
+ghost use Rattle.sha2_lanes.specs.Lanes.{AreVectors, lane, text};
 ghost use Rattle.sha2_lanes.specs.Stream.{Holds, HoldsIn};
 ghost use Rattle.sha2_lanes.specs.declared.stream.Sha256Stream.{Sha256Stream};
 
 use crate::message::BLOCK_LEN;
 use crate::round::compress;
 use crate::stream::{GROUP_LEN, Sha256Stream};
-use crate::streams::{lanes_of, words_of};
-use crate::words::words;
+use crate::words::{transposed, words};
+use std::simd::prelude::*;
 
 /// Adds to each of eight messages its piece, as `Sha256Stream::update` does: side by side as far as
 /// all the pieces have whole groups of blocks. The messages and the pieces have lengths of their
@@ -121,6 +121,46 @@ fn hashes_of(streams: &[Sha256Stream; 8]) -> [u32; 64]
     let mut hashes = [0; 64];
     for j in 0..8 {
         hashes[8 * j..8 * j + 8].copy_from_slice(streams[j].hash());
+    }
+    hashes
+}
+
+// The hash values, eight words each, in the lanes.
+fn lanes_of(hashes: &[u32; 64]) -> [u32x8; 8]
+    ensures vectors { AreVectors 8 result }
+    ensures lanes { (j : ℕ) → j < 8 → lane result j ≡ take 8 (drop (8 * j) hashes.now) }
+{
+    transposed([
+        hash_of(hashes, 0),
+        hash_of(hashes, 1),
+        hash_of(hashes, 2),
+        hash_of(hashes, 3),
+        hash_of(hashes, 4),
+        hash_of(hashes, 5),
+        hash_of(hashes, 6),
+        hash_of(hashes, 7),
+    ])
+}
+
+// The hash value of message `j`.
+#[inline(always)]
+fn hash_of(hashes: &[u32; 64], j: usize) -> u32x8
+    requires { j < 8 }
+    ensures long { length result ≡ 8 }
+    ensures words { result ≡ take 8 (drop (8 * j) hashes.now) }
+{
+    u32x8::from_slice(&hashes[8 * j..])
+}
+
+// The words of the lanes, one lane after another.
+fn words_of(lanes: [u32x8; 8]) -> [u32; 64]
+    requires { AreVectors 8 lanes }
+    ensures { (j : ℕ) → j < 8 → take 8 (drop (8 * j) result) ≡ lane lanes j }
+{
+    let rows = transposed(lanes);
+    let mut hashes = [0; 64];
+    for j in 0..8 {
+        hashes[8 * j..8 * j + 8].copy_from_slice(&rows[j].to_array());
     }
     hashes
 }

@@ -4,7 +4,7 @@ use Rattle.std.proofs.lemmas.Bool.{cases_eq}
 use Rattle.std.proofs.lemmas.Option.{slice_get-get_or, same_Some}
 use Rattle.std.proofs.lemmas.Simd.{length-chunk}
 use Rattle.sha2_lanes.specs.declared.stream.Sha256Stream.{Sha256Stream}
-use Rattle.sha2_lanes.proofs.StreamsLemmas.{part_at, part_before}
+use Rattle.sha2_lanes.proofs.Parts.{part_at, part_before}
 use Rattle.sha2_lanes.proofs.side_by_side.hashes_of.Goals as goal
 
 pub loop-j-preserved : goal.loop-j-preserved

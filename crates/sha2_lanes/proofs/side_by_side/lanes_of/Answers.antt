@@ -1,6 +1,6 @@
 use Rattle.std.proofs.Common.{◌≡◌, ◌*◌, ◌∷◌, [], List, ℕ, drop, get_or, take, ◌∙◌}
 use Rattle.lemmas.proofs.Eights.{by_eight}
-use Rattle.sha2_lanes.proofs.streams.lanes_of.Goals as goal
+use Rattle.sha2_lanes.proofs.side_by_side.lanes_of.Goals as goal
 
 pub returns-clause-lanes : goal.returns-clause-lanes
 returns-clause-lanes c j below =

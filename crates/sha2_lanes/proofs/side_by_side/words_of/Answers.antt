@@ -1,7 +1,7 @@
 use Rattle.std.proofs.Common.{◌≡◌, ◌*◌, ℕ, List, length, arith, below_more, ◌∙◌}
 use Rattle.sha2_lanes.proofs.DigestLemmas.{row_is_lane}
-use Rattle.sha2_lanes.proofs.StreamsLemmas.{part_at, part_before}
-use Rattle.sha2_lanes.proofs.streams.words_of.Goals as goal
+use Rattle.sha2_lanes.proofs.Parts.{part_at, part_before}
+use Rattle.sha2_lanes.proofs.side_by_side.words_of.Goals as goal
 
 pub loop-j-preserved : goal.loop-j-preserved
 loop-j-preserved c =
