@@ -6,6 +6,7 @@
 //! 2.
 #![tactic(auto)]
 
+mod beside;
 mod error;
 mod nodes;
 mod numbers;
@@ -18,7 +19,7 @@ mod taking;
 mod tree;
 
 pub use error::OfferError;
-pub use nodes::are_tree_nodes;
+pub use nodes::{are_tree_nodes, are_tree_nodes_beside};
 pub use numbers::{height, needed_number, node_number, sibling, sibling_number};
 pub use one_tree::{known_nodes_are_own, siblings_agree, trees_agree};
 pub use padding::Padding;

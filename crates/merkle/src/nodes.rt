@@ -2,10 +2,12 @@
 
 ghost use Rattle.std.specs.Prelude.{◌≡◌, ◌+◌, ◌*◌, ◌%◌, ◌^◌, ◌<◌, ◌≤◌, ◌↔◌, ℕ, IsTrue, [], length};
 ghost use Rattle.std.specs.Prelude.{slice_index_or};
-ghost use Rattle.merkle.specs.Nodes.{ArePairs, AreTreeNodes, IsPadded};
+ghost use Rattle.merkle.specs.Nodes.{ArePairs, AreTreeNodes, HasPadding, IsPadded, IsPair};
 ghost use Rattle.merkle.specs.Tree.{max_leaves, node_count};
 ghost use Rattle.tagged_hash.specs.TaggedHash.{empty_leaf_hash, node_hash};
 
+use crate::numbers::height;
+use crate::padding::own_end;
 use crate::rows::{empty_leaves_from, parents_from};
 use tagged_hash::{empty_leaf, pair};
 
@@ -21,18 +23,95 @@ pub fn are_tree_nodes(nodes: &[[u8; 32]], leaf_count: u32) -> bool
     are_pairs(nodes) && is_padded(&nodes[nodes.len() / 2..], leaf_count as usize)
 }
 
+/// Whether hashes are all nodes of a tree, as `are_tree_nodes` asks, where `beside` are all nodes
+/// of a tree over as many leaves, at least one. Both have the same nodes over empty leaves alone:
+/// these are compared, and only the others are hashed. It takes no memory.
+pub fn are_tree_nodes_beside(nodes: &[[u8; 32]], leaf_count: u32, beside: &[[u8; 32]]) -> bool
+    requires some { 0 < leaf_count }
+    requires few { leaf_count ≤ max_leaves }
+    requires nodes { length nodes.now ≡ node_count leaf_count }
+    requires as_many { length beside.now ≡ node_count leaf_count }
+    requires beside { AreTreeNodes leaf_count beside.now }
+    ensures { IsTrue result ↔ AreTreeNodes leaf_count nodes.now }
+{
+    has_padding(nodes, leaf_count, beside) && are_own_pairs(nodes, leaf_count)
+}
+
+// Whether the nodes over empty leaves alone are those of another tree over as many leaves.
+fn has_padding(nodes: &[[u8; 32]], leaf_count: u32, beside: &[[u8; 32]]) -> bool
+    requires some { 0 < leaf_count }
+    requires few { leaf_count ≤ max_leaves }
+    requires nodes { length nodes.now ≡ node_count leaf_count }
+    requires as_many { length beside.now ≡ node_count leaf_count }
+    requires padding { HasPadding leaf_count beside.now }
+    ensures { IsTrue result ↔ HasPadding leaf_count nodes.now }
+{
+    for row in 0..height(leaf_count) + 1 {
+        if !are_same(
+            nodes,
+            beside,
+            own_end(leaf_count, row),
+            (1 << (row + 1)) - 1,
+        ) {
+            return false;
+        }
+    }
+    true
+}
+
+// Whether two lists of hashes have the same from one position on and before another.
+fn are_same(left: &[[u8; 32]], right: &[[u8; 32]], first: usize, end: usize) -> bool
+    requires left { end ≤ length left.now }
+    requires right { end ≤ length right.now }
+    ensures { IsTrue result ↔ ((i : ℕ) → first ≤ i → i < end
+        → slice_index_or left.now i [] ≡ slice_index_or right.now i []) }
+{
+    for i in first..end {
+        if left[i] != right[i] {
+            return false;
+        }
+    }
+    true
+}
+
+// Whether each node that has children is the hash of the two, where the nodes over empty leaves
+// alone are right: only the others are hashed.
+fn are_own_pairs(nodes: &[[u8; 32]], leaf_count: u32) -> bool
+    requires some { 0 < leaf_count }
+    requires few { leaf_count ≤ max_leaves }
+    requires nodes { length nodes.now ≡ node_count leaf_count }
+    requires padding { HasPadding leaf_count nodes.now }
+    ensures { IsTrue result ↔ ArePairs nodes.now }
+{
+    for row in 0..height(leaf_count) {
+        if !are_pairs_between(nodes, (1 << row) - 1, own_end(leaf_count, row)) {
+            return false;
+        }
+    }
+    true
+}
+
 // Whether each node that has children is the hash of the two.
 fn are_pairs(nodes: &[[u8; 32]]) -> bool
     requires { length nodes.now % 2 ≡ 1 }
     ensures { IsTrue result ↔ ArePairs nodes.now }
 {
-    let inner = nodes.len() / 2;
-    for group in 0..inner / 8 {
-        if !are_eight_pairs(nodes, 8 * group) {
+    are_pairs_between(nodes, 0, nodes.len() / 2)
+}
+
+// Whether each node from one on and before another is the hash of its two children.
+fn are_pairs_between(nodes: &[[u8; 32]], first: usize, end: usize) -> bool
+    requires order { first ≤ end }
+    requires inside { 2 * end < length nodes.now }
+    ensures { IsTrue result ↔ ((i : ℕ) → first ≤ i → i < end → IsPair nodes.now i) }
+{
+    let groups = (end - first) / 8;
+    for group in 0..groups {
+        if !are_eight_pairs(nodes, first + 8 * group) {
             return false;
         }
     }
-    for i in inner / 8 * 8..inner {
+    for i in first + 8 * groups..end {
         if !is_pair(&nodes[i], &nodes[2 * i + 1], &nodes[2 * i + 2]) {
             return false;
         }
@@ -43,9 +122,7 @@ fn are_pairs(nodes: &[[u8; 32]]) -> bool
 // Whether each of eight nodes from this one on is the hash of its two children.
 fn are_eight_pairs(nodes: &[[u8; 32]], first: usize) -> bool
     requires { 2 * first + 17 ≤ length nodes.now }
-    ensures { IsTrue result ↔ ((i : ℕ) → first ≤ i → i < first + 8
-        → slice_index_or nodes.now i [] ≡ node_hash
-        (slice_index_or nodes.now (2 * i + 1) []) (slice_index_or nodes.now (2 * i + 2) [])) }
+    ensures { IsTrue result ↔ ((i : ℕ) → first ≤ i → i < first + 8 → IsPair nodes.now i) }
 {
     let parents = parents_from(nodes, first);
     for k in 0..8 {

@@ -1,6 +1,7 @@
 //! The nodes of a tree that have empty leaves alone below them.
 
 ghost use Rattle.std.specs.Prelude.{◌≡◌, ◌+◌, ◌-◌, ◌^◌, ◌<◌, ◌≤◌, ℕ, [], IfSome};
+ghost use Rattle.merkle.specs.Nodes.{own_end};
 ghost use Rattle.merkle.specs.Partial.{is_padding, padding};
 ghost use Rattle.merkle.specs.Taking.{empty_leaves, empty_node};
 ghost use Rattle.merkle.specs.Tree.{height, max_leaves, node, padded_to, tree_root};
@@ -121,6 +122,19 @@ impl Padding {
             None
         }
     }
+}
+
+/// The number behind the last node of a row that has a leaf below it, in a tree of so many leaves:
+/// all nodes from there on to the end of the row are over empty leaves alone.
+pub(crate) fn own_end(leaf_count: u32, row: u32) -> usize
+    requires some { 0 < leaf_count }
+    requires few { leaf_count ≤ max_leaves }
+    requires row { row ≤ height leaf_count }
+    ensures value { result ≡ own_end leaf_count row }
+    ensures inside { result < 2 ^ row + 2 ^ row }
+{
+    let last = (leaf_count - 1) >> (height(leaf_count) - row);
+    (1usize << row) + last as usize
 }
 
 // Whether all leaves below the node of this number are empty leaves.

@@ -8,6 +8,7 @@ ghost use Rattle.merkle.specs.Tree.{height, leaves_among, max_leaves, needed_num
 ghost use Rattle.merkle.specs.Tree.{sibling_number, tree_nodes, tree_root};
 ghost use Rattle.tagged_hash.specs.TaggedHash.{empty_leaf_hash, node_hash};
 
+use crate::beside::fill_beside;
 use crate::numbers::{height, needed_number, sibling_number};
 use crate::rows::{empty_leaves_from, parents_from};
 use std::alloc::{AllocError, Global};
@@ -43,6 +44,31 @@ impl Tree {
         let width = 1usize << height(leaf_count);
         let mut nodes = vec![in alloc; [0u8; 32]; 2 * width - 1]?;
         fill(&mut nodes, leaves, width);
+        Ok(Tree { nodes, leaf_count })
+    }
+
+    /// The tree over `leaves`, as `build` gives it. Where this tree has as many, its nodes over
+    /// empty leaves alone are copied, and only the others are hashed.
+    pub fn build_beside(&self, alloc: Global, leaves: &[[u8; 32]]) -> Result<Tree, AllocError>
+        requires some { 0 < length leaves.now }
+        requires few { length leaves.now ≤ max_leaves }
+        ensures { IfOk result (λ tree. tree ≡ leaves.now) }
+    {
+        if leaves.len() == self.leaf_count as usize {
+            self.build_as_many(alloc, leaves)
+        } else {
+            Tree::build(alloc, leaves)
+        }
+    }
+
+    // The tree over as many leaves as this one has.
+    fn build_as_many(&self, alloc: Global, leaves: &[[u8; 32]]) -> Result<Tree, AllocError>
+        requires { length leaves.now ≡ length self.now }
+        ensures { IfOk result (λ tree. tree ≡ leaves.now) }
+    {
+        let leaf_count = self.leaf_count;
+        let mut nodes = Vec::from_slice(alloc, &self.nodes)?;
+        fill_beside(&mut nodes, leaves);
         Ok(Tree { nodes, leaf_count })
     }
 
@@ -107,7 +133,7 @@ pub(crate) fn fill(nodes: &mut [[u8; 32]], leaves: &[[u8; 32]], width: usize)
 }
 
 // Fills eight nodes from this one on. Their children stand behind them.
-fn fill_eight(nodes: &mut [[u8; 32]], first: usize)
+pub(crate) fn fill_eight(nodes: &mut [[u8; 32]], first: usize)
     requires behind { 7 ≤ first }
     requires inside { 2 * first + 17 ≤ length nodes.old }
     ensures long { length nodes.new ≡ length nodes.old }

@@ -5,6 +5,8 @@ use std::alloc::Global;
 
 static LEAVES: [[u8; 32]; 5] = [[0; 32], [1; 32], [2; 32], [3; 32], [4; 32]];
 
+static OTHERS: [[u8; 32]; 5] = [[9; 32]; 5];
+
 // Whether the root of the first leaves begins so.
 fn has_root(alloc: Global, count: usize, start: [u8; 4]) -> bool {
     if count == 0 || count > 5 {
@@ -53,6 +55,32 @@ fn nodes_row_by_row(rt: HostRuntime) {
     ];
     let is_right = match Tree::build(rt.alloc(), &LEAVES[..3]) {
         Ok(tree) => begin_so(tree.nodes(), &starts),
+        Err(_) => false,
+    };
+    assert!(rt; is_right);
+}
+
+// Whether the tree of five leaves has these nodes beside a tree of so many other leaves.
+fn is_built_beside(alloc: Global, count: usize, nodes: &[[u8; 32]]) -> bool {
+    if count == 0 || count > 5 {
+        return false;
+    }
+    let Ok(other) = Tree::build(alloc, &OTHERS[..count]) else {
+        return false;
+    };
+    match other.build_beside(alloc, &LEAVES) {
+        Ok(tree) => tree.nodes() == nodes && tree.root().starts_with(&ROOT_OF_FIVE),
+        Err(_) => false,
+    }
+}
+
+#[test]
+fn trees_beside_others(rt: HostRuntime) {
+    let is_right = match Tree::build(rt.alloc(), &LEAVES) {
+        Ok(tree) => {
+            is_built_beside(rt.alloc(), 5, tree.nodes())
+                && is_built_beside(rt.alloc(), 3, tree.nodes())
+        }
         Err(_) => false,
     };
     assert!(rt; is_right);
