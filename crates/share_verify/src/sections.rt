@@ -18,7 +18,7 @@ use crate::blocks::are_leaves_of;
 use crate::chain::{entries_in, leads_by_entries};
 use crate::fault::ShareFault;
 use crate::hashed::{HashSections, HashedBlocks};
-use crate::tree::{is_tree_section, is_tree_with_root, leaves_in, root_in};
+use crate::tree::{is_tree_section_beside, is_tree_with_root, leaves_in, root_in};
 use share_layout::{Geometry, ShareView};
 use ueb::Ueb;
 
@@ -80,7 +80,7 @@ pub(crate) fn check_sections(
     ) {
         return Err(ShareFault::CiphertextTree);
     }
-    if !is_tree_section(sections.block_tree, segments) {
+    if !is_tree_section_beside(sections.block_tree, segments, sections.ciphertext_tree) {
         return Err(ShareFault::BlockTree);
     }
     if !has_share_hashes(ueb, num, sections) {

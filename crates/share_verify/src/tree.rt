@@ -5,7 +5,7 @@ ghost use Rattle.std.specs.Prelude.{length, slice_index_or};
 ghost use Rattle.merkle.specs.Tree.{height, leaves_among, max_leaves};
 ghost use Rattle.share_verify.specs.TreeSection.{IsTreeSection, IsTreeWithRoot, hashes_in, root_in};
 
-use merkle::are_tree_nodes;
+use merkle::{are_tree_nodes, are_tree_nodes_beside};
 
 /// The hashes that stand in a section, one after another.
 pub(crate) fn hashes_in(section: &[u8]) -> &[[u8; 32]]
@@ -62,4 +62,18 @@ pub(crate) fn is_tree_section(section: &[u8], leaf_count: u32) -> bool
     ensures { IsTrue result ↔ IsTreeSection leaf_count section.now }
 {
     are_tree_nodes(hashes_in(section), leaf_count)
+}
+
+/// Whether a section is the nodes of a tree over `leaf_count` leaves, as `is_tree_section` asks,
+/// where `beside` is one that is: what both have over empty leaves alone is compared, and not
+/// hashed.
+pub(crate) fn is_tree_section_beside(section: &[u8], leaf_count: u32, beside: &[u8]) -> bool
+    requires some { 0 < leaf_count }
+    requires few { leaf_count ≤ max_leaves }
+    requires long { length section.now ≡ (2 * 2 ^ height leaf_count - 1) * 32 }
+    requires as_long { length beside.now ≡ (2 * 2 ^ height leaf_count - 1) * 32 }
+    requires beside { IsTreeSection leaf_count beside.now }
+    ensures { IsTrue result ↔ IsTreeSection leaf_count section.now }
+{
+    are_tree_nodes_beside(hashes_in(section), leaf_count, hashes_in(beside))
 }
