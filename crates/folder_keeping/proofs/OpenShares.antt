@@ -1,10 +1,11 @@
 -- What was written to open shares stays known.
-use Rattle.std.proofs.Common.{◌≡◌, ℕ, true, false, List, [], refl, sym, ◌∙◌, subst, inl, inr}
+use Rattle.std.proofs.Common.{◌≡◌, ◌≢◌, ℕ, true, false, List, [], refl, sym, ◌∙◌, subst, inl, inr}
 use Rattle.std.specs.Prelude.{◌⊎◌, Option, Some, None, IsSome, Result, Ok, Err, OnOk, unwrap_or}
 use mathlib.Core.Bool.{true≢false}
 use Rattle.wire.specs.declared.message.ShareId.{ShareId}
+use Rattle.disks.specs.Names.{Name}
 use Rattle.disks.specs.Folder.{Folder}
-use Rattle.disks.specs.Laws.{OwnStay}
+use Rattle.disks.specs.Laws.{OwnStay, OwnStayBeside}
 use Rattle.share_store.specs.declared.error.StoreError.{StoreError}
 use Rattle.share_store.specs.Shelf.{ShareKey, at, key_of, same_key}
 use Rattle.share_store.proofs.ShelfLaws.{same_is}
@@ -12,7 +13,8 @@ use Rattle.share_folders.specs.declared.files.OpenShare.{OpenShare}
 use Rattle.share_folders.specs.Names.{IsShareKey, open_name}
 use Rattle.share_folders.specs.Stored.{AreTwo, WasWritten}
 use Rattle.share_folders.specs.Table.{StayBeside}
-use Rattle.folder_keeping.specs.Store.{Facts, StoreState, HasWritten, DiskWrites, DiskCloses, IsWritable}
+use Rattle.share_folders.proofs.OpenLaws.{names_apart}
+use Rattle.folder_keeping.specs.Store.{Facts, StoreState, HasWritten, DiskWrites, DiskCloses, DiskLetsGo, IsWritable}
 use Rattle.folder_keeping.specs.Kept.{AreOpen, Contents, more_content, nothing_known, put_content}
 use Rattle.folder_keeping.proofs.Keys.{is_some_of, none_some, put_here, put_there, some_is, some_one}
 
@@ -141,6 +143,26 @@ open_closed d s t id digest r known closes honest shares valid some =
     let stays = closes.beside honest (unwrap_or (known key) []) was other got valid valid_too apart
     (inr (shares.two key other valid valid_too apart some (is_some_of (known other) got is))) (shares.written other got valid_too is) in
     (named_now d s t other got closes.goes.own stays.0, λ none. absurd (true≢false (sym none))))
+
+-- what was written stays where the program's own files do under other names than one
+written_beside : {F : Type 0} (inode : F → ℕ) (s t : Folder) (last name : Name) (o : Option (OpenShare F)) (bytes : List ℕ) → name ≢ last → OwnStayBeside last s t → WasWritten inode s name o bytes
+    → WasWritten inode t name o bytes
+written_beside inode s t last name None bytes apart stays was = was
+written_beside inode s t last name (Some share) bytes apart stays was = (was.0, (was.1.0, stays name (inode share.file) _ apart was.1.1))
+
+-- after one that will not go on
+pub open_went : {D F : Type 0} (d : Facts D F) (s t : StoreState D F) (id : ShareId) (known : Contents) → DiskLetsGo d s id t → d.honest t.disk → AreOpen d s known → IsShareKey (key_of id)
+    → AreOpen d t (put_content (key_of id) None known)
+open_went {D} {F} d s t id known goes honest shares valid =
+    let key = key_of id in
+    open_put d s t key None known shares goes.others (λ got is. none_some got is)
+    (λ other got valid_too apart is. (
+      named_now d s t other got goes.own
+          (subst (λ (o : Option (OpenShare F)). WasWritten d.inode (d.folder t.disk) (open_name other s.own) o got) (sym (goes.others other apart))
+          (written_beside d.inode (d.folder s.disk) (d.folder t.disk) (open_name key s.own) (open_name other s.own) (at other s.opened) got
+          (names_apart key other s.own valid valid_too apart) (goes.beside honest) (shares.written other got valid_too is))),
+      λ some. absurd (true≢false (sym some)),
+    ))
 
 -- what was written stays where the program's own files do
 written_stays : {F : Type 0} (inode : F → ℕ) (s t : Folder) (name : List ℕ) (o : Option (OpenShare F)) (bytes : List ℕ) → OwnStay s t → WasWritten inode s name o bytes → WasWritten inode t name o bytes

@@ -9,11 +9,11 @@ use Rattle.share_store.specs.Shelf.{ShareKey, key_of}
 use Rattle.share_folders.specs.Names.{closed_name}
 use Rattle.folder_keeping.specs.Store.{Facts, StoreState, Has, IsSyncing, Goes}
 use Rattle.folder_keeping.specs.Steps.{Step, Does, Runs}
-use Rattle.folder_keeping.specs.Steps.{Wrote, Closed, Read, Listed, Restarted, Opened}
+use Rattle.folder_keeping.specs.Steps.{Wrote, Closed, Read, Listed, Went, Restarted, Opened}
 use Rattle.folder_keeping.specs.Kept.{AreOpen, AreOrderly, ConfirmedStay, Contents, IsFoundAlone, IsOrderly, IsSafe, IsTold, SafeStay, StaysSafe}
 use Rattle.folder_keeping.specs.Kept.{contents_after, contents_by, nothing_known}
 use Rattle.folder_keeping.proofs.Keys.{some_is}
-use Rattle.folder_keeping.proofs.OpenShares.{none_open, open_closed, open_looked, open_unwritten, open_written, write_ready}
+use Rattle.folder_keeping.proofs.OpenShares.{none_open, open_closed, open_looked, open_unwritten, open_went, open_written, write_ready}
 use Rattle.folder_keeping.proofs.SafeShares.{safe_beside, safe_closed, safe_held, safe_looked, safe_opened}
 
 -- ---- single steps
@@ -23,6 +23,7 @@ honest_before d (Wrote id offset bytes r) s t does honest = does.goes.so_far hon
 honest_before d (Closed id digest r) s t does honest = does.1.goes.so_far honest
 honest_before d (Read id offset count r) s t does honest = does.goes.so_far honest
 honest_before d (Listed index r) s t does honest = does.goes.so_far honest
+honest_before d (Went id) s t does honest = does.so_far honest
 honest_before d Restarted s t does honest = subst d.honest (ap (λ (w : StoreState _ _). w.disk) does) honest
 honest_before d (Opened names) s t does honest = does.honest
 
@@ -34,6 +35,7 @@ synced_after d (Wrote id offset bytes r) s t does synced = going d s r t does.go
 synced_after d (Closed id digest r) s t does synced = going d s r t does.1.goes synced
 synced_after d (Read id offset count r) s t does synced = going d s r t does.goes synced
 synced_after d (Listed index r) s t does synced = going d s r t does.goes synced
+synced_after d (Went id) s t does synced = λ taking. does.durability ∙ synced (subst IsSome does.own taking)
 synced_after {D} {F} d Restarted s t does synced = subst (λ (w : StoreState D F). IsSyncing w) (sym does) synced
 synced_after d (Opened names) s t does synced = does.syncing
 
@@ -44,6 +46,7 @@ open_after d (Wrote id offset bytes (Err e)) s t known does honest shares orderl
 open_after d (Closed id digest r) s t known does honest shares orderly = open_closed d s t id digest r known does.1 honest shares (orderly.0.0, orderly.0.1) orderly.1
 open_after d (Read id offset count r) s t known does honest shares orderly = open_looked d s t known does.goes.own does.stays.opened (does.stays.beside honest) shares
 open_after d (Listed index r) s t known does honest shares orderly = open_looked d s t known does.goes.own does.stays.opened (does.stays.beside honest) shares
+open_after d (Went id) s t known does honest shares orderly = open_went d s t id known does honest shares orderly
 open_after d Restarted s t known does honest shares orderly = none_open d t
 open_after d (Opened names) s t known does honest shares orderly = none_open d t
 
@@ -56,6 +59,8 @@ safe_after outlasts d (Closed id other r) s t known key digest bytes does honest
     (shares.written (key_of id) (unwrap_or (known (key_of id)) []) (orderly.0.0, orderly.0.1) (some_is (known (key_of id)) [] orderly.1)) safe
 safe_after outlasts d (Read id offset count r) s t known key digest bytes does honest shares orderly alone safe = safe_looked d s t key digest bytes does.stays honest safe
 safe_after outlasts d (Listed index r) s t known key digest bytes does honest shares orderly alone safe = safe_looked d s t key digest bytes does.stays honest safe
+safe_after outlasts d (Went id) s t known key digest bytes does honest shares orderly alone safe =
+    safe_held d s t key digest bytes does.closed does.recent (does.held honest) safe
 safe_after {D} {F} outlasts d Restarted s t known key digest bytes does honest shares orderly alone safe =
     subst (λ (w : StoreState D F). IsSafe d w key digest bytes) (sym does) (record { valid = safe.valid; has = safe.has; durable = safe.durable })
 safe_after outlasts d (Opened names) s t known key digest bytes does honest shares orderly alone safe = safe_opened outlasts d s t names key digest bytes does honest alone safe
@@ -67,6 +72,7 @@ told_by d (Closed id other r) s t key digest bytes does honest safe = tt
 told_by d (Read id offset count r) s t key digest bytes does honest safe = λ same.
     does.given honest digest bytes (subst (λ (k : ShareKey). Has d s k digest bytes) (sym same) safe.has)
 told_by d (Listed index r) s t key digest bytes does honest safe = λ under. does.each honest key digest bytes safe.has under
+told_by d (Went id) s t key digest bytes does honest safe = tt
 told_by d Restarted s t key digest bytes does honest safe = tt
 told_by d (Opened names) s t key digest bytes does honest safe = tt
 

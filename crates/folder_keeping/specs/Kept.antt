@@ -13,7 +13,7 @@ use Rattle.share_folders.specs.Names.{IsNamed, IsShareKey, closed_name}
 use Rattle.share_folders.specs.Stored.{AreTwo}
 use Rattle.folder_keeping.specs.Store.{Facts, StoreState, Has, HasWritten, IsSyncing}
 use Rattle.folder_keeping.specs.Steps.{IsOpened, Step, Runs}
-use Rattle.folder_keeping.specs.Steps.{Wrote, Closed, Read, Listed, Restarted, Opened}
+use Rattle.folder_keeping.specs.Steps.{Wrote, Closed, Read, Listed, Went, Restarted, Opened}
 
 -- ---- which calls are orderly
 
@@ -39,6 +39,7 @@ contents_after known (Wrote id offset bytes (Err e)) = put_content (key_of id) N
 contents_after known (Closed id digest r) = put_content (key_of id) None known
 contents_after known (Read id offset count r) = known
 contents_after known (Listed index r) = known
+contents_after known (Went id) = put_content (key_of id) None known
 contents_after known Restarted = nothing_known
 contents_after known (Opened names) = nothing_known
 
@@ -53,6 +54,7 @@ IsOrderly known (Wrote id offset bytes r) =
 IsOrderly known (Closed id digest r) = IsNamed (key_of id) digest × IsSome (known (key_of id))
 IsOrderly known (Read id offset count r) = ⊤
 IsOrderly known (Listed index r) = ⊤
+IsOrderly known (Went id) = IsShareKey (key_of id)
 IsOrderly known Restarted = ⊤
 IsOrderly known (Opened names) = ⊤
 

@@ -11,7 +11,7 @@ use Rattle.share_folders.specs.declared.disk.Durability.TheVariants.{Synced}
 use Rattle.share_folders.specs.Listed.{AreTaken}
 use Rattle.share_folders.specs.Names.{IsNamed, closed_name}
 use Rattle.folder_keeping.specs.Store.{Facts, StoreState, DiskWrites, DiskCloses, DiskReads}
-use Rattle.folder_keeping.specs.Store.{DiskLists, DiskRestarts, IsSyncing}
+use Rattle.folder_keeping.specs.Store.{DiskLists, DiskLetsGo, DiskRestarts, IsSyncing}
 
 -- A call with what it answered, or the end of a store's program, after which a store is opened that
 -- finds these names in the folder.
@@ -20,6 +20,7 @@ pub data Step : Type 0 where
   Closed : ShareId → List ℕ → Result Unit StoreError → Step
   Read : ShareId → ℕ → ℕ → Result (List ℕ) StoreError → Step
   Listed : List ℕ → Result (List HeldShare) StoreError → Step
+  Went : ShareId → Step
   Restarted : Step
   Opened : List Name → Step
 
@@ -69,6 +70,7 @@ Does d (Closed id digest r) s t =
     (at (key_of id) s.closed ≡ None) × DiskCloses d s id digest r t
 Does d (Read id offset count r) s t = DiskReads d s id offset count r t
 Does d (Listed index r) s t = DiskLists d s index r t
+Does d (Went id) s t = DiskLetsGo d s id t
 Does d Restarted s t = DiskRestarts s t
 Does d (Opened names) s t = Reopens d s names t
 

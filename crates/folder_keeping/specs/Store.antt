@@ -7,7 +7,7 @@ use Rattle.wire.specs.declared.message.ShareId.{ShareId}
 use Rattle.wire.specs.declared.message.HeldShare.{HeldShare}
 use Rattle.disks.specs.Names.{Relied}
 use Rattle.disks.specs.Folder.{Folder}
-use Rattle.disks.specs.Laws.{OwnStay, StaysHeld}
+use Rattle.disks.specs.Laws.{OwnStay, OwnStayBeside, StaysHeld}
 use Rattle.share_store.specs.declared.error.StoreError.{StoreError}
 use Rattle.share_store.specs.Calls.{Calls}
 use Rattle.share_store.specs.Shelf.{ShareKey, at, is_under, key_of, order, same_key}
@@ -133,6 +133,21 @@ pub record DiskLists {D F : Type 0} (d : Facts D F) (s : StoreState D F) (index 
       → is_under index key ≡ true → IfOk r
       (λ (found : List HeldShare). Contains found (record { share = key.1; digest = digest }))
 
+-- An open share is open no longer. The folder has what it had, but for its file.
+pub record DiskLetsGo {D F : Type 0} (d : Facts D F) (s : StoreState D F) (id : ShareId)
+    (t : StoreState D F) : Type 0 where
+  pub own : t.own ≡ s.own
+  pub durability : t.durability ≡ s.durability
+  pub failures : t.failures ≡ s.failures
+  pub so_far : d.honest t.disk → d.honest s.disk
+  pub closed : t.closed ≡ s.closed
+  pub recent : t.recent ≡ s.recent
+  pub gone : at (key_of id) t.opened ≡ None
+  pub others : StayBeside (same_key (key_of id)) s.opened t.opened
+  pub held : d.honest t.disk → StaysHeld d.relied (d.folder s.disk) (d.folder t.disk)
+  pub beside : d.honest t.disk → OwnStayBeside (open_name (key_of id) s.own)
+      (d.folder s.disk) (d.folder t.disk)
+
 -- What was open is open no longer.
 abbrev pub DiskRestarts : {D F : Type 0} → StoreState D F → StoreState D F → Type 0
 DiskRestarts s t =
@@ -156,5 +171,6 @@ disk_calls d =
       close_gives = DiskCloses d;
       read_gives = DiskReads d;
       list_gives = DiskLists d;
+      let_go_gives = DiskLetsGo d;
       restart_gives = DiskRestarts;
     }

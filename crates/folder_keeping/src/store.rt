@@ -108,6 +108,10 @@ impl<D: Disk + Drop> Store for KeptFolder<D> {
         self.count(outcome)
     }
 
+    fn let_go(&mut self, id: &ShareId) {
+        self.store.let_go(id);
+    }
+
     fn restart(&mut self) {
         self.store.opened.clear();
     }

@@ -83,6 +83,10 @@ length_is {F} (o ∷ opened) key =
       | false ↦ length_is opened key
     ]
 
+-- nothing is written to one that is not there
+pub none_written : {F : Type 0} (opened : List (ShareKey × OpenShare F)) (key : ShareKey) → at key opened ≡ None → length_at key (lengths_of opened) ≡ 0
+none_written {F} opened key gone = length_is opened key ∙ ap (λ (r : Option (OpenShare F)). unwrap_or (option_map (λ (o : OpenShare F). o.length) r) 0) gone
+
 -- the others were found as long as before
 pub opened_at : {F : Type 0} (key : ShareKey) (old new : List (ShareKey × OpenShare F))
     → ((other : ShareKey) → same_key key other ≡ false → at other new ≡ at other old) → IsOpenedAt key (lengths_of old) (lengths_of new)

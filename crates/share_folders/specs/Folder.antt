@@ -127,6 +127,12 @@ FolderLists s index (Err OutOfMemory) t = LooksAt (has_index index) s t
 FolderLists s index (Err StoreFault) t =
     HasUnasked index s.closed × LooksAt (has_index index) (faulted s) t
 
+-- An open share is open no longer.
+abbrev pub FolderLetsGo : FolderState → ShareId → FolderState → Type 0
+FolderLetsGo s id t =
+    (t.folder ≡ s.folder) × (t.own ≡ s.own) × (t.closed ≡ s.closed) × (t.failures ≡ s.failures)
+    × OthersStay id s.opened t.opened × (length_at (key_of id) t.opened ≡ 0)
+
 abbrev pub FolderRestarts : FolderState → FolderState → Type 0
 FolderRestarts s t =
     t ≡ record {
@@ -147,5 +153,6 @@ folder_calls =
       close_gives = FolderCloses;
       read_gives = FolderReads;
       list_gives = FolderLists;
+      let_go_gives = FolderLetsGo;
       restart_gives = FolderRestarts;
     }

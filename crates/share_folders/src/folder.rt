@@ -211,6 +211,10 @@ impl<R: Files + AllocGlobal + Clone + Drop> Store for FolderStore<R> {
         self.count(outcome)
     }
 
+    fn let_go(&mut self, id: &ShareId) {
+        self.store.let_go(id);
+    }
+
     fn restart(&mut self) {
         self.store.opened.clear();
     }

@@ -209,6 +209,31 @@ impl<D: Disk + Drop> DiskStore<D> {
         }
     }
 
+    /// Nothing is held any more for an open share that will not go on: its file is closed, and
+    /// removed where that goes.
+    #[tactic(auto, using(crate::proofs::Closings::held_same))]
+    pub fn let_go(&mut self, id: &ShareId)
+        ensures own { self.new.own ≡ self.old.own }
+        ensures durability { self.new.durability ≡ self.old.durability }
+        ensures closed { self.new.closed.entries ≡ self.old.closed.entries }
+        ensures recent { self.new.recent ≡ self.old.recent }
+        ensures gone { at (key_of id.now) self.new.opened.entries ≡ None }
+        ensures others { StayBeside (same_key (key_of id.now)) self.old.opened.entries
+            self.new.opened.entries }
+        ensures place { D.place self.new.disk ≡ D.place self.old.disk }
+        ensures so_far { D.honest self.new.disk → D.honest self.old.disk }
+        ensures held { D.honest self.new.disk
+            → StaysHeld D.relied (D.folder self.old.disk) (D.folder self.new.disk) }
+        ensures beside { D.honest self.new.disk → OwnStayBeside
+            (open_name (key_of id.now) self.old.own) (D.folder self.old.disk)
+            (D.folder self.new.disk) }
+    {
+        forget_open(&mut self.opened, &key_of(id));
+        if let Ok(name) = self.open_name(id) {
+            self.remove_open(&name);
+        }
+    }
+
     /// Closes an open share under a digest.
     pub fn close_open(&mut self, id: &ShareId, digest: &Digest) -> Result<(), StoreError>
         requires { at (key_of id.now) self.old.closed.entries ≡ None }

@@ -3,7 +3,8 @@ use Rattle.std.specs.Prelude.{◌≡◌, ℕ, List, Option, Result}
 use Rattle.wire.specs.declared.message.ShareId.{ShareId}
 use Rattle.wire.specs.declared.message.HeldShare.{HeldShare}
 use Rattle.share_store.specs.declared.error.StoreError.{StoreError}
-use Rattle.share_store.specs.Shelf.{Shelf, digest_at, used, Writes, Closes, Reads, Lists, Restarts}
+use Rattle.share_store.specs.Shelf.{Shelf, digest_at, used, Writes, Closes, Reads, Lists, LetsGo}
+use Rattle.share_store.specs.Shelf.{Restarts}
 
 -- `told` and `used` are what the store tells of a state: the digest of a share that it says is
 -- closed, and the bytes that it says the closed shares have.
@@ -14,6 +15,7 @@ pub record Calls (S : Type 0) : Type 1 where
   pub close_gives : S → ShareId → List ℕ → Result Unit StoreError → S → Type 0
   pub read_gives : S → ShareId → ℕ → ℕ → Result (List ℕ) StoreError → S → Type 0
   pub list_gives : S → List ℕ → Result (List HeldShare) StoreError → S → Type 0
+  pub let_go_gives : S → ShareId → S → Type 0
   pub restart_gives : S → S → Type 0
 
 -- the calls of a store that is its shelf
@@ -26,6 +28,7 @@ shelf_calls =
       close_gives = Closes;
       read_gives = Reads;
       list_gives = Lists;
+      let_go_gives = LetsGo;
       restart_gives = Restarts;
     }
 
@@ -42,4 +45,6 @@ pub record AreKept {S : Type 0} (calls : Calls S) (shelf : S → Shelf) : Type 0
       → calls.read_gives s id offset len r t → Reads (shelf s) id offset len r (shelf t)
   pub lists : (s : S) (index : List ℕ) (r : Result (List HeldShare) StoreError) (t : S)
       → calls.list_gives s index r t → Lists (shelf s) index r (shelf t)
+  pub lets_go : (s : S) (id : ShareId) (t : S) → calls.let_go_gives s id t
+      → LetsGo (shelf s) id (shelf t)
   pub restarts : (s t : S) → calls.restart_gives s t → Restarts (shelf s) (shelf t)

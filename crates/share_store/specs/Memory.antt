@@ -3,7 +3,7 @@ use Rattle.std.specs.Prelude.{◌≡◌, ℕ, ◌+◌, ◌-◌, ◌^◌, min, Bo
 use Rattle.std.specs.Prelude.{Err}
 use Rattle.wire.specs.declared.message.ShareId.{ShareId}
 use Rattle.wire.specs.declared.message.HeldShare.{HeldShare}
-use Rattle.share_store.specs.Shelf.{Shelf, digest_at, used, Writes, Closes, Reads, Lists}
+use Rattle.share_store.specs.Shelf.{Shelf, digest_at, used, Writes, Closes, Reads, Lists, LetsGo}
 use Rattle.share_store.specs.Calls.{Calls}
 use Rattle.share_store.specs.declared.error.StoreError.{StoreError}
 use Rattle.share_store.specs.declared.error.StoreError.TheVariants.{OutOfMemory, StoreFault}
@@ -47,6 +47,11 @@ abbrev pub MemoryLists : MemoryState → List ℕ → Result (List HeldShare) St
     → MemoryState → Type 0
 MemoryLists s index = Gives (λ found old new. Lists old index (Ok found) new) s
 
+-- what was written to an open share is dropped
+abbrev pub MemoryLetsGo : MemoryState → ShareId → MemoryState → Type 0
+MemoryLetsGo s id t =
+    LetsGo s.shelf id t.shelf × (t.failures ≡ s.failures) × (t.failing ≡ s.failing)
+
 -- a restart drops what is open
 abbrev pub MemoryRestarts : MemoryState → MemoryState → Type 0
 MemoryRestarts s t =
@@ -65,5 +70,6 @@ memory_calls =
       close_gives = MemoryCloses;
       read_gives = MemoryReads;
       list_gives = MemoryLists;
+      let_go_gives = MemoryLetsGo;
       restart_gives = MemoryRestarts;
     }

@@ -56,5 +56,6 @@ memory_keeps = record {
   closes = memory_closes;
   reads = memory_reads;
   lists = memory_lists;
+  lets_go = λ s id t h. h.0;
   restarts = λ s t h i. (h i).shelf.closed;
 }

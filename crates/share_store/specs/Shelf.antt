@@ -125,6 +125,12 @@ abbrev pub Lists : Shelf → List ℕ → Result (List HeldShare) StoreError →
 Lists old index (Ok found) new = (found ≡ held index old.closed) × (new ≡ old)
 Lists old index (Err e) new = new ≡ old
 
+-- Nothing is left of what was written to an open share.
+abbrev pub LetsGo : Shelf → ShareId → Shelf → Type 0
+LetsGo old id new =
+    (written id new.opened ≡ []) × OthersStay id old.opened new.opened
+    × (new.closed ≡ old.closed)
+
 -- A restart keeps the closed shares. What was open may be gone.
 abbrev pub Restarts : Shelf → Shelf → Type 0
 Restarts old new = new.closed ≡ old.closed

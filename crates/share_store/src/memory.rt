@@ -195,6 +195,14 @@ fn move_closed(
     Ok(())
 }
 
+// Drops an open share.
+fn drop_written(opened: &mut BTreeMap<ShareKey, ShareBytes>, key: &ShareKey)
+    ensures gone { written_at key.now opened.new.entries ≡ [] }
+    ensures others { IsPutAt key.now opened.old.entries opened.new.entries }
+{
+    opened.remove(key);
+}
+
 // A law: the closed shares stand in the order of their keys. The call does nothing.
 fn know_rising(closed: &BTreeMap<ShareKey, ClosedShare>)
     ensures { AreRising closed.now.entries }
@@ -260,6 +268,10 @@ impl Store for MemoryStore {
     fn list(&mut self, alloc: Global, index: &StorageIndex) -> Result<HeldList, StoreError> {
         self.begin()?;
         held_under(alloc, &self.closed, index)
+    }
+
+    fn let_go(&mut self, id: &ShareId) {
+        drop_written(&mut self.opened, &key_of(id));
     }
 
     fn restart(&mut self) {

@@ -74,6 +74,11 @@ pub trait Store {
             ⊎ (fault_count self.old ≡ 2 ^ 64 - 1) }
         ensures count { fault_count self.old ≤ fault_count self.new };
 
+    /// An open share will not go on: nothing is kept of what was written to it, and nothing is held
+    /// for it any more.
+    fn let_go(&mut self, id: &ShareId)
+        ensures { calls.let_go_gives self.old id.now self.new };
+
     /// A restart of the server: what was open may be gone.
     fn restart(&mut self)
         ensures { calls.restart_gives self.old self.new };
