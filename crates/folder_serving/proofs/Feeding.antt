@@ -11,6 +11,7 @@ use Rattle.server_core.specs.Sound.{AreApart}
 use Rattle.server_core.proofs.Shares.{same_agrees}
 use Rattle.server_core.proofs.Listed.{KeepsId, eq_of_same, other_of, bucket_push, bucket_push_other, apart_push, changed_other, changed_same, changed_none, apart_changed, apart_filter, filtered_found, ended_same, ended_other}
 use Rattle.server_core.proofs.Kept.{grown}
+use Rattle.server_core.proofs.Ended.{other_share}
 use Rattle.folder_keeping.specs.Kept.{Contents, more_content, put_content}
 use Rattle.folder_keeping.proofs.Keys.{is_some_of, none_some, put_there}
 
@@ -64,6 +65,13 @@ ended_fed old new bs id others s = record {
       let gone : bucket_at other (ended id bs) ≡ None = subst (λ (i : ShareId). bucket_at i (ended id bs) ≡ None) (sym (eq_of_same other id is)) (ended_same id bs) in
       none_some c (sym gone ∙ e)
   by other c e false is = fed_same c (old (key_of other)) (new (key_of other)) (others other is) (s.fed other c (sym (ended_other id other bs is) ∙ e))
+
+-- what is known of a share that has no bucket is no bucket's
+pub idle_fed : (known : Contents) (bs : List Bucket) (id : ShareId) → bucket_at id bs ≡ None → AreFed bs known → AreFed bs (put_content (key_of id) None known)
+idle_fed known bs id idle s = record {
+  apart = s.apart;
+  fed = λ other b there. fed_same b (known (key_of other)) _ (others_known id None known other (other_share bs id other b idle there)) (s.fed other b there);
+}
 
 pub filter_fed : (known : Contents) (bs : List Bucket) (p : Bucket → Bool) → AreFed bs known → AreFed (filter p bs) known
 filter_fed known bs p s = record {

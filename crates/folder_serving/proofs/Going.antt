@@ -1,27 +1,32 @@
 -- One event after another.
 use Rattle.std.proofs.Common.{◌≡◌, ℕ, List, [], ◌∷◌, ◌++◌, Some, None, Ok, Err, max, refl, sym, ap, subst, inl, inr}
-use Rattle.std.specs.Prelude.{◌⊎◌, All, ⊤}
+use Rattle.std.specs.Prelude.{◌⊎◌, All, map, ⊤}
+use Rattle.std.specs.List.{AllByRecursion}
 use Rattle.std.proofs.lemmas.List.Elements.{All-append, All-cons, All-head, All-nil, All-tail}
 use Rattle.wire.specs.declared.message.Body.{Body}
 use Rattle.disks.specs.Laws.{DurableOutlasts}
 use Rattle.disks.specs.Names.{Name}
 use Rattle.tagged_hash.specs.TaggedHash.{HashesHave32Bytes}
+use Rattle.wire.specs.declared.message.ShareId.{ShareId}
 use Rattle.share_store.specs.Shelf.{ShareKey, key_of}
+use Rattle.share_folders.specs.Names.{IsShareKey}
 use Rattle.server_core.specs.declared.error.ServerFault.TheVariants.{OutOfMemory}
 use Rattle.server_core.specs.ServerState as server
-use Rattle.server_core.specs.ServerState.{is_fresh_at, line_of}
-use Rattle.folder_keeping.specs.Store.{Facts, disk_calls, IsSyncing}
+use Rattle.server_core.specs.ServerState.{is_fresh_at, line_of, LetsGoOf}
+use Rattle.server_core.specs.Buckets.{is_of_another}
+use Rattle.server_core.specs.declared.bucket.Bucket.{Bucket}
+use Rattle.folder_keeping.specs.Store.{Facts, StoreState, disk_calls, IsSyncing}
 use Rattle.folder_keeping.specs.Steps as keeping
 use Rattle.folder_keeping.specs.Steps.{Reopens, Runs, Step}
-use Rattle.folder_keeping.specs.Kept.{AreOpen, Contents, IsFoundAlone, IsSafe, contents_by, nothing_known}
+use Rattle.folder_keeping.specs.Kept.{AreOpen, AreOrderly, Contents, IsFoundAlone, IsSafe, contents_by, nothing_known, put_content}
 use Rattle.folder_keeping.proofs.OpenShares.{none_open}
 use Rattle.folder_keeping.proofs.Running.{contents_on, honest_first, open_run, orderly_on, runs_on, safe_stay, synced_run}
 use Rattle.folder_serving.specs.Serving.{Event, Failed, FolderServer, Happens, HappenAll, HasShareKey}
-use Rattle.folder_serving.specs.Serving.{Asked, Ticked, Restarted, Started}
+use Rattle.folder_serving.specs.Serving.{Asked, Ticked, Forgot, LetGo, Restarted, Started}
 use Rattle.folder_serving.specs.Served.{AllSteps, AreStepsOf, ClosedAreServed, SafeAreServed, IsAnswered, IsStartedAlone, ServersAreOrderly, StaysServed}
 use Rattle.folder_serving.proofs.Answering.{answered, closed_so}
 use Rattle.folder_serving.proofs.Asking.{Moves, buckets_fed, none_moved, one_moved, serving_moves}
-use Rattle.folder_serving.proofs.Feeding.{AreFed, filter_fed, none_fed}
+use Rattle.folder_serving.proofs.Feeding.{AreFed, filter_fed, idle_fed, none_fed}
 
 -- ---- single events
 
@@ -43,6 +48,19 @@ started_moves long d names s last t known fed (inr failed) reopens none =
           (All-cons (IsFoundAlone key digest) (keeping.Opened names) [] alone (All-nil (IsFoundAlone key digest)));
     }
 
+-- its store let go of shares that have no bucket
+went_moves : {D F : Type 0} (d : Facts D F) (ids : List ShareId) (bs : List Bucket) (s t : StoreState D F) (known : Contents) → AllByRecursion (λ (id : ShareId). IsShareKey (key_of id)) ids
+    → LetsGoOf (disk_calls d) bs ids s t → AreFed bs known
+    → Runs d (map keeping.Went ids) s t × AreOrderly known (map keeping.Went ids) × AreFed bs (contents_by (map keeping.Went ids) known)
+went_moves d [] bs s t known keyed goes fed = (goes, tt, fed)
+went_moves d (id ∷ ids) bs s t known keyed goes fed =
+    let rest = went_moves d ids bs goes.0 t (put_content (key_of id) None known) keyed.1 goes.3 (idle_fed known bs id goes.1 fed) in
+    ((goes.0, goes.2, rest.0), (keyed.0, rest.1), rest.2)
+
+none_opened : (ids : List ShareId) (key : ShareKey) (digest : List ℕ) → All (IsFoundAlone key digest) (map keeping.Went ids)
+none_opened [] key digest = All-nil (IsFoundAlone key digest)
+none_opened (id ∷ ids) key digest = All-cons (IsFoundAlone key digest) (keeping.Went id) (map keeping.Went ids) tt (none_opened ids key digest)
+
 event_moves : {D F : Type 0} (long : HashesHave32Bytes) (d : Facts D F) (event : Event) (s t : FolderServer D F) (known : Contents) → Happens d event s t → AreFed s.buckets known
     → Moves d s t known ⊤ (λ key digest. IsStartedAlone key digest event) (AreStepsOf d s event)
 event_moves long d (Asked from m now outcome) s t known happens fed =
@@ -50,6 +68,19 @@ event_moves long d (Asked from m now outcome) s t known happens fed =
     record { steps = call.steps; made = call.made; runs = call.runs; orderly = call.orderly; fed = λ had. call.fed happens.1; alone = λ key digest alone. call.alone key digest tt }
 event_moves long d (Ticked now) s t known happens fed =
     none_moved d s t known ⊤ _ (AreStepsOf d s (Ticked now)) refl happens.after.store (λ had. buckets_fed _ t.buckets known happens.after.buckets (filter_fed known s.buckets (is_fresh_at (max s.clock now)) fed))
+event_moves {D} {F} long d (Forgot client) s t known happens fed =
+    none_moved d s t known ⊤ _ (AreStepsOf d s (Forgot client)) refl (ap (λ (w : FolderServer D F). w.store) happens)
+    (λ had. buckets_fed _ t.buckets known (ap (λ (w : FolderServer D F). w.buckets) happens) (filter_fed known s.buckets (is_of_another client) fed))
+event_moves {D} {F} long d (LetGo ids) s t known happens fed =
+    let moved = went_moves d ids s.buckets s.store t.store known happens.keyed (subst (λ (is : List ShareId). LetsGoOf (disk_calls d) s.buckets is s.store t.store) happens.these happens.goes.store) fed in
+    record {
+      steps = map keeping.Went ids;
+      made = refl;
+      runs = moved.0;
+      orderly = moved.1;
+      fed = λ had. buckets_fed s.buckets t.buckets _ happens.goes.buckets moved.2;
+      alone = λ key digest alone. none_opened ids key digest;
+    }
 event_moves long d Restarted s t known happens fed =
     one_moved d s t known ⊤ _ (AreStepsOf d s Restarted) keeping.Restarted refl happens.store tt (λ had. none_fed nothing_known t.buckets happens.buckets) (λ key digest alone. tt)
 event_moves long d (Started names) s t known happens fed = started_moves long d names s happens.last t known fed happens.ended happens.store happens.buckets
@@ -62,6 +93,8 @@ event_answered d (Asked from m now (Ok (Some r))) s t key digest bytes happens h
 event_answered d (Asked from m now (Ok None)) s t key digest bytes happens honest safe = tt
 event_answered d (Asked from m now (Err e)) s t key digest bytes happens honest safe = tt
 event_answered d (Ticked now) s t key digest bytes happens honest safe = tt
+event_answered d (Forgot client) s t key digest bytes happens honest safe = tt
+event_answered d (LetGo ids) s t key digest bytes happens honest safe = tt
 event_answered d Restarted s t key digest bytes happens honest safe = tt
 event_answered d (Started names) s t key digest bytes happens honest safe = tt
 

@@ -1,6 +1,6 @@
 -- What servers over one folder do.
 use Rattle.std.specs.Prelude.{◌≡◌, ℕ, Bool, List, [], take, drop, true, Some, None, Ok, All}
-use Rattle.std.specs.Prelude.{◌∷◌, ◌++◌, Result, Contains, ⊤}
+use Rattle.std.specs.Prelude.{◌∷◌, ◌++◌, map, Result, Contains, ⊤}
 use Rattle.wire.specs.declared.message.Body.{Body}
 use Rattle.wire.specs.declared.message.Body.TheVariants.{Ask, Have, Allocate, Already, Write, Close}
 use Rattle.wire.specs.declared.message.Body.TheVariants.{Closed, Read, Data}
@@ -22,7 +22,7 @@ use Rattle.folder_keeping.specs.Steps as keeping
 use Rattle.folder_keeping.specs.Steps.{Step, Runs}
 use Rattle.folder_keeping.specs.Kept.{AreOrderly, IsSafe, nothing_known}
 use Rattle.folder_serving.specs.Serving.{Event, FolderServer, Happens, HappenAll}
-use Rattle.folder_serving.specs.Serving.{Asked, Ticked, Restarted, Started}
+use Rattle.folder_serving.specs.Serving.{Asked, Ticked, Forgot, LetGo, Restarted, Started}
 
 -- the calls of its store that a line of the server's table makes
 abbrev pub AreCallsOf : Line → List Step → Type 0
@@ -42,6 +42,8 @@ abbrev pub AreStepsOf : {D F : Type 0} → Facts D F → FolderServer D F → Ev
 AreStepsOf d s (Asked from m now outcome) steps =
     AreCallsOf (line_of (disk_calls d) s from m.session m.body) steps
 AreStepsOf d s (Ticked now) steps = steps ≡ []
+AreStepsOf d s (Forgot client) steps = steps ≡ []
+AreStepsOf d s (LetGo ids) steps = steps ≡ map keeping.Went ids
 AreStepsOf d s Restarted steps = steps ≡ keeping.Restarted ∷ []
 AreStepsOf d s (Started names) steps =
     (last : List Step) × (steps ≡ last ++ keeping.Opened names ∷ [])

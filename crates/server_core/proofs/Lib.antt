@@ -6,3 +6,4 @@ pub mod Owners
 pub mod Stays
 pub mod Keeps
 pub mod Over
+pub mod Ended

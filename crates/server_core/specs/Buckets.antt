@@ -72,6 +72,9 @@ pub record IsFresh (client session : ℕ) (id : ShareId) (len now : ℕ) (b : Bu
 abbrev pub is_owned : ℕ → ℕ → Bucket → Bool
 is_owned client session b = (b.client == client) && (b.session == session)
 
+abbrev pub is_of_another : ℕ → Bucket → Bool
+is_of_another client b = not (b.client == client)
+
 abbrev pub touched : ℕ → Bucket → Bucket
 touched now b =
     record {

@@ -19,7 +19,7 @@ use Rattle.server_core.specs.declared.bucket.Bucket.{Bucket}
 use Rattle.share_store.specs.Calls.{Calls}
 use Rattle.server_core.specs.Limits.{idle_limit, most_buckets}
 use Rattle.server_core.specs.Buckets.{GoesOn, IsFresh, is_owned, touched, with_bytes, bytes_so_far}
-use Rattle.server_core.specs.Buckets.{bucket_at, changed, ended, promised}
+use Rattle.server_core.specs.Buckets.{bucket_at, changed, ended, is_of_another, promised}
 
 -- a server's state, over the states of its store
 pub record ServerState (S : Type 0) : Type 0 where
@@ -270,6 +270,34 @@ pub record RestartsTo {S : Type 0} (restart_gives : S → S → Type 0)
     pub buckets : new.buckets ≡ []
     pub clock : new.clock ≡ old.clock
     pub terms : KeepsTerms old new
+
+-- ---- buckets that end with no close
+
+-- A client is gone: its buckets end, as if it had given up each of them.
+abbrev pub without_client : {S : Type 0} → ℕ → ServerState S → ServerState S
+without_client client s =
+    record {
+      store = s.store;
+      buckets = filter (is_of_another client) s.buckets;
+      clock = s.clock;
+      capacity = s.capacity;
+      readonly = s.readonly;
+    }
+
+-- The store lets go of these shares, one after the other, and none of them has a bucket.
+abbrev pub LetsGoOf : {S : Type 0} → Calls S → List Bucket → List ShareId → S → S → Type 0
+LetsGoOf calls buckets [] old new = new ≡ old
+LetsGoOf {S} calls buckets (id ∷ ids) old new =
+    (mid : S) × (bucket_at id buckets ≡ None) × calls.let_go_gives old id mid
+    × LetsGoOf calls buckets ids mid new
+
+-- The store lets go of shares that have no bucket. All else is as it was.
+pub record LetsGoOfEnded {S : Type 0} (calls : Calls S) (old new : ServerState S) : Type 0 where
+  pub ids : List ShareId
+  pub store : LetsGoOf calls old.buckets ids old.store new.store
+  pub buckets : new.buckets ≡ old.buckets
+  pub clock : new.clock ≡ old.clock
+  pub terms : KeepsTerms old new
 
 -- ---- words of private clauses
 

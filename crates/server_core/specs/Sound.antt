@@ -1,6 +1,6 @@
 -- What holds of every server over a store that keeps, and what its answers tell.
 use Rattle.std.specs.Prelude.{◌≡◌, ◌≤◌, ℕ, Bool, true, false, List, [], ◌∷◌, Some, None, Ok, Err}
-use Rattle.std.specs.Prelude.{All, length, take, drop, ⊤, ◌⊎◌}
+use Rattle.std.specs.Prelude.{All, filter, length, take, drop, ⊤, ◌⊎◌}
 use Rattle.wire.specs.declared.message.Body.{Body}
 use Rattle.wire.specs.declared.message.Body.TheVariants.{Ask, Have, Allocate, Granted, Already}
 use Rattle.wire.specs.declared.message.Body.TheVariants.{Busy, Full, Write, Wrote, WrongOffset}
@@ -15,9 +15,10 @@ use Rattle.share_store.specs.Shelf.{Shelf, ShareKey, AreRising, closed_at, diges
 use Rattle.share_store.specs.Shelf.{Restarts}
 use Rattle.share_store.specs.Calls.{shelf_calls}
 use Rattle.server_core.specs.declared.bucket.Bucket.{Bucket}
-use Rattle.server_core.specs.Buckets.{bucket_at, is_owned, Gathers, IsNothing}
+use Rattle.server_core.specs.Buckets.{bucket_at, is_of_another, is_owned, Gathers, IsNothing}
 use Rattle.server_core.specs.Limits.{most_buckets}
 use Rattle.server_core.specs.ServerState.{ServerState, Line, Outcome, Serves, Ticks, RestartsTo}
+use Rattle.server_core.specs.ServerState.{LetsGoOfEnded, without_client}
 use Rattle.server_core.specs.ServerState.{Silent, Says, Touches, Opens, Ends, ListsHoldings}
 use Rattle.server_core.specs.ServerState.{WritesBytes, ClosesShare, ReadsShare}
 
@@ -175,6 +176,29 @@ abbrev pub RestartsLeaveClosed : Type 0
 RestartsLeaveClosed =
     (old new : ServerState Shelf) → RestartsTo Restarts old new → ClosedStay old.store new.store
 
+-- What clients have written is as it was where the server's store lets go of other shares, and so
+-- are the closed shares.
+pub record LeavesWritten (old new : ServerState Shelf) : Type 0 where
+  pub stays : ClosedStay old.store new.store
+  pub bytes : (id : ShareId) (b : Bucket) → bucket_at id old.buckets ≡ Some b
+      → written id new.store.opened ≡ written id old.store.opened
+
+abbrev pub LettingGoLeavesWritten : Type 0
+LettingGoLeavesWritten =
+    (old new : ServerState Shelf) → LetsGoOfEnded shelf_calls old new → LeavesWritten old new
+
+-- Where a client is forgotten, the buckets of all others stay, and it has none (`without_client`).
+pub record LeavesOtherClients (client : ℕ) (old new : List Bucket) : Type 0 where
+  pub others : (id : ShareId) (b : Bucket) → bucket_at id old ≡ Some b
+      → is_of_another client b ≡ true → bucket_at id new ≡ Some b
+  pub none : (id : ShareId) (b : Bucket) → bucket_at id new ≡ Some b
+      → is_of_another client b ≡ true
+
+abbrev pub ForgettingLeavesOthers : Type 0
+ForgettingLeavesOthers =
+    (client : ℕ) (old : List Bucket)
+    → LeavesOtherClients client old (filter (is_of_another client) old)
+
 -- ---- the laws of sound servers
 
 -- A sound server stays sound, and keeps its closed shares.
@@ -206,6 +230,15 @@ TicksKeep =
 abbrev pub RestartsKeep : Type 0
 RestartsKeep =
     (old new : ServerState Shelf) → IsSound old → RestartsTo Restarts old new → StaysSound old new
+
+abbrev pub ForgettingKeeps : Type 0
+ForgettingKeeps =
+    (old : ServerState Shelf) (client : ℕ) → IsSound old → StaysSound old (without_client client old)
+
+abbrev pub LettingGoKeeps : Type 0
+LettingGoKeeps =
+    (old new : ServerState Shelf) → IsSound old → LetsGoOfEnded shelf_calls old new
+    → StaysSound old new
 
 -- A server is sound from its start on where its closed shares are right.
 abbrev pub StartsSound : Type 0

@@ -3,7 +3,7 @@
 ghost use Rattle.std.specs.Prelude.{◌≡◌, ◌<◌, ◌-◌, ◌∷◌, ◌++◌, [], filter, length, slice_get};
 ghost use Rattle.std.specs.Prelude.{IfNone, IfSome, None, OnErr, OnOk, Some};
 ghost use Rattle.server_core.specs.Buckets.{GoesOn, HasHasherAt, HasRoom, bucket_at, changed};
-ghost use Rattle.server_core.specs.Buckets.{ended, position_of};
+ghost use Rattle.server_core.specs.Buckets.{ended, is_of_another, position_of};
 ghost use Rattle.server_core.specs.Buckets.{promised, touched, with_bytes};
 ghost use Rattle.server_core.specs.ServerState.{is_fresh_at};
 ghost use Rattle.server_core.specs.declared.bucket.Bucket.{Bucket};
@@ -15,7 +15,7 @@ use crate::bucket::Bucket;
 use std::alloc::{AllocError, Global};
 use std::marker::Model;
 use tagged_hash::{TaggedHasher, WaitingHasher};
-use wire::message::ShareId;
+use wire::message::{NodeId, ShareId};
 
 /// The seconds after which a bucket that was not touched is dropped.
 const IDLE_LIMIT: u64 = 600;
@@ -24,6 +24,9 @@ const IDLE_LIMIT: u64 = 600;
 #[derive(Drop)]
 pub struct Buckets {
     open: Vec<Bucket>,
+    // The shares whose buckets ended with no close. Where a bucket is opened there is room made for
+    // its share too.
+    given_up: Vec<ShareId>,
 }
 
 impl Model for Buckets {
@@ -45,6 +48,7 @@ impl Buckets {
     {
         Buckets {
             open: Vec::new(alloc),
+            given_up: Vec::new(alloc),
         }
     }
 
@@ -88,6 +92,7 @@ impl Buckets {
         ensures ok { OnOk result (self.new ≡ self.old ++ bucket ∷ []) }
         ensures err { OnErr result (self.new ≡ self.old) }
     {
+        self.given_up.reserve(self.open.len() + 1)?;
         self.open.push(bucket)?;
         Ok(())
     }
@@ -137,7 +142,7 @@ impl Buckets {
         self.open[position].gathered.take_over(hashed);
     }
 
-    /// Ends the bucket at a position.
+    /// Ends the bucket at a position, whose share was closed.
     pub fn end(&mut self, position: usize)
         requires { position < length self.old }
         ensures { (id : ShareId) → position_of id self.old ≡ Some position
@@ -146,19 +151,79 @@ impl Buckets {
         let _ = self.open.remove(position);
     }
 
+    /// Ends the bucket at a position with no close.
+    pub fn give_up(&mut self, position: usize)
+        requires { position < length self.old }
+        ensures { (id : ShareId) → position_of id self.old ≡ Some position
+            → self.new ≡ ended id self.old }
+    {
+        let bucket = self.open.remove(position);
+        note(&mut self.given_up, bucket.id);
+    }
+
     /// Drops those that were not touched for 600 seconds.
     pub fn drop_stale(&mut self, now: u64)
         ensures { self.new ≡ filter (is_fresh_at now) self.old }
     {
+        note_stale(&mut self.given_up, self.open.as_slice(), now);
         self.open
             .retain(|bucket| now.saturating_sub(bucket.touched) < IDLE_LIMIT);
     }
 
-    /// Ends all.
+    /// Ends those of a client.
+    pub fn end_those_of(&mut self, client: NodeId)
+        ensures { self.new ≡ filter (is_of_another client) self.old }
+    {
+        note_those_of(&mut self.given_up, self.open.as_slice(), client);
+        self.open.retain(|bucket| bucket.client != client);
+    }
+
+    /// Ends all, and no share is to be let go of.
     pub fn clear(&mut self)
         ensures { self.new ≡ [] }
     {
         self.open.clear();
+        self.given_up.clear();
+    }
+
+    /// How many shares are to be let go of at most: their buckets ended with no close.
+    pub fn given_up(&self) -> usize {
+        self.given_up.len()
+    }
+
+    /// The next of them, where it has no bucket again. It is the store's then to let go of it.
+    pub fn next_given_up(&mut self) -> Option<ShareId>
+        ensures same { self.new ≡ self.old }
+        ensures idle { IfSome result (λ id. bucket_at id self.old ≡ None) }
+    {
+        let id = self.given_up.pop()?;
+        match self.find(id) {
+            Some(_) => None,
+            None => Some(id),
+        }
+    }
+}
+
+// Notes a share to let go of. Room was made for it where its bucket was opened.
+fn note(given_up: &mut Vec<ShareId>, id: ShareId) {
+    let _ = given_up.push(id);
+}
+
+// Notes those that were not touched for 600 seconds.
+fn note_stale(given_up: &mut Vec<ShareId>, buckets: &[Bucket], now: u64) {
+    for bucket in buckets {
+        if now.saturating_sub(bucket.touched) >= IDLE_LIMIT {
+            note(given_up, bucket.id);
+        }
+    }
+}
+
+// Notes those of a client.
+fn note_those_of(given_up: &mut Vec<ShareId>, buckets: &[Bucket], client: NodeId) {
+    for bucket in buckets {
+        if bucket.client == client {
+            note(given_up, bucket.id);
+        }
     }
 }
 

@@ -1,9 +1,10 @@
 //! A server over a store that keeps: what it does to what the store holds.
 
 ghost use Rattle.std.specs.Prelude.{◌≡◌, []};
-ghost use Rattle.server_core.specs.ServerState.{Serves, Ticks, RestartsTo};
+ghost use Rattle.server_core.specs.ServerState.{Serves, Ticks, RestartsTo, LetsGoOfEnded};
+ghost use Rattle.server_core.specs.ServerState.{without_client};
 ghost use Rattle.server_core.specs.Sound.{over, ClosedStay, HaveDigests, IsSound, IsKept};
-ghost use Rattle.server_core.specs.Sound.{LeavesOthers, StaysSound};
+ghost use Rattle.server_core.specs.Sound.{LeavesOthers, LeavesWritten, StaysSound};
 ghost use Rattle.share_store.specs.Calls.{shelf_calls};
 ghost use Rattle.share_store.specs.Shelf.{Restarts};
 
@@ -56,6 +57,26 @@ pub fn tick<S: Keeping>(server: &mut Server<S>, now: u64)
         → StaysSound (over S.shelf server.old) (over S.shelf server.new) }
 {
     server.tick(now);
+}
+
+/// A client is gone, as `Server::forget`.
+pub fn forget<S: Keeping>(server: &mut Server<S>, client: NodeId)
+    ensures forgets { over S.shelf server.new ≡ without_client client (over S.shelf server.old) }
+    ensures keeps { IsSound (over S.shelf server.old)
+        → StaysSound (over S.shelf server.old) (over S.shelf server.new) }
+{
+    server.forget(client);
+}
+
+/// The store lets go of shares, as `Server::let_go`.
+pub fn let_go<S: Keeping>(server: &mut Server<S>)
+    ensures lets_go { LetsGoOfEnded shelf_calls (over S.shelf server.old)
+        (over S.shelf server.new) }
+    ensures leaves { LeavesWritten (over S.shelf server.old) (over S.shelf server.new) }
+    ensures keeps { IsSound (over S.shelf server.old)
+        → StaysSound (over S.shelf server.old) (over S.shelf server.new) }
+{
+    server.let_go();
 }
 
 /// A restart, as `Server::restart`.

@@ -5,7 +5,7 @@ ghost use Rattle.server_core.specs.ServerState.{Does, DoesFor, Serves, Ticks, Re
 ghost use Rattle.server_core.specs.ServerState.{KeepsTerms};
 ghost use Rattle.server_core.specs.ServerState.{ListsHoldings, outcome_of, is_full, line_of};
 ghost use Rattle.server_core.specs.ServerState.{allocate_line, write_line, close_line, abort_line};
-ghost use Rattle.server_core.specs.ServerState.{read_line};
+ghost use Rattle.server_core.specs.ServerState.{read_line, without_client, LetsGoOfEnded};
 ghost use Rattle.server_core.specs.Buckets.{HasHasherAt, bucket_at};
 ghost use Rattle.server_core.specs.Sound.{OthersBucketsStay};
 ghost use Rattle.tagged_hash.specs.TaggedHasher.{input_of};
@@ -242,7 +242,7 @@ impl<S: Store> Server<S> {
                 Ok(Body::Wrote(offset + bytes.len() as u64))
             }
             Err(StoreError::StoreFault) => {
-                self.buckets.end(position);
+                self.buckets.give_up(position);
                 Err(ServerFault::StoreFault)
             }
             Err(StoreError::OutOfMemory) => Err(ServerFault::OutOfMemory),
@@ -287,7 +287,7 @@ impl<S: Store> Server<S> {
                 Ok(Body::Closed(digest))
             }
             Err(StoreError::StoreFault) => {
-                self.buckets.end(position);
+                self.buckets.give_up(position);
                 Err(ServerFault::StoreFault)
             }
             Err(StoreError::OutOfMemory) => Err(ServerFault::OutOfMemory),
@@ -304,7 +304,7 @@ impl<S: Store> Server<S> {
     {
         if let Some((position, bucket)) = self.buckets.find(id) {
             if bucket.is_owned(from, session) {
-                self.buckets.end(position);
+                self.buckets.give_up(position);
             }
         }
         Ok(Body::NoShare)
@@ -382,6 +382,36 @@ impl<S: Store> Server<S> {
         let now = self.later(now);
         self.clock = now;
         self.buckets.drop_stale(now);
+    }
+
+    /// A client is gone: its buckets end, as if it had given up each of them.
+    pub fn forget(&mut self, client: NodeId)
+        ensures { self.new ≡ without_client client self.old }
+    {
+        self.buckets.end_those_of(client);
+    }
+
+    /// The store lets go of what it holds for shares whose buckets ended with no close: they were
+    /// given up, not touched for 600 seconds, or met a fault, or their client was forgotten. A
+    /// server that lives long does so after each message and each tick.
+    #[tactic(auto, using(crate::proofs::Ended::none_gone, crate::proofs::Ended::gone_on))]
+    pub fn let_go(&mut self)
+        ensures { LetsGoOfEnded S.calls self.old self.new }
+    {
+        let most = self.buckets.given_up();
+        for _ in 0..most {
+            self.let_go_of_next();
+        }
+    }
+
+    // The store lets go of the next of them, if there is one.
+    #[tactic(auto, using(crate::proofs::Ended::none_gone))]
+    fn let_go_of_next(&mut self)
+        ensures { LetsGoOfEnded S.calls self.old self.new }
+    {
+        if let Some(id) = self.buckets.next_given_up() {
+            self.store.let_go(&id);
+        }
     }
 
     /// A restart forgets the open buckets.

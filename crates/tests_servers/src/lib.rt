@@ -2,6 +2,8 @@
 #![tactic(auto)]
 
 #[cfg(test)]
+mod given_up_tests;
+#[cfg(test)]
 mod local_grid_tests;
 #[cfg(test)]
 mod server_core_tests;

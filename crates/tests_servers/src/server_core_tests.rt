@@ -23,7 +23,7 @@ const DIGEST: Digest =
 // What comes to the server: a request about a share of the file whose storage index is zeros, or
 // something else.
 #[derive(Clone, Copy)]
-enum Event {
+pub(crate) enum Event {
     Ask,
     Allocate(u8, u64),
     Write(u8, u64, &'static [u8]),
@@ -38,7 +38,7 @@ enum Event {
 
 // What the server says.
 #[derive(Clone, Copy, PartialEq, Eq)]
-enum Said {
+pub(crate) enum Said {
     Nothing,
     Fault(ServerFault),
     Have(bool, usize),
@@ -58,16 +58,16 @@ enum Said {
 const STORE_FAULT: Said = Said::Fault(ServerFault::StoreFault);
 
 // A client's node and session.
-type Client = (u16, u64);
+pub(crate) type Client = (u16, u64);
 
-const FIRST: Client = (1, 5);
+pub(crate) const FIRST: Client = (1, 5);
 
-const SECOND: Client = (2, 5);
+pub(crate) const SECOND: Client = (2, 5);
 
-const OTHER_SESSION: Client = (1, 6);
+pub(crate) const OTHER_SESSION: Client = (1, 6);
 
 // A time, a client, what comes, and what the server says to it.
-type Row = (u64, Client, Event, Said);
+pub(crate) type Row = (u64, Client, Event, Said);
 
 fn id(share: u8) -> ShareId {
     ShareId {
@@ -154,7 +154,7 @@ fn happens(alloc: Global, server: &mut Server<MemoryStore>, row: &Row) -> Said {
 }
 
 // How many rows in turn go as they are to, up to the first that does not.
-fn right_rows(alloc: Global, server: &mut Server<MemoryStore>, rows: &[Row]) -> usize {
+pub(crate) fn right_rows(alloc: Global, server: &mut Server<MemoryStore>, rows: &[Row]) -> usize {
     for (i, row) in rows.iter().enumerate() {
         if happens(alloc, server, row) != row.3 {
             return i;
@@ -190,7 +190,7 @@ fn right_rows_at_last(alloc: Global, server: &mut Server<MemoryStore>, rows: &[R
     rows.len()
 }
 
-fn server(alloc: Global, capacity: u64, readonly: bool) -> Server<MemoryStore> {
+pub(crate) fn server(alloc: Global, capacity: u64, readonly: bool) -> Server<MemoryStore> {
     Server::start(alloc, MemoryStore::new(alloc), capacity, readonly)
 }
 
@@ -258,7 +258,7 @@ fn one_bucket(rt: HostRuntime) {
 }
 
 // The same over the files of a folder.
-fn happens_in_folder(
+pub(crate) fn happens_in_folder(
     alloc: Global,
     server: &mut Server<FolderStore<HostRuntime>>,
     row: &Row,
