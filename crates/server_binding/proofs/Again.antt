@@ -11,9 +11,10 @@ use Rattle.share_store.specs.declared.shelf.ClosedShare.{ClosedShare}
 use Rattle.server_core.specs.ServerState.{ServerState}
 use Rattle.server_core.specs.Sound.{ClosedStay, IsSound, Tells}
 use Rattle.server_core.proofs.Keeps.{messages_keep}
+use Rattle.server_core.proofs.Ended.{letting_go_leaves_written}
 use Rattle.server_core.proofs.Stays.{messages_leave_others, ticks_leave_closed, restarts_leave_closed}
 use Rattle.server_binding.specs.Again.{GoesThrough, IsTold, IsToldForGood, Moves, TellsDigest, ToldIsToldAgain}
-use Rattle.server_binding.specs.Again.Moves.{by_message, by_tick, by_restart}
+use Rattle.server_binding.specs.Again.Moves.{by_message, by_tick, by_forgetting, by_letting_go, by_restart}
 use Rattle.server_binding.specs.Again.TellsDigest.{by_list, by_allocate, by_write, by_close}
 use Rattle.server_binding.proofs.Telling.{asks_list_all, reads_closed}
 
@@ -22,6 +23,8 @@ use Rattle.server_binding.proofs.Telling.{asks_list_all, reads_closed}
 move_keeps : (old new : ServerState Shelf) → Moves old new → ClosedStay old.store new.store
 move_keeps old new (by_message from now request outcome serves) = (messages_leave_others old new from now request outcome serves).stays
 move_keeps old new (by_tick now ticks) = ticks_leave_closed old new now ticks
+move_keeps old new (by_forgetting client same) = λ id c found. ap (λ (m : ServerState Shelf). closed_at id m.store.closed) same ∙ found
+move_keeps old new (by_letting_go goes) = (letting_go_leaves_written old new goes).stays
 move_keeps old new (by_restart restarts) = restarts_leave_closed old new restarts
 
 -- what is closed stays so through any number of moves

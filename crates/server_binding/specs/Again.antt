@@ -10,16 +10,20 @@ use Rattle.share_store.specs.Calls.{shelf_calls}
 use Rattle.share_store.specs.Shelf.{Shelf, Restarts, closed_at}
 use Rattle.share_store.specs.declared.shelf.ClosedShare.{ClosedShare}
 use Rattle.server_core.specs.ServerState.{ServerState, Outcome, RestartsTo, Serves, Ticks}
+use Rattle.server_core.specs.ServerState.{LetsGoOfEnded, without_client}
 use Rattle.server_core.specs.Sound.{IsSound}
 use Rattle.server_binding.specs.Telling.{ListsShare}
 
 -- ---- later states
 
--- one move of a server: a message from a client, a tick, or a restart
+-- one move of a server: a message from a client, a tick, a client that is forgotten, shares that its
+-- store lets go of, or a restart
 pub data Moves (old new : ServerState Shelf) : Type 0 where
   by_message : (from now : ℕ) (request : Message) (outcome : Outcome)
       → Serves shelf_calls old from request now outcome new → Moves old new
   by_tick : (now : ℕ) → Ticks old now new → Moves old new
+  by_forgetting : (client : ℕ) → new ≡ without_client client old → Moves old new
+  by_letting_go : LetsGoOfEnded shelf_calls old new → Moves old new
   by_restart : RestartsTo Restarts old new → Moves old new
 
 -- The server moves from the first state through these, one by one, and so comes to the last.
