@@ -20,7 +20,7 @@ use Rattle.server_core.specs.ServerState as server
 use Rattle.server_core.specs.Sound.{IsAnswer, IsSound, Tells, over}
 use Rattle.server_core.proofs.Keeps.{messages_keep}
 use Rattle.server_core.proofs.Over.{serves_over}
-use Rattle.server_binding.proofs.Acknowledged.{acked_by, closed_by, tells_acked}
+use Rattle.answer_laws.proofs.Servers.Acknowledged.{acked_by, closed_by, tells_acked}
 use Rattle.placement.specs.Matching.{Pair}
 use Rattle.upload_core.specs.declared.pieces.PieceFault.{PieceFault}
 use Rattle.upload_core.specs.Acknowledged as acknowledged

@@ -44,9 +44,9 @@ use Rattle.download_core.specs.Tested.{IsTested, ShowsNoCodeWord}
 use Rattle.download_core.proofs.HashedLemmas.{file_of}
 use Rattle.download_core.proofs.RightBlocks.{right_blocks}
 use Rattle.download_core.proofs.TestedLemmas.{inconsistent_shows}
-use Rattle.download_binding.specs.Downloads.{AreSharesFor, IsDownloadBy}
-use Rattle.download_binding.proofs.Downloads.{downloads_are_fair}
-use Rattle.download_binding.proofs.EncodedShares.{encoded_shares_serve}
+use Rattle.answer_laws.specs.Downloads.Downloads.{AreSharesFor, IsDownloadBy}
+use Rattle.answer_laws.proofs.Downloads.Downloads.{downloads_are_fair}
+use Rattle.answer_laws.proofs.Downloads.EncodedShares.{encoded_shares_serve}
 use Rattle.checker.specs.Shares.{settled_of}
 use Rattle.checker.specs.State.{CheckState}
 use Rattle.world_operations.specs.declared.operation.Operation.{Operation}

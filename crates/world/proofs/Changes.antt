@@ -24,8 +24,8 @@ use Rattle.world_operations.specs.declared.message.Sent.{Sent}
 use Rattle.world_operations.specs.declared.operation.Operation.{Operation}
 use Rattle.world_operations.specs.declared.task.Task.{Task}
 use Rattle.world_operations.specs.declared.task.Task.TheVariants.{Uploading, Downloading, Checking, Gone}
-use Rattle.all_asked.specs.Asked.{AsksAll}
-use Rattle.enough_binding.specs.Servers.{TellsAll}
+use Rattle.answer_laws.specs.Asking.Asked.{AsksAll}
+use Rattle.answer_laws.specs.Enough.Servers.{TellsAll}
 use Rattle.world_operations.specs.Asked.{HasAsked}
 use Rattle.request_record.specs.Follow.{Said}
 use Rattle.world_operations.specs.Follow.{GoesOn, IsFrameOf, IsNewTask, IsRequestBy, IsSameOperation, Moves}
@@ -40,7 +40,7 @@ use Rattle.world.specs.Step.{new_operation}
 use Rattle.world.specs.Consistent.{AreConsistent, AreOneRequest, CameFrom, IsFine, IsJustified, IsRecorded, IsRequestOf, without_bytes}
 use Rattle.world.specs.Consistent.{asked, gone}
 use Rattle.world.specs.History.{AnswersComeAfter, HasHistory, IsAnswerBy}
-use Rattle.server_binding.proofs.Acknowledged.{closed_by}
+use Rattle.answer_laws.proofs.Servers.Acknowledged.{closed_by}
 use Rattle.world.proofs.Alike.{requests_are_one}
 use Rattle.world.proofs.History.{history_more, history_on}
 

@@ -34,12 +34,12 @@ use Rattle.share_verify.specs.Verify.{IsSoundShare}
 use Rattle.download_core.specs.State.{DownloadState}
 use Rattle.checker.specs.State.{CheckState}
 use Rattle.checker.specs.declared.status.CheckStatus.TheVariants.{Done}
-use Rattle.enough_binding.specs.Answers.{Lists, TellsShare}
-use Rattle.enough_binding.specs.Checks as checks
-use Rattle.enough_binding.specs.Downloads as downloads
-use Rattle.enough_binding.specs.Servers.{TellsAll}
-use Rattle.enough_binding.proofs.Checks.{told_shares_are_good}
-use Rattle.enough_binding.proofs.Downloads.{enough_found}
+use Rattle.answer_laws.specs.Enough.Answers.{Lists, TellsShare}
+use Rattle.answer_laws.specs.Enough.Checks as checks
+use Rattle.answer_laws.specs.Enough.Downloads as downloads
+use Rattle.answer_laws.specs.Enough.Servers.{TellsAll}
+use Rattle.answer_laws.proofs.Enough.Checks.{told_shares_are_good}
+use Rattle.answer_laws.proofs.Enough.Downloads.{enough_found}
 use Rattle.world_operations.specs.declared.message.Sent.{Sent}
 use Rattle.world_operations.specs.declared.operation.Operation.{Operation}
 use Rattle.world_operations.specs.declared.task.Task.{Task}
@@ -53,7 +53,7 @@ use Rattle.world.specs.Headline.{goal}
 use Rattle.world.specs.History.{HasHistory}
 use Rattle.world.specs.Started.{HasNoClashInTests, IsCheckOf, IsDownloadOf, IsHashedOrTested, IsStarted, hashed}
 use Rattle.world.specs.State.{WorldState}
-use Rattle.server_binding.proofs.Acknowledged as acked
+use Rattle.answer_laws.proofs.Servers.Acknowledged as acked
 use Rattle.world.proofs.Alike.{closed_answers, closed_asks, request_by, told_alike}
 use Rattle.world.proofs.Binding as binding
 use Rattle.world.proofs.Hashed.{encoding_among, share_among}

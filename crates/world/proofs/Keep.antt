@@ -29,7 +29,7 @@ use Rattle.world_operations.proofs.Positions.{get_below, member_flat_cases, memb
 use Rattle.world.specs.State.{WorldState, shelved}
 use Rattle.world.specs.Consistent.{IsConsistent}
 use Rattle.world.specs.Headline.{AcknowledgedKeep, HappyIsAcknowledged, HasNoClash, HonestKeep, IsAcknowledgement, IsHashed, IsUploadOf, Keeps, goal}
-use Rattle.server_binding.proofs.Acknowledged as acked
+use Rattle.answer_laws.proofs.Servers.Acknowledged as acked
 use Rattle.world.proofs.Happy.{Up, for_upload, happy_is_matched}
 use Rattle.world.proofs.Hashed.{encoding_among, share_among}
 use Rattle.world.proofs.Told.{acknowledgement_told}

@@ -16,8 +16,8 @@ use Rattle.server_core.proofs.Keeps.{messages_keep, restarts_keep, starts_sound,
 use Rattle.server_core.proofs.Over.{serves_over}
 use Rattle.share_store.specs.Calls.{shelf_calls}
 use Rattle.share_store.specs.MemoryKeeps.{memory_keeps}
-use Rattle.enough_binding.specs.Servers.{TellsAll}
-use Rattle.enough_binding.proofs.Servers.{servers_tell_all}
+use Rattle.answer_laws.specs.Enough.Servers.{TellsAll}
+use Rattle.answer_laws.proofs.Enough.Servers.{servers_tell_all}
 use Rattle.world_operations.specs.declared.job.Job.{Job}
 use Rattle.world_operations.specs.declared.message.Sent.{Sent}
 use Rattle.world_operations.specs.declared.operation.Operation.{Operation}

@@ -53,7 +53,7 @@ use Rattle.world.specs.Headline.{Keeps}
 use Rattle.world.specs.Repaired.{IsRepairOf}
 use Rattle.world.specs.Repairs.{AreTrustedRepairs, HasNoClashInAll, IsHashedInAll, KeepsMade, RepairsAreAcknowledged, RepairsAreMatched, RepairsKeep, RepairsMakeOwn, repaired}
 use Rattle.world.specs.Repairs.{told as hashed_too}
-use Rattle.server_binding.proofs.Acknowledged as acked
+use Rattle.answer_laws.proofs.Servers.Acknowledged as acked
 use Rattle.world.proofs.Happy.{Up}
 use Rattle.world.proofs.Hashed.{encoding_among, share_among}
 use Rattle.world.proofs.Contradicting.{repairs_never_contradict}

@@ -14,7 +14,7 @@ use Rattle.download_file.specs.Answers.{HasRightBlock, block_of}
 use Rattle.download_file.specs.State.{IsReader, ReaderState}
 use Rattle.download_core.specs.State.{DownloadState, Found}
 use Rattle.download_core.specs.declared.status.DownloadStatus.TheVariants.{Inconsistent}
-use Rattle.download_binding.specs.Answers.{AnsweredOther}
+use Rattle.answer_laws.specs.Downloads.Answers.{AnsweredOther}
 use Rattle.download_shares.specs.declared.holding.Blame.{Blame}
 use Rattle.share_reading.specs.Verdict.{IsGood}
 use Rattle.wire.specs.declared.message.Body.TheVariants.{Data}

@@ -19,9 +19,9 @@ use Rattle.checker.specs.Report.{IsReport}
 use Rattle.checker.specs.State.{CheckState}
 use Rattle.checker.specs.declared.status.CheckStatus.TheVariants.{Done}
 use Rattle.checker.specs.declared.status.Report.{Report}
-use Rattle.enough_binding.specs.Answers.{WasLost}
-use Rattle.enough_binding.specs.Checks.{good}
-use Rattle.enough_binding.specs.Downloads.{WasLostOf}
+use Rattle.answer_laws.specs.Enough.Answers.{WasLost}
+use Rattle.answer_laws.specs.Enough.Checks.{good}
+use Rattle.answer_laws.specs.Enough.Downloads.{WasLostOf}
 use Rattle.world_operations.specs.declared.message.Sent.{Sent}
 use Rattle.world.specs.Headline.{goal}
 use Rattle.world.specs.Started.{IsCheckOf, IsDownloadOf, IsStarted}

@@ -6,7 +6,7 @@ use Rattle.share_store.specs.Memory.{MemoryState}
 use Rattle.share_store.specs.Shelf.{Shelf}
 use Rattle.server_core.specs.ServerState.{ServerState}
 use Rattle.server_core.specs.Sound.{ClosedStay, IsAnswer, is_request}
-use Rattle.enough_binding.specs.Servers.{TellsAll}
+use Rattle.answer_laws.specs.Enough.Servers.{TellsAll}
 use Rattle.world_operations.specs.declared.message.Sent.{Sent}
 use Rattle.world_operations.specs.declared.operation.Operation.{Operation}
 use Rattle.world.specs.State.{shelved}

@@ -12,8 +12,8 @@ use Rattle.file_upload.specs.Prepared.{goal_of, prepared_of}
 use Rattle.streamed_upload.specs.Ready.{goal_of as kept_goal}
 use Rattle.streamed_upload.proofs.OneGoal.{goals_are_one}
 use Rattle.upload_core.specs.Sending.{Uploading as Uploading_state}
-use Rattle.all_asked.proofs.Checks.{checks_ask_all}
-use Rattle.all_asked.proofs.Downloads.{downloads_ask_all}
+use Rattle.answer_laws.proofs.Asking.Checks.{checks_ask_all}
+use Rattle.answer_laws.proofs.Asking.Downloads.{downloads_ask_all}
 use Rattle.request_record.specs.Asking.{asks_of, begun, fresh}
 use Rattle.request_record.specs.Record.{RequestsState}
 use Rattle.file_encoding.proofs.RemadePassing.{regenerated_pass}

@@ -44,12 +44,12 @@ use Rattle.world_operations.specs.Moves.{Calls, Takes, TakesPiece}
 use Rattle.world_operations.specs.UploadPieces.{fails, gives}
 use Rattle.world_operations.specs.declared.upload_pieces.UploadPieces.{UploadPieces}
 use Rattle.world_operations.specs.declared.upload_pieces.UploadPieces.TheVariants.{Whole, Streamed}
-use Rattle.all_asked.specs.Checks.{CheckAsksAll}
-use Rattle.all_asked.specs.Downloads.{DownloadAsksAll}
-use Rattle.all_asked.specs.Asked.{AsksAll}
-use Rattle.all_asked.proofs.Checks.{checks_ask_all}
-use Rattle.all_asked.proofs.Records.{asked_after_asks, asked_after_message}
-use Rattle.all_asked.proofs.Downloads.{downloads_ask_all}
+use Rattle.answer_laws.specs.Asking.Checks.{CheckAsksAll}
+use Rattle.answer_laws.specs.Asking.Downloads.{DownloadAsksAll}
+use Rattle.answer_laws.specs.Asking.Asked.{AsksAll}
+use Rattle.answer_laws.proofs.Asking.Checks.{checks_ask_all}
+use Rattle.answer_laws.proofs.Asking.Records.{asked_after_asks, asked_after_message}
+use Rattle.answer_laws.proofs.Asking.Downloads.{downloads_ask_all}
 use Rattle.request_record.specs.Follow.{Follows, IsSaid, Nothing, Said}
 use Rattle.world_operations.specs.Follow.{GoesOn}
 use Rattle.world_operations.proofs.Positions.{append_none}

@@ -1,7 +1,7 @@
 -- Whether an operation asked servers which shares they hold.
 use Rattle.std.specs.Prelude.{ℕ, List, ⊤}
-use Rattle.all_asked.specs.Checks.{CheckAsksAll}
-use Rattle.all_asked.specs.Downloads.{DownloadAsksAll}
+use Rattle.answer_laws.specs.Asking.Checks.{CheckAsksAll}
+use Rattle.answer_laws.specs.Asking.Downloads.{DownloadAsksAll}
 use Rattle.world_operations.specs.declared.task.Task.{Task}
 use Rattle.world_operations.specs.declared.task.Task.TheVariants.{Uploading, Downloading}
 use Rattle.world_operations.specs.declared.task.Task.TheVariants.{Checking, Gone}

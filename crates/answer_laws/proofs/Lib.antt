@@ -1,0 +1,5 @@
+pub mod Servers
+pub mod Downloads
+pub mod Checks
+pub mod Asking
+pub mod Enough

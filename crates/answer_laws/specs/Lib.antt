@@ -1,0 +1,6 @@
+-- what public contracts rest on
+pub mod Servers
+pub mod Downloads
+pub mod Checks
+pub mod Asking
+pub mod Enough
