@@ -6,12 +6,12 @@ ghost use Rattle.std.specs.Int.{div_ceil};
 ghost use Rattle.sha2_lanes.specs.Lanes.{text};
 ghost use Rattle.tagged_hash.specs.TaggedHash.{share_digest, tagged_hash};
 ghost use Rattle.tagged_hash.specs.declared.tag.Tag.TheVariants.{Ciphertext};
-ghost use Rattle.share_digests.specs.Wholes.{AreGiven, IsGivenAt};
+ghost use Rattle.share_digests.specs.Wholes.{AreGiven};
 ghost use Rattle.file_encoding.specs.Digests.{beginning_of, begun_bytes};
 
 use crate::draft::Begun;
 use crate::share::Share;
-use share_digests::WholeHashers;
+use share_digests::{Endings, WholeHashers, finish_digests};
 use std::alloc::{AllocError, Global};
 use tagged_hash::{Tag, TaggedHasher};
 
@@ -79,8 +79,25 @@ fn draft_bytes(begun: &[Begun], number: usize) -> &[u8]
     begun[number.min(begun.len() - 1)].draft.bytes()
 }
 
+// Shares, of which so many bytes were given to their hashers.
+#[derive(Clone, Copy)]
+struct ShareEndings<'a> {
+    shares: &'a [Share],
+    given: usize,
+}
+
+impl<'a> Endings for ShareEndings<'a> {
+    ghost count = { λ e. length e.shares.now };
+
+    ghost ending = { λ e i. drop e.given (slice_index_or e.shares.now i []) };
+
+    fn give(&self, first: usize, whole: &mut WholeHashers) {
+        whole.update(&eight_endings(self.shares, self.given, first));
+    }
+}
+
 /// The digests of shares, whose hashers were given so many bytes of each.
-pub(crate) fn finish_digests(
+pub(crate) fn digests_of(
     alloc: Global,
     shares: &[Share],
     given: usize,
@@ -90,30 +107,8 @@ pub(crate) fn finish_digests(
     requires given { AreGiven (length shares.now) (beginning_of shares.now given) wholes.items }
     ensures { IfOk result (λ digests. digests.items ≡ map share_digest shares.now) }
 {
-    let mut digests = Vec::with_capacity(alloc, shares.len())?;
-    for whole in wholes {
-        let first = digests.len();
-        let seven = finish_seven(shares, given, whole, first);
-        digests.extend_from_slice(&seven[..(shares.len() - first).min(7)])?;
-    }
-    Ok(digests)
-}
-
-// The digests of seven shares from a number on, whose hashers were given so many bytes of each.
-fn finish_seven(
-    shares: &[Share],
-    given: usize,
-    mut whole: WholeHashers,
-    first: usize,
-) -> [[u8; 32]; 7]
-    requires { first < length shares.now }
-    ensures { (j : ℕ) → j < 7 → first + j < length shares.now
-        → IsGivenAt whole j (beginning_of shares.now given (first + j))
-        → slice_index_or result j []
-        ≡ share_digest (slice_index_or shares.now (first + j) []) }
-{
-    whole.update(&eight_endings(shares, given, first));
-    whole.finish()
+    let endings = ShareEndings { shares, given };
+    finish_digests(alloc, &endings, shares.len(), wholes)
 }
 
 // What stands behind so many bytes in eight shares from a number on, and in the last in place of

@@ -23,7 +23,7 @@ ghost use Rattle.file_encoding.specs.Blocks.{draft_of, padded_blocks};
 ghost use Rattle.file_encoding.specs.Params.{HasTooManySegments, IsEncodable, parameters_of};
 
 use crate::blocks::Segments;
-use crate::digests::{HashedBeside, finish_digests, hash_beside};
+use crate::digests::{HashedBeside, digests_of, hash_beside};
 use crate::draft::Begun;
 use crate::error::EncodeError;
 use crate::params::Params;
@@ -219,7 +219,7 @@ fn finish_ciphertext(
     )?;
     let shares = finish_shares(alloc, begun.shares, &share_tree, &extension_block)?;
     let given = Offsets::of(geometry).share_hashes as usize;
-    let digests = finish_digests(alloc, &shares, given, begun.hashed.wholes)?;
+    let digests = digests_of(alloc, &shares, given, begun.hashed.wholes)?;
     let cap = file_cap(geometry, key, tagged(Tag::ExtensionBlock, &extension_block));
     Ok(Encoded {
         cap: Cap::Chk(cap),

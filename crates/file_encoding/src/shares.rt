@@ -94,7 +94,7 @@ impl<'a> Common<'a> {
             block.len(),
             &mut hashes,
         );
-        Tree::build(alloc, &hashes)
+        self.ciphertext_tree.build_beside(alloc, &hashes)
     }
 
     // Writes a share's block of a padded segment.

@@ -1,89 +1,24 @@
-use Rattle.std.proofs.Common.{◌≡◌, ℕ, ◌+◌, ◌-◌, ◌*◌, ◌<◌, ◌≤◌, List, [], ◌∷◌, ◌++◌, length, map, min, take, slice_index_or, ext_get_or, Some, inl, inr, refl, ap, sym, subst, ◌∙◌, arith}
-use Rattle.std.specs.Prelude.{slice_get}
-use Rattle.std.proofs.lemmas.Bool.{cases_lt}
-use Rattle.std.proofs.lemmas.Grind.{div_ceil_times}
-use Rattle.std.proofs.lemmas.Iterator.Adapters.{YieldsList-from_vec}
-use Rattle.std.proofs.lemmas.Iterator.Consumers.{YieldsList-end, YieldsList-turn}
-use Rattle.std.proofs.lemmas.List.{get_or-append_right, get_or-map, get_or-take, get_or_append_left, length-append, length-map, length-take-le, length_push}
-use Rattle.lemmas.proofs.Positions.{got}
+use Rattle.std.proofs.Common.{◌≡◌, ℕ, ◌++◌, ◌<◌, List, [], drop, length, map, slice_index_or, ext_get_or, ap, sym, ◌∙◌, arith, zero-add}
+use Rattle.std.proofs.lemmas.List.{get_or-map, length-map, take-append-drop}
+use Rattle.std.proofs.lemmas.List.FromFn.{get_or-map-range_with_len, length-map-range_with_len}
+use Rattle.std.proofs.lemmas.Result.{IfOk-weaker}
+use Rattle.std.specs.List.{range_with_len}
 use Rattle.tagged_hash.specs.TaggedHash.{share_digest}
-use Rattle.share_digests.specs.Wholes.{IsGivenAt}
-use Rattle.share_digests.specs.declared.wholes.WholeHashers.{WholeHashers}
 use Rattle.file_encoding.specs.Digests.{beginning_of}
-use Rattle.file_encoding.proofs.digests.finish_digests.Goals as goal
+use Rattle.file_encoding.proofs.digests.digests_of.Goals as goal
 
--- some digests more, or those that are left
-more-at : (f : ℕ → List ℕ) (digests some : List (List ℕ)) (n : ℕ) → n ≤ length some
-    → ((i : ℕ) → i < length digests → slice_index_or digests i [] ≡ f i)
-    → ((j : ℕ) → j < n → slice_index_or some j [] ≡ f (length digests + j))
-    → (i : ℕ) → i < length (digests ++ take n some) → slice_index_or (digests ++ take n some) i [] ≡ f i
-more-at f digests some n fits made new i low =
-    let long = length-append digests (take n some) in
-    let part = length-take-le n some fits in
-    elim (cases_lt i (length digests)) [
-      | inl before ↦ get_or_append_left digests (take n some) [] i before ∙ made i before
-      | inr after ↦ (let j : ℕ = i - length digests in
-          let below : j < n = omega (arith, after, low, long, part) in
-          let here : length digests + j ≡ i = omega (arith, after) in
-          get_or-append_right digests (take n some) (length digests) i [] refl after ∙ get_or-take n some j [] below ∙ new j below ∙ ap f here)
-    ]
-
--- the next seven hashers, and how many digests there are
-pub finish_seven-seven-requires : goal.finish_seven-seven-requires
-finish_seven-seven-requires c =
-    let wholes : List WholeHashers = c.args.wholes.items in
-    let gone : List WholeHashers = c.loop-whole.yielded in
-    let total : ℕ = length c.args.shares.now in
-    let gives = c.into_iter-whole-iterator.ensures.into_iter_gives in
-    let turn = YieldsList-turn (YieldsList-from_vec {s = c.into_iter-whole-iterator.result} wholes gives.0 (omega (arith, gives.1, c.args.wholes.ok.0))) gone c.loop-whole.whole-iterator c.loop-whole.yielded_by c.next.result c.next.new.self c.in-Some.whole c.in-Some.is c.next.ensures.steps in
-    let groups = div_ceil_times total 7 (omega arith) in
-    let left : 7 * length gone < total = omega (arith, turn.0, c.requires.groups, groups.1) in
-    omega (arith, c.loop-whole.invariant.count, left, c.len-first.ensures, c.loop-whole.digests.ok.0)
-
-pub loop-whole-preserved : goal.loop-whole-preserved
-loop-whole-preserved c =
-    let wholes : List WholeHashers = c.args.wholes.items in
-    let gone : List WholeHashers = c.loop-whole.yielded in
-    let shares : List (List ℕ) = c.args.shares.now in
-    let total : ℕ = length shares in
-    let digests : List (List ℕ) = c.loop-whole.digests.items in
-    let gives = c.into_iter-whole-iterator.ensures.into_iter_gives in
-    let turn = YieldsList-turn (YieldsList-from_vec {s = c.into_iter-whole-iterator.result} wholes gives.0 (omega (arith, gives.1, c.args.wholes.ok.0))) gone c.loop-whole.whole-iterator c.loop-whole.yielded_by c.next.result c.next.new.self c.in-Some.whole c.in-Some.is c.next.ensures.steps in
-    let here : slice_get wholes (length gone) ≡ Some c.in-Some.whole = got wholes (length gone) c.in-Some.whole turn.0 turn.1 in
-    let groups = div_ceil_times total 7 (omega arith) in
-    let left : 7 * length gone < total = omega (arith, turn.0, c.requires.groups, groups.1) in
-    let first : length digests ≡ 7 * length gone = omega (arith, c.loop-whole.invariant.count, left) in
-    let number : c.len-first.result ≡ length digests = omega (arith, c.len-first.ensures, c.loop-whole.digests.ok.0) in
-    let one : length (gone ++ c.in-Some.whole ∷ []) ≡ length gone + 1 = length_push gone c.in-Some.whole in
-    let some : List (List ℕ) = c.finish_seven-seven.result in
-    let n : ℕ = c.min.result in
-    let fits : n ≤ length some = omega (arith, c.min.ensures) in
-    let items = c.in_ok-extend_from_slice.ensures.items in
-    let many : n ≡ min (total - length digests) 7 = omega (arith, c.min.ensures, number) in
-    let f : ℕ → List ℕ = λ i. share_digest (slice_index_or shares i []) in
-    record {
-      count = omega (arith, ap length items, length-append digests (take n some), length-take-le n some fits, many, first, one, left);
-      made =
-          subst (λ (l : List (List ℕ)). (i : ℕ) → i < length l → slice_index_or l i [] ≡ f i) (sym items)
-          (more-at f digests some n fits c.loop-whole.invariant.made
-          (λ j below.
-          let low : j < 7 = omega (arith, below, many) in
-          let within : 7 * length gone + j < total = omega (arith, below, many, first, left) in
-          let same : 7 * length gone + j ≡ c.len-first.result + j = omega (arith, first, number) in
-          c.finish_seven-seven.ensures j low (omega (arith, within, same))
-          (subst (λ i. IsGivenAt c.in-Some.whole j (beginning_of shares c.args.given i)) same (c.requires.given (length gone) j c.in-Some.whole low within here))
-          ∙ ap f (omega (arith, number))));
-    }
+-- the digests, share by share
+each_whole : (shares : List (List ℕ)) (given : ℕ)
+    → map (λ i. share_digest (beginning_of shares given i ++ drop given (slice_index_or shares i []))) (range_with_len 0 (length shares)) ≡ map share_digest shares
+each_whole shares given =
+    let f : ℕ → List ℕ = λ i. share_digest (beginning_of shares given i ++ drop given (slice_index_or shares i [])) in
+    let n : ℕ = length shares in
+    ext_get_or [] (map f (range_with_len 0 n)) (map share_digest shares) (length-map-range_with_len f 0 n ∙ sym (length-map shares share_digest)) (λ i below.
+    let low : i < n = omega (arith, below, length-map-range_with_len f 0 n) in
+    get_or-map-range_with_len f 0 n i i [] low (zero-add i) ∙ ap share_digest (take-append-drop given (slice_index_or shares i []))
+    ∙ sym (get_or-map share_digest shares i [] [] low))
 
 pub returns : goal.returns
 returns c =
-    let wholes : List WholeHashers = c.args.wholes.items in
-    let shares : List (List ℕ) = c.args.shares.now in
-    let total : ℕ = length shares in
-    let digests : List (List ℕ) = c.loop-whole.digests.items in
-    let gives = c.into_iter-whole-iterator.ensures.into_iter_gives in
-    let end = YieldsList-end (YieldsList-from_vec {s = c.into_iter-whole-iterator.result} wholes gives.0 (omega (arith, gives.1, c.args.wholes.ok.0))) c.loop-whole.yielded c.loop-whole.whole-iterator c.loop-whole.yielded_by c.next.result c.next.new.self c.in-None.is c.next.ensures.steps in
-    let groups = div_ceil_times total 7 (omega arith) in
-    let all : length digests ≡ total = omega (arith, c.loop-whole.invariant.count, end.1, c.requires.groups, groups.0) in
-    ext_get_or [] digests (map share_digest shares) (all ∙ sym (length-map shares share_digest))
-    (λ i low. c.loop-whole.invariant.made i low ∙ sym (get_or-map share_digest shares i [] [] (omega (arith, low, all))))
+    IfOk-weaker c.finish_digests.result _ _ (λ digests is. is ∙ each_whole c.args.shares.now c.args.given)
+    (c.finish_digests.ensures (beginning_of c.args.shares.now c.args.given) c.requires.given)

@@ -88,8 +88,8 @@ module _ (g : Geometry) (text : List ℕ) (begun : BegunFile) (is : IsBegun g te
         share_root_hash = leads i;
       })
 
-pub finish_digests-requires : goal.finish_digests-requires
-finish_digests-requires c =
+pub digests_of-requires : goal.digests_of-requires
+digests_of-requires c =
     let g : Geometry = c.args.geometry.now in
     let text : List ℕ = c.requires.begun.0 in
     let is : IsBegun g text c.args.begun = c.requires.begun.1 in

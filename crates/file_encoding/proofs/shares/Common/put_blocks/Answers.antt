@@ -128,17 +128,17 @@ loop-number-preserved c =
 
 pub returns-clause-blocks : goal.returns-clause-blocks
 returns-clause-blocks c =
-    IfOk-weaker c.build.result _ _
+    IfOk-weaker c.build_beside.result _ _
     (λ tree is.
     (done c.args.self.now.geometry.now c.args.self.now.padded.now c.args.draft.now c.loop-number.draft c.loop-number.number
-    c.of-segments.ensures.valid c.args.self.now.fit.padded c.requires.next c.loop-number.invariant (omega (arith, c.loop-number-test.false, c.of-segments.ensures.count))).draft) c.build.ensures
+    c.of-segments.ensures.valid c.args.self.now.fit.padded c.requires.next c.loop-number.invariant (omega (arith, c.loop-number-test.false, c.of-segments.ensures.count))).draft) c.build_beside.ensures
 
 pub returns-clause-size : goal.returns-clause-size
 returns-clause-size c =
-    IfOk-weaker c.build.result _ _
+    IfOk-weaker c.build_beside.result _ _
     (λ tree is.
     (done c.args.self.now.geometry.now c.args.self.now.padded.now c.args.draft.now c.loop-number.draft c.loop-number.number
-    c.of-segments.ensures.valid c.args.self.now.fit.padded c.requires.next c.loop-number.invariant (omega (arith, c.loop-number-test.false, c.of-segments.ensures.count))).size) c.build.ensures
+    c.of-segments.ensures.valid c.args.self.now.fit.padded c.requires.next c.loop-number.invariant (omega (arith, c.loop-number-test.false, c.of-segments.ensures.count))).size) c.build_beside.ensures
 
 -- what stands behind a first part
 behind : (all before front rest : List ℕ) → before ≡ front → all ≡ front ++ rest
@@ -152,7 +152,7 @@ behind all before front rest same is =
 
 pub returns-clause-tree : goal.returns-clause-tree
 returns-clause-tree c =
-    IfOk-weaker c.build.result _ _
+    IfOk-weaker c.build_beside.result _ _
     (λ tree is.
     let g : Geometry = c.args.self.now.geometry.now in
     let text : List ℕ = c.args.self.now.padded.now in
@@ -167,4 +167,4 @@ returns-clause-tree c =
     is ∙ c.deref.ensures.value ∙ take_at hashes _ c.in_ok-hashes.hashes.len (omega (arith, c.in_ok-hashes.ensures.len))
     ∙ values_of_pieces (tagged_hash Block) (segment_count g) (length c.loop-number.block) _ hashes many (λ i below. c.tagged_pieces.ensures i (omega (arith, below)))
     ∙ (λ p. map (tagged_hash Block) (pieces (segment_count g) (size p) (raw p)))
-    ∙ ap block_hashes (padded_blocks-again g draft.number text c.of-segments.ensures.valid c.args.self.now.fit.padded)) c.build.ensures
+    ∙ ap block_hashes (padded_blocks-again g draft.number text c.of-segments.ensures.valid c.args.self.now.fit.padded)) c.build_beside.ensures
