@@ -10,7 +10,7 @@ use Rattle.server_core.specs.declared.bucket.Bucket.{Bucket}
 use Rattle.server_core.specs.declared.error.ServerFault.TheVariants.{OutOfMemory}
 use Rattle.server_core.specs.ServerState.{ServerState, Outcome, Serves, Ticks}
 use Rattle.local_grid.specs.Nodes.{Carries, Exchanges, IsLeftUnanswered, IsMet, NodeState, StopsShort, client_node, ticked, ticked_node, ticked_server, with_link}
-use Rattle.local_grid.specs.Turns.{Asks, AsksAt, GridState, Stops, StopsAt, later, passed}
+use Rattle.local_grid.specs.Turns.{Asks, AsksAt, GridState, Stops, StopsAt, passed_to}
 
 module _ {S L : Type 0} (calls : Calls S) (carries : Carries L) where
   -- a node that is not silent
@@ -107,10 +107,9 @@ silent_ticked {S = S} {L = L} now old silent =
     let after : NodeState S L = record { server = ticked_server now old.server; link = old.link; silent = old.silent } in
     subst (λ (b : Bool). old ≡ cond b old after) (sym silent) refl
 
--- the grid five seconds later
-pub all_pass : {S L : Type 0} (before old : GridState S L) (items nodes : List (Option (NodeState S L))) (clock : ℕ) → before ≡ old → clock ≡ later before.clock
-    → items ≡ before.nodes → nodes ≡ map (ticked clock) items → record { nodes = nodes; clock = clock } ≡ passed old
-all_pass {S = S} {L = L} before old items nodes clock same time first after =
-    ap (λ (x : List (Option (NodeState S L))). record { nodes = x; clock = clock }) (after ∙ ap (map (ticked clock)) first)
-    ∙ ap (λ (x : ℕ). record { nodes = map (ticked x) before.nodes; clock = x }) time
-    ∙ ap passed same
+-- the grid at a second
+pub all_pass : {S L : Type 0} (before old : GridState S L) (items nodes : List (Option (NodeState S L))) (now : ℕ) → before ≡ old
+    → items ≡ before.nodes → nodes ≡ map (ticked now) items → record { nodes = nodes; clock = now } ≡ passed_to now old
+all_pass {S = S} {L = L} before old items nodes now same first after =
+    ap (λ (x : List (Option (NodeState S L))). record { nodes = x; clock = now }) (after ∙ ap (map (ticked now)) first)
+    ∙ ap (passed_to now) same

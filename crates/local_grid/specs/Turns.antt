@@ -15,13 +15,13 @@ pub record GridState (S L : Type 0) : Type 0 where
 abbrev pub later : ℕ → ℕ
 later now = min (now + 5) (2 ^ 64 - 1)
 
--- the grid five seconds later, of which the nodes take note
+-- the grid at a second, of which the nodes take note
+abbrev pub passed_to : {S L : Type 0} → ℕ → GridState S L → GridState S L
+passed_to now grid = record { nodes = map (ticked now) grid.nodes; clock = now }
+
+-- and five seconds later
 abbrev pub passed : {S L : Type 0} → GridState S L → GridState S L
-passed grid =
-    record {
-      nodes = map (ticked (later grid.clock)) grid.nodes;
-      clock = later grid.clock;
-    }
+passed grid = passed_to (later grid.clock) grid
 
 -- A message to a node. From one that is missing nothing comes.
 abbrev pub AsksAt : {S L : Type 0} → Calls S → Carries L → GridState S L → ℕ

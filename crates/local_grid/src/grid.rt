@@ -4,7 +4,7 @@ ghost use Rattle.std.specs.Prelude.{◌≡◌, ◌≤◌, ◌⊎◌, Some, None,
 ghost use Rattle.std.specs.Prelude.{IfOk, OnOk, OnErr, IsErrOf};
 ghost use Rattle.local_grid.specs.Nodes.{ticked};
 ghost use Rattle.local_grid.specs.Turns.{Asks, Finishes, GoesOn, GoesPast, IsCutShort, RunsOut};
-ghost use Rattle.local_grid.specs.Turns.{Stops, StopsAfter, Turns, passed};
+ghost use Rattle.local_grid.specs.Turns.{Stops, StopsAfter, Turns, passed, passed_to};
 ghost use Rattle.local_grid.specs.declared.error.LoopError.{LoopError};
 
 use crate::error::LoopError;
@@ -174,11 +174,27 @@ impl<S: Store, L: Link> LocalGrid<S, L> {
             (record { operation = operation.new; grid = self.new })) }
         ensures clock { self.new.clock ≡ self.old.clock }
     {
-        self.hash_waiting(node, message);
-        match self.ask(node, message)? {
+        match self.exchange(node, message)? {
             Some(answer) => operation.on_message(node, answer, self.clock),
             None => Ok(()),
         }
+    }
+
+    /// Carries a message to its node, and gives what comes back. It is what a turn of `run` does
+    /// with a message, for a loop that has other servers beside these.
+    pub fn exchange(
+        &mut self,
+        node: NodeId,
+        message: &Message,
+    ) -> Result<Option<Message>, AllocError>
+        ensures ok { IfOk result
+            (λ answer. Asks S.calls L.carries self.old node message.now answer self.new) }
+        ensures err { OnErr result
+            (Stops S.calls L.carries L.gives_up self.old node message.now self.new) }
+        ensures clock { self.new.clock ≡ self.old.clock }
+    {
+        self.hash_waiting(node, message);
+        self.ask(node, message)
     }
 
     // Before a server is given a piece more, what waits there is hashed beside what waits at other
@@ -208,7 +224,14 @@ impl<S: Store, L: Link> LocalGrid<S, L> {
         ensures passed { self.new ≡ passed self.old }
         ensures clock { self.old.clock ≤ self.new.clock }
     {
-        self.clock = self.clock.saturating_add(STEP);
+        self.pass_to(self.clock.saturating_add(STEP));
+    }
+
+    /// It is this second, of which the nodes take note.
+    pub fn pass_to(&mut self, now: u64)
+        ensures { self.new ≡ passed_to now self.old }
+    {
+        self.clock = now;
         tick_each(&mut self.nodes, self.clock);
     }
 
