@@ -1,5 +1,0 @@
-use Rattle.answer_laws.proofs.Asking.Checks.{checks_ask_all}
-use Rattle.answer_laws.proofs.asking.checks_ask_all.Goals as goal
-
-pub returns : goal.returns
-returns c = checks_ask_all

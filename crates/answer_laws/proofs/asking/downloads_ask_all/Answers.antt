@@ -1,5 +1,0 @@
-use Rattle.answer_laws.proofs.Asking.Downloads.{downloads_ask_all}
-use Rattle.answer_laws.proofs.asking.downloads_ask_all.Goals as goal
-
-pub returns : goal.returns
-returns c = downloads_ask_all

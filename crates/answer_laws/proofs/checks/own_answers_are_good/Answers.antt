@@ -1,5 +1,0 @@
-use Rattle.answer_laws.proofs.Checks.ReportLemmas.{own_answers_are_good}
-use Rattle.answer_laws.proofs.checks.own_answers_are_good.Goals as goal
-
-pub returns : goal.returns
-returns c = own_answers_are_good

@@ -1,5 +1,0 @@
-use Rattle.answer_laws.proofs.Checks.VerdictLemmas.{own_reads_are_good}
-use Rattle.answer_laws.proofs.checks.own_reads_are_good.Goals as goal
-
-pub returns : goal.returns
-returns c = own_reads_are_good

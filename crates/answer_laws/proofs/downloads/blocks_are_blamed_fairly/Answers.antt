@@ -1,5 +1,0 @@
-use Rattle.answer_laws.proofs.Downloads.FairBlame.{blocks_are_blamed_fairly}
-use Rattle.answer_laws.proofs.downloads.blocks_are_blamed_fairly.Goals as goal
-
-pub returns : goal.returns
-returns c = blocks_are_blamed_fairly

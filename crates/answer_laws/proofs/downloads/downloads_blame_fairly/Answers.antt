@@ -1,5 +1,0 @@
-use Rattle.answer_laws.proofs.Downloads.Downloads.{downloads_blame_fairly}
-use Rattle.answer_laws.proofs.downloads.downloads_blame_fairly.Goals as goal
-
-pub returns : goal.returns
-returns c = downloads_blame_fairly

@@ -1,5 +1,0 @@
-use Rattle.answer_laws.proofs.Downloads.EncodedShares.{encoded_shares_serve_all}
-use Rattle.answer_laws.proofs.downloads.encoded_shares_serve.Goals as goal
-
-pub returns : goal.returns
-returns c = encoded_shares_serve_all

@@ -1,5 +1,0 @@
-use Rattle.answer_laws.proofs.Downloads.AnswerLemmas.{own_beginnings_go_on}
-use Rattle.answer_laws.proofs.downloads.own_beginnings_go_on.Goals as goal
-
-pub returns : goal.returns
-returns c = own_beginnings_go_on

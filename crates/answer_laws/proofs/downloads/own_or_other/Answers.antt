@@ -1,5 +1,0 @@
-use Rattle.answer_laws.proofs.Downloads.AnswerLemmas.{own_or_other}
-use Rattle.answer_laws.proofs.downloads.own_or_other.Goals as goal
-
-pub returns : goal.returns
-returns c = own_or_other

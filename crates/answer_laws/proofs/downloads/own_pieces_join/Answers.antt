@@ -1,5 +1,0 @@
-use Rattle.answer_laws.proofs.Downloads.OwnBlock.{own_pieces_join}
-use Rattle.answer_laws.proofs.downloads.own_pieces_join.Goals as goal
-
-pub returns : goal.returns
-returns c = own_pieces_join

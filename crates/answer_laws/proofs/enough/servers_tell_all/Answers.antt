@@ -1,5 +1,0 @@
-use Rattle.answer_laws.proofs.Enough.Servers.{servers_tell_all}
-use Rattle.answer_laws.proofs.enough.servers_tell_all.Goals as goal
-
-pub returns : goal.returns
-returns c = servers_tell_all

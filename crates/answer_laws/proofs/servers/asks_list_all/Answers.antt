@@ -1,5 +1,0 @@
-use Rattle.answer_laws.proofs.Servers.Telling.{asks_list_all}
-use Rattle.answer_laws.proofs.servers.asks_list_all.Goals as goal
-
-pub returns : goal.returns
-returns c = asks_list_all

@@ -1,5 +1,0 @@
-use Rattle.answer_laws.proofs.Servers.Telling.{reads_bring_closed}
-use Rattle.answer_laws.proofs.servers.reads_bring_closed.Goals as goal
-
-pub returns : goal.returns
-returns c = reads_bring_closed

@@ -1,5 +1,0 @@
-use Rattle.answer_laws.proofs.Servers.Again.{told_is_told_again}
-use Rattle.answer_laws.proofs.servers.told_is_told_again.Goals as goal
-
-pub returns : goal.returns
-returns c = told_is_told_again
