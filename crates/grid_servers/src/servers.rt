@@ -1,11 +1,11 @@
 //! The servers of a grid, each over its own folder.
 
 ghost use Rattle.std.specs.Prelude.{◌≡◌, ◌<◌, ℕ, [], None, get_or, length, nat_eq, IfOk, IfSome};
-ghost use Rattle.std.specs.Prelude.{OnOk};
+ghost use Rattle.std.specs.Prelude.{OnOk, Some};
 ghost use Rattle.std.specs.List.{IsDistinct};
 ghost use Rattle.share_folders.specs.Names.{in_folder};
 ghost use Rattle.grid_faults.specs.Servers.{server_name};
-ghost use Rattle.grid_servers.specs.Opened.{AllStand, AreOpened};
+ghost use Rattle.grid_servers.specs.Opened.{AllStand, AreOpened, StandsAt};
 ghost use Rattle.grid_servers.specs.Servers.{servers_without};
 
 use grid_faults::{Fault, first_servers, is_memory, told_path};
@@ -254,7 +254,7 @@ where
 }
 
 // Puts a server with its link at its number. One whose folder cannot be made or read is silent.
-#[tactic(auto, using(crate::proofs::Standing::set_stand, crate::proofs::Standing::still_stand))]
+#[tactic(auto, using(crate::proofs::Standing::still_stand))]
 fn add_node<R>(
     rt: &R,
     opening: &Opening<'_>,
@@ -269,9 +269,26 @@ where
 {
     make_room(nodes, server)?;
     if let Some(opened) = open_server(rt, opening, server)? {
-        nodes[usize::from(server)] = Some(Node::new(opened, link));
+        set_node(opening, server, Node::new(opened, link), nodes);
     }
     Ok(())
+}
+
+// Puts a server at its number, where there is room.
+#[tactic(auto, using(crate::proofs::Standing::set_stand))]
+fn set_node<R>(
+    opening: &Opening<'_>,
+    server: NodeId,
+    node: ServerNode<R>,
+    nodes: &mut Vec<Option<ServerNode<R>>>,
+) where
+    R: Files + Net + RandomSource + AllocGlobal + Clone + Drop,
+    requires room { server < length nodes.old.items }
+    requires here { StandsAt opening.now.grid.now server (Some node) }
+    requires others { AllStand opening.now.grid.now nodes.old.items }
+    ensures { AllStand opening.now.grid.now nodes.new.items }
+{
+    nodes[usize::from(server)] = Some(node);
 }
 
 // So many links.
