@@ -8,7 +8,7 @@ ghost use Rattle.file_remaking.specs.Remaking.{HasOtherRoot, IsRemadeFinished, I
 
 use crate::error::RemakeError;
 use crate::remaking::Remaking;
-use share_gathering::{Behind, Finished, build_trees, finish_digests, write_all_hashes};
+use share_gathering::{Behind, Finished, build_trees, digests_of, write_all_hashes};
 use share_layout::Geometry;
 use std::alloc::Global;
 use ueb::Ueb;
@@ -53,6 +53,6 @@ pub(crate) fn finish_remade(
         share_hashes,
         extension_block,
     };
-    let digests = finish_digests(alloc, geometry, &behind, wholes)?;
+    let digests = digests_of(alloc, geometry, &behind, wholes)?;
     Ok(Finished { behind, digests })
 }

@@ -22,7 +22,7 @@ ghost use Rattle.share_digests.specs.Wholes.{AreGiven};
 use crate::geometry::write_extension_block;
 use share_digests::WholeHashers;
 use share_gathering::{
-    Behind, Finished, ShareSoFar, Trees, build_trees, finish_digests, write_all_hashes,
+    Behind, Finished, ShareSoFar, Trees, build_trees, digests_of, write_all_hashes,
 };
 use share_layout::Geometry;
 use std::alloc::{AllocError, Global};
@@ -94,6 +94,6 @@ pub(crate) fn finish(
 {
     let trees = build_trees(alloc, leaves, shares)?;
     let behind = write_behind(alloc, geometry, ciphertext.finish(), trees)?;
-    let digests = finish_digests(alloc, geometry, &behind, wholes)?;
+    let digests = digests_of(alloc, geometry, &behind, wholes)?;
     Ok(Finished { behind, digests })
 }

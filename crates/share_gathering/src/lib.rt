@@ -4,6 +4,7 @@
 
 mod buffers;
 mod code;
+mod endings;
 mod few;
 mod finishing;
 mod groups;
@@ -15,7 +16,8 @@ mod wholes;
 
 pub use buffers::Buffers;
 pub use code::file_code;
-pub use finishing::{Behind, Finished, Trees, build_trees, finish_digests, write_all_hashes};
+pub use endings::digests_of;
+pub use finishing::{Behind, Finished, Trees, build_trees, write_all_hashes};
 pub use groups::{Group, segments_at_once};
 pub use kept::{Kept, file_slots};
 pub use laws::{blocks_or_clash, digests_in_order, one_by_one};

@@ -57,8 +57,8 @@ returns-then-ne-2-clause-inconsistent c = λ text held _.
     inr (λ same. other_hash c.root-2.result c.share_root_hash.result.now c.ne-2.result c.ne-2.ensures c.if-ne-2.true
     (c.root-2.ensures ∙ ap tree_root (c.in_ok-trees.ensures.shares ∙ roots) ∙ same ∙ sym c.share_root_hash.ensures))
 
-pub finish_digests-requires-clause-hashes : goal.finish_digests-requires-clause-hashes
-finish_digests-requires-clause-hashes c =
+pub digests_of-requires-clause-hashes : goal.digests_of-requires-clause-hashes
+digests_of-requires-clause-hashes c =
     sym (length-map c.in_ok-share_hashes.share_hashes.items (λ (h : _). h.items)) ∙ ap length c.in_ok-share_hashes.ensures.value
     ∙ length-map-range_with_len (share_hashes c.in_ok-trees.trees.shares) 0 c.total.result ∙ c.total.ensures.value
 

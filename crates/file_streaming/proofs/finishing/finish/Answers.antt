@@ -16,8 +16,8 @@ use Rattle.share_gathering.specs.declared.finishing.Trees.{Trees}
 use Rattle.file_streaming.proofs.Digests.{block_leaves_are, digests_are, roots_are}
 use Rattle.file_streaming.proofs.finishing.finish.Goals as goal
 
-pub finish_digests-requires-clause-hashes : goal.finish_digests-requires-clause-hashes
-finish_digests-requires-clause-hashes c =
+pub digests_of-requires-clause-hashes : goal.digests_of-requires-clause-hashes
+digests_of-requires-clause-hashes c =
     let g : Geometry = c.args.geometry.now in
     sym (length-map c.in_ok-behind.behind.share_hashes.items (λ (h : _). h.items)) ∙ ap length c.in_ok-behind.ensures.hashes
     ∙ length-map-range_with_len (share_hashes c.in_ok-trees.trees.shares) 0 g.total

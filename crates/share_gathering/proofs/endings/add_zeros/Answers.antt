@@ -1,7 +1,7 @@
 use Rattle.std.proofs.Common.{◌≡◌, ℕ, ◌+◌, ◌*◌, ◌%◌, List, ◌++◌, replicate, ap, subst, ◌∙◌, arith}
 use Rattle.std.proofs.lemmas.List.{append_assoc, replicate-append-replicate, take-replicate}
 use Rattle.share_digests.specs.Wholes.{IsGivenAt}
-use Rattle.share_gathering.proofs.finishing.add_zeros.Goals as goal
+use Rattle.share_gathering.proofs.endings.add_zeros.Goals as goal
 
 -- more zeros behind zeros
 more_zeros : (given : List ℕ) (done n all : ℕ) → done + n ≡ all → (given ++ replicate done 0) ++ replicate n 0 ≡ given ++ replicate all 0

@@ -1,7 +1,7 @@
 use Rattle.std.proofs.Common.{◌≡◌, ℕ, ◌+◌, ◌<◌, List, [], ◌∷◌, length, map, slice_index_or, ap, ◌∙◌, arith}
 use Rattle.lemmas.proofs.Eights.{by_eight}
 use Rattle.sha2_lanes.specs.Lanes.{text}
-use Rattle.share_gathering.proofs.finishing.eight_hashes.Goals as goal
+use Rattle.share_gathering.proofs.endings.eight_hashes.Goals as goal
 
 pub returns : goal.returns
 returns c = λ j below within.

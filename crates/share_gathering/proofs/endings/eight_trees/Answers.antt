@@ -3,7 +3,7 @@ use Rattle.lemmas.proofs.Eights.{by_eight}
 use Rattle.sha2_lanes.specs.Lanes.{text}
 use Rattle.merkle.specs.Tree.{tree_nodes}
 use Rattle.share_verify.specs.Pieces.{joined}
-use Rattle.share_gathering.proofs.finishing.eight_trees.Goals as goal
+use Rattle.share_gathering.proofs.endings.eight_trees.Goals as goal
 
 pub returns : goal.returns
 returns c = λ j below within.

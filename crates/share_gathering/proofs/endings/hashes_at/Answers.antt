@@ -1,6 +1,6 @@
 use Rattle.std.proofs.Common.{◌≡◌, [], get_or, ap, sym, ◌∙◌, arith}
 use Rattle.std.proofs.lemmas.List.{get_or-map}
-use Rattle.share_gathering.proofs.finishing.hashes_at.Goals as goal
+use Rattle.share_gathering.proofs.endings.hashes_at.Goals as goal
 
 pub returns : goal.returns
 returns c = λ low.

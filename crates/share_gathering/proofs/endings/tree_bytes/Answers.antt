@@ -2,7 +2,7 @@ use Rattle.std.proofs.Common.{◌≡◌, ◌<◌, [], length, slice_index_or, ap
 use Rattle.std.proofs.lemmas.List.{get_or_read}
 use Rattle.merkle.specs.Tree.{tree_nodes}
 use Rattle.share_verify.specs.Pieces.{joined}
-use Rattle.share_gathering.proofs.finishing.tree_bytes.Goals as goal
+use Rattle.share_gathering.proofs.endings.tree_bytes.Goals as goal
 
 pub returns : goal.returns
 returns c = λ low.
