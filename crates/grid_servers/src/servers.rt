@@ -281,7 +281,8 @@ fn set_node<R>(
     server: NodeId,
     node: ServerNode<R>,
     nodes: &mut Vec<Option<ServerNode<R>>>,
-) where
+)
+where
     R: Files + Net + RandomSource + AllocGlobal + Clone + Drop,
     requires room { server < length nodes.old.items }
     requires here { StandsAt opening.now.grid.now server (Some node) }

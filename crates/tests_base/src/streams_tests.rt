@@ -118,29 +118,11 @@ fn a_lane_has_the_published_digest(rt: HostRuntime) {
     let other = &text[..7];
     update_eight(
         &mut streams,
-        &[
-            other,
-            other,
-            &text[2..3],
-            other,
-            other,
-            other,
-            other,
-            other,
-        ],
+        &[other, other, &text[2..3], other, other, other, other, other],
     );
     update_eight(
         &mut streams,
-        &[
-            other,
-            other,
-            &text[3..5],
-            other,
-            other,
-            other,
-            other,
-            other,
-        ],
+        &[other, other, &text[3..5], other, other, other, other, other],
     );
     let digests = finish_eight(streams);
     let abc = [0xba, 0x78, 0x16, 0xbf, 0x8f, 0x01, 0xcf, 0xea];
