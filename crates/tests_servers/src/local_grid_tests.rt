@@ -8,6 +8,7 @@ use local_grid::error::LoopError;
 use local_grid::grid::LocalGrid;
 use local_grid::link::{Link, MemoryLink, Way};
 use local_grid::node::Node;
+use operation_loop::carry_on;
 use request_record::operation::Operation;
 use server_core::server::Server;
 use share_store::memory::MemoryStore;
@@ -397,11 +398,14 @@ static CASES: [Case; 8] = [
     },
 ];
 
-// Does a run go as it is to?
-fn is_right(alloc: Global, case: &Case) -> Result<bool, AllocError> {
+// Does a run go as it is to, by the loop of one process or by that over whatever there is?
+fn is_right(alloc: Global, case: &Case, over_any: bool) -> Result<bool, AllocError> {
     let mut grid = grid(alloc, case.kinds)?;
     let mut asker = Asker::new(alloc, case.requests, case.ticks);
-    let ending = grid.run_within(&mut asker, case.limit);
+    let ending = match over_any {
+        true => carry_on(alloc, &mut grid, &mut asker, case.limit),
+        false => grid.run_within(&mut asker, case.limit),
+    };
     let seen = Seen {
         ending,
         clock: grid.clock(),
@@ -413,7 +417,8 @@ fn is_right(alloc: Global, case: &Case) -> Result<bool, AllocError> {
 #[test]
 fn cases(rt: HostRuntime) -> Result<(), Fail> {
     for (i, case) in CASES.iter().enumerate() {
-        assert!(rt; is_right(rt.alloc(), case)?, "case {i}");
+        assert!(rt; is_right(rt.alloc(), case, false)?, "case {i}");
+        assert!(rt; is_right(rt.alloc(), case, true)?, "case {i} over any");
     }
     Ok(())
 }
