@@ -1,5 +1,5 @@
 //! The loop over whatever servers there are: it carries messages between one operation and the
-//! servers, and tells it the time. Which operation it is and where the servers are it does not know.
+//! servers, and tells it the time. Which operation it is and where they are it does not know.
 #![tactic(auto)]
 
 mod carrying;

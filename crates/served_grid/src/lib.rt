@@ -1,0 +1,14 @@
+//! Servers of this process and servers elsewhere, side by side, and the clock: what an operation
+//! has before it where it is carried on by `operation_loop`.
+#![tactic(auto)]
+
+mod network;
+mod ready;
+mod remote;
+mod served;
+mod sockets;
+
+pub use network::Network;
+pub use remote::RemoteServer;
+pub use served::ServedGrid;
+pub use sockets::Sockets;
