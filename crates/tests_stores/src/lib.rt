@@ -5,8 +5,6 @@
 #[cfg(test)]
 mod kept_open_tests;
 #[cfg(test)]
-mod letting_go_tests;
-#[cfg(test)]
 mod scrub_bytes_tests;
 #[cfg(test)]
 mod scrub_folder_tests;
