@@ -1,9 +1,10 @@
 """Tries the wrong bodies of crates, as many at a time as edit different functions.
 
-    python3 wrong-bodies.py ROOM NAME..
+    python3 wrong-bodies.py ROOM [--proved] NAME..
 
 ROOM is a copy of the repository, which it changes; tests/wrong-bodies.sh makes one. A crate is
-proved as it stands first. Then come rounds. In a round each edit of crates/NAME/wrong-bodies/ that
+proved as it stands first; with --proved it was, and is proved again only where an edit is tried
+alone. Then come rounds. In a round each edit of crates/NAME/wrong-bodies/ that
 changes the body of a function of its own is made, and one check tells whose goals fail: an edit is
 refused where a goal of its own function does. A body changes no contract, so no other edit of the
 round has a part in that. An edit of anything else, and one whose function has no such goal, is
@@ -215,13 +216,19 @@ def tried_alone(room, folder, crate, edit):
     return next(told, f"{label}NOT TRIED: {said[-MOST:]}").removeprefix(label)
 
 
-def outcomes(room, crate):
-    """Yields each edit of a crate with what it came to, or nothing where the crate fails."""
-    folder = f"{room}/crates/{crate}"
-    shutil.rmtree(f"{folder}/must-fail", ignore_errors=True)
+def prove(folder, crate):
+    """Proves a crate as it stands, and keeps what the tries begin with. Ends where it fails."""
     if checked(folder).returncode:
         print(f"{crate} is not proved as it stands", file=sys.stderr)
         sys.exit(2)
+
+
+def outcomes(room, crate, is_proved):
+    """Yields each edit of a crate with what it came to, or nothing where the crate fails."""
+    folder = f"{room}/crates/{crate}"
+    shutil.rmtree(f"{folder}/must-fail", ignore_errors=True)
+    if not is_proved:
+        prove(folder, crate)
     sources = [os.path.relpath(f"{at}/{it}", folder)
                for at, _, names in os.walk(f"{folder}/src") for it in names if it.endswith(".rt")]
     functions = {it: functions_of(folder, it) for it in sources}
@@ -233,13 +240,16 @@ def outcomes(room, crate):
         alone += [it for it in together if it not in refused and it not in by_names]
         yield from ((it, f"refused, as it must be: {refused[it]}") for it in refused)
         yield from ((it, f"refused, {ALONE}: {by_names[it]}") for it in by_names)
+    if is_proved and alone:
+        prove(folder, crate)
     yield from ((it, tried_alone(room, folder, crate, it)) for it in alone)
 
 
-def main(room, *crates):
+def main(room, *words):
+    is_proved, crates = "--proved" in words, [it for it in words if it != "--proved"]
     tried = refused = by_names = 0
     for crate in crates:
-        for edit, told in outcomes(room, crate):
+        for edit, told in outcomes(room, crate, is_proved):
             tried += 1
             refused += told.startswith("refused, as it must be")
             by_names += "only because a proof file names" in told

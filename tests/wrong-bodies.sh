@@ -2,9 +2,10 @@
 # Tries the wrong bodies that the gate does not: each edit of crates/NAME/wrong-bodies/ must be
 # refused by the prover, as those of crates/NAME/must-fail/ are.
 #
-#     tests/wrong-bodies.sh [NAME..]
+#     tests/wrong-bodies.sh [--proved] [NAME..]
 #
-# NAME is a crate; without one all crates that have such a folder are taken. Run by hand whenever
+# NAME is a crate; without one all crates that have such a folder are taken. With --proved they were
+# proved as they stand, by `rt ci` or `rt check`, and are not proved again before. Run by hand when
 # code or clauses of a crate change. It works on a copy of the files as they are now, and begins
 # with what checks in this checkout have proved and built. tests/wrong-bodies.py says how it tries
 # them, what it prints, and its status, which is 2 also where nothing could be run. A crate takes
@@ -17,6 +18,11 @@ room=$(mktemp -d) || exit 2
 trap 'rm -rf "$room"' EXIT
 trap 'exit 2' HUP INT TERM
 
+proved=
+if [ "$1" = --proved ]; then
+    proved=$1
+    shift
+fi
 if [ $# = 0 ]; then
     set -- $(find crates -path '*/wrong-bodies/*.edit' | cut -d / -f 2 | sort -u)
 fi
@@ -35,4 +41,4 @@ for crate in $(tools/crates-below "$@"); do
     fi
 done
 
-python3 tests/wrong-bodies.py "$room" "$@"
+python3 tests/wrong-bodies.py "$room" $proved "$@"
