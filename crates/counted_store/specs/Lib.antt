@@ -1,0 +1,2 @@
+-- What public contracts rest on.
+pub mod Counted

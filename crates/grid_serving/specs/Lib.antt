@@ -1,0 +1,3 @@
+-- What public contracts rest on.
+pub mod Turns
+pub mod Owners
