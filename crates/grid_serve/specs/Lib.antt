@@ -1,0 +1,5 @@
+-- What public contracts rest on.
+pub mod Faults
+pub mod News
+-- Words of private clauses.
+pub mod Marks

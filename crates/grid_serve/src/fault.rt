@@ -1,0 +1,95 @@
+//! Why a folder is not served, or is served no longer.
+
+ghost use Rattle.std.specs.Prelude.{◌≡◌};
+ghost use Rattle.std.specs.IoError.{error_kind};
+ghost use Rattle.grid_serve.specs.Faults.{serve_number, serve_status};
+
+use grid_faults::{Fault, told_path};
+use std::alloc::{AllocError, Global};
+use std::io::{self, ErrorKind};
+use thiserror::Error;
+
+/// Why a folder is not served. Its text is its name and what belongs to it.
+#[derive(Debug, Drop, Error)]
+pub enum ServeFault {
+    /// What any command may end with.
+    #[error("{0}")]
+    Fault(Fault),
+    /// This text is no address.
+    #[error("BadAddress {0}")]
+    BadAddress(String),
+    /// Other machines may reach this address.
+    #[error("NotLocal {0}")]
+    NotLocal(String),
+    /// A process serves this folder, or listens at this address.
+    #[error("InUse {0}")]
+    InUse(String),
+    /// No socket could be made at this address, or sockets failed, and the system's reason, which
+    /// its text leaves out.
+    #[error("SocketFault {0}")]
+    Socket(String, io::Error),
+}
+
+impl ServeFault {
+    /// The number of the fault.
+    pub fn number(&self) -> u8
+        ensures { result ≡ serve_number self.now }
+    {
+        match self {
+            ServeFault::Fault(fault) => fault.number(),
+            ServeFault::Socket(..) => 91,
+            ServeFault::BadAddress(_) => 103,
+            ServeFault::NotLocal(_) => 104,
+            ServeFault::InUse(_) => 105,
+        }
+    }
+
+    /// The exit status: 3 for an address that is none or is not taken, and 7 for one or a folder
+    /// that is in use, and for a socket that fails. Of any other fault as `Fault` has it.
+    pub fn status(&self) -> u8
+        ensures { result ≡ serve_status self.now }
+    {
+        match self {
+            ServeFault::Fault(fault) => fault.status(),
+            ServeFault::BadAddress(_) | ServeFault::NotLocal(_) => 3,
+            ServeFault::InUse(_) | ServeFault::Socket(..) => 7,
+        }
+    }
+
+    /// The fault of the sockets at an address: one of memory where a call found none.
+    pub fn of_sockets(alloc: Global, address: &str, error: io::Error) -> ServeFault
+        ensures { error_kind error ≡ ErrorKind.OutOfMemory
+            → result ≡ ServeFault.Fault Fault.OutOfMemory }
+    {
+        if error.kind() == ErrorKind::OutOfMemory {
+            return ServeFault::Fault(Fault::OutOfMemory);
+        }
+        match told_path(alloc, address) {
+            Ok(address) => ServeFault::Socket(address, error),
+            Err(refused) => ServeFault::from(refused),
+        }
+    }
+}
+
+impl From<Fault> for ServeFault {
+    ghost use Rattle.std.specs.Prelude.{◌≡◌};
+    ghost use Rattle.grid_serve.specs.declared.fault.ServeFault.TheVariants as serve;
+
+    ghost from_gives = { λ fault e. e ≡ serve.Fault fault };
+
+    fn from(fault: Fault) -> ServeFault {
+        ServeFault::Fault(fault)
+    }
+}
+
+impl From<AllocError> for ServeFault {
+    ghost use Rattle.std.specs.Prelude.{◌≡◌};
+    ghost use Rattle.grid_faults.specs.declared.fault.Fault.TheVariants as faults;
+    ghost use Rattle.grid_serve.specs.declared.fault.ServeFault.TheVariants as serve;
+
+    ghost from_gives = { λ _ e. e ≡ serve.Fault faults.OutOfMemory };
+
+    fn from(_error: AllocError) -> ServeFault {
+        ServeFault::Fault(Fault::OutOfMemory)
+    }
+}

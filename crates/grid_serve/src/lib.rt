@@ -1,0 +1,19 @@
+//! The command that serves a folder: one server of a grid, over its folder, for any number of
+//! clients.
+#![tactic(auto)]
+
+mod fault;
+mod folder;
+mod listening;
+mod locks;
+mod marking;
+mod served;
+mod telling;
+
+pub use fault::ServeFault;
+pub use folder::Serve;
+pub use grid_serving::News;
+pub use locks::Locks;
+pub use served::{ServedFolder, serve};
+pub use share_folders::folder::Durability;
+pub use telling::news_line;
