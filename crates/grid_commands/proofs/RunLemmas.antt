@@ -12,9 +12,9 @@ use Rattle.grid_faults.specs.declared.fault.Fault.{Fault}
 use Rattle.grid_gets.specs.Files.{FileAct, IsFileBy, MayBeFileBy}
 use Rattle.grid_gets.specs.Gets.{IsBegunBy, IsGotBy, UnlessWriter}
 use Rattle.grid_rules.specs.Ending.{world_status}
-use Rattle.grid_shares.specs.Checks.{IsCheckBy}
-use Rattle.grid_shares.specs.Puts.{IsPutBy}
-use Rattle.grid_shares.specs.Repairs.{IsRepairBy}
+use Rattle.grid_lists.specs.Puts.{IsPutDone, IsPutUndone, is_one}
+use Rattle.grid_repairs.specs.Checks.{IsCheckBy}
+use Rattle.grid_repairs.specs.Repairs.{IsRepairBy}
 use Rattle.grid_shares.specs.declared.Outcome.{Outcome}
 use Rattle.grid_telling.specs.declared.outcome.Failure.{Failure}
 use Rattle.grid_words.specs.declared.words.CheckWords.{CheckWords}
@@ -102,10 +102,9 @@ module _ {F L : Type 0} (gives : Opened F → ℕ → List ℕ → Opened F → 
         → IfOk r (λ status. IsOkAnd came (λ told. (status ≡ 0) × Appends before after told.items)) → IfErr r (λ failure. IsUnwritten failure before after) → IsRunBy gives carries request r before after old new
     init_run words came is of done undone = by_request (Init words) is (lines_written (IsInitBy words) came r before after of done) undone same
 
-    pub put_run : (words : PutWords) (came : Result Outcome Fault) → request ≡ Put words → IfOk came (IsPutBy gives carries words)
-        → IfOk r (λ status. IsOkAnd came (λ told. (status ≡ told.status) × Appends before after told.text.items)) → IfErr r (λ failure. IsUnwritten failure before after)
-        → IsRunBy gives carries request r before after old new
-    put_run words came is of done undone = by_request (Put words) is (outcome_written (IsPutBy gives carries words) came r before after of done) undone same
+    pub put_run : (words : PutWords) → request ≡ Put words → IfOk r (λ status. IsPutDone gives carries words status before after)
+        → IfErr r (λ failure. IsPutUndone (is_one words) failure before after) → IsRunBy gives carries request r before after old new
+    put_run words is done undone = by_request (Put words) is done undone same
 
     pub check_run : (words : CheckWords) (came : Result Outcome Fault) → request ≡ Check words → IfOk came (IsCheckBy carries words)
         → IfOk r (λ status. IsOkAnd came (λ told. (status ≡ told.status) × Appends before after told.text.items)) → IfErr r (λ failure. IsUnwritten failure before after)

@@ -12,11 +12,11 @@ use Rattle.world_script.specs.Script.{lines_of}
 use Rattle.world_script.specs.declared.ending.Ending.{Ending}
 use Rattle.grid_gets.specs.Files.{FileAct, IsFileBy, MayBeFileBy}
 use Rattle.grid_gets.specs.Gets.{IsBegunBy, IsGotBy, UnlessWriter}
+use Rattle.grid_lists.specs.Puts.{IsPutDone, IsPutUndone, is_one}
+use Rattle.grid_repairs.specs.Checks.{IsCheckBy}
+use Rattle.grid_repairs.specs.Repairs.{IsRepairBy}
 use Rattle.grid_rules.specs.CapLines.{cap_lines}
 use Rattle.grid_rules.specs.Ending.{world_status}
-use Rattle.grid_shares.specs.Checks.{IsCheckBy}
-use Rattle.grid_shares.specs.Puts.{IsPutBy}
-use Rattle.grid_shares.specs.Repairs.{IsRepairBy}
 use Rattle.grid_shares.specs.declared.Outcome.{Outcome}
 use Rattle.grid_telling.specs.declared.outcome.Failure.{Failure}
 use Rattle.grid_telling.specs.declared.outcome.Failure.TheVariants as failures
@@ -95,7 +95,7 @@ pub record AreCapLines (text lines : List ℕ) : Type 0 where
 abbrev pub IsDone : {F L : Type 0} → (Opened F → ℕ → List ℕ → Opened F → Type 0) → Carries L
     → Request → ℕ → Option (List ℕ) → Option (List ℕ) → Type 0
 IsDone gives carries (Init words) = ArePrinted (IsInitBy words)
-IsDone gives carries (Put words) = IsWrittenOf (IsPutBy gives carries words)
+IsDone gives carries (Put words) = IsPutDone gives carries words
 IsDone gives carries (Get words) = IsGet carries words
 IsDone gives carries (Check words) = IsWrittenOf (IsCheckBy carries words)
 IsDone gives carries (Repair words) = IsWrittenOf (IsRepairBy carries words)
@@ -108,11 +108,14 @@ abbrev pub IsUnwritten : Failure → Option (List ℕ) → Option (List ℕ) →
 IsUnwritten failures.Writer before after = ⊤
 IsUnwritten (failures.Fault fault) before after = after ≡ before
 
--- A request was left undone. A get writes as it reads, and a scrub tells of one file after another.
+-- A request was left undone. A get writes as it reads, a put of many tells of one file after
+-- another, and so does a scrub.
 abbrev pub IsUndone : {L : Type 0} → Carries L → Request → Failure → Option (List ℕ)
     → Option (List ℕ) → Type 0
 IsUndone carries (Get words) failure before after =
     IsGetBegun carries words words.output failure before after
+IsUndone carries (Put words) failure before after =
+    IsPutUndone (is_one words) failure before after
 IsUndone carries (Scrub words) failure before after = ⊤
 IsUndone carries request failure before after = IsUnwritten failure before after
 

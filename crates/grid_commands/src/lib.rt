@@ -1,9 +1,10 @@
 //! The commands of `grid`, which keeps files on a grid of servers that need not be trusted.
 //!
 //! `grid` takes the words of the command line and two writers, and gives the exit status. An `init`
-//! marks the folders of a grid and of its servers. A `put`, a `check` and a `repair` work on
-//! shares, in `grid_shares`; a `get` is one download or several, in `grid_gets`; a `scrub` reads
-//! the servers' folders; `world` runs a script, whose text is read whole before anything runs.
+//! marks the folders of a grid and of its servers. A `put` stores shares, in `grid_shares`, of one
+//! file or of many, in `grid_lists`; a `check` and a `repair` look at those that are stored, in
+//! `grid_repairs`; a `get` is one download or several, in `grid_gets`; a `scrub` reads the servers'
+//! folders; `world` runs a script, whose text is read whole before anything runs.
 //! Which words there are stands in `grid_words`, and what is told in `grid_faults`, `grid_rules`
 //! and `grid_telling`.
 #![tactic(auto)]
@@ -31,9 +32,11 @@ use crate::exit::{DONE, WRONG_WORDS, exit_of, report, tell_words, write, written
 use grid_faults::Fault;
 use grid_gets::get;
 pub use grid_gets::{DiskFiles, NamedFiles};
+use grid_lists::put;
+use grid_repairs::{check, repair};
 use grid_rules::{cap_lines, read_cap};
 pub use grid_shares::Environment;
-use grid_shares::{Outcome, check, put, repair};
+use grid_shares::Outcome;
 use grid_telling::{Failure, Progress};
 use grid_words::{GetWords, Request, read_words};
 use std::alloc::Global;
@@ -147,7 +150,7 @@ where
 {
     match request {
         Request::Init(words) => printed(out, init::init(rt, words, progress)),
-        Request::Put(words) => told(out, put(rt, words, environment, progress)),
+        Request::Put(words) => put(rt, words, environment, out, progress),
         Request::Get(words) => got(rt, words, environment, files, out, progress),
         Request::Check(words) => told(out, check(rt, words, environment, progress)),
         Request::Repair(words) => told(out, repair(rt, words, environment, progress)),

@@ -17,7 +17,6 @@ use Rattle.carried_operations.proofs.Storing.{stored}
 use Rattle.grid_rules.specs.Ending.{ending_of}
 use Rattle.grid_faults.specs.Servers.{server_of}
 use Rattle.grid_faults.specs.declared.fault.Fault.{Fault}
-use Rattle.grid_servers.specs.Opened.{AreOpened}
 use Rattle.std.specs.List.{range_with_len}
 use Rattle.std.proofs.Common.{Bool}
 use Rattle.cap_text.specs.Cap.{ReadCapValue}
@@ -30,7 +29,7 @@ use Rattle.streamed_upload.specs.Ready.{goal_of, ready_stream}
 use Rattle.streamed_upload.specs.Streamed.{Streaming}
 use Rattle.upload_core.specs.State.{Goal}
 use Rattle.grid_shares.specs.Puts.{IsPutOf, IsToldOf, whole_calls}
-use Rattle.grid_shares.specs.declared.Outcome.{Outcome}
+use Rattle.grid_shares.specs.declared.putting.PutFile.{PutFile}
 use Rattle.grid_shares.specs.declared.placing.Stored.{Stored}
 
 module _ {P S L : Type 0} (operation : OperationCalls (Uploading P)) (calls : Calls S) (carries : Carries L) (begun ended : Uploading P) (old new : GridState S L) where
@@ -46,35 +45,39 @@ module _ {P S L : Type 0} (operation : OperationCalls (Uploading P)) (calls : Ca
       → IfOk r (λ happiness. IsStored operation calls carries begun old new happiness)
   reached r wanted status e is c right = subst (λ (x : Result ℕ Fault). IfOk x (λ happiness. IsStored operation calls carries begun old new happiness)) (sym e) (by_status wanted status is c right)
 
-module _ {P L : Type 0} (operation : OperationCalls (Uploading P)) (carries : Carries L) (grid servers : List ℕ) (made : Ready P) where
+module _ {P L : Type 0} (operation : OperationCalls (Uploading P)) (carries : Carries L) (before : GridState FolderState L) (session : ℕ) (servers : List ℕ) (made : Ready P) where
   -- shares whose upload was carried to its end
-  pub uploaded : (before after : GridState FolderState L) (begun ended : Uploading P) (now : ℕ) (r : Result ℕ Fault) (wanted : ℕ) (status : UploadStatus)
-      → r ≡ ending_of wanted status → status ≡ ended.course.status → IsRight ended.course → AreOpened grid before → now ≡ before.clock
-      → Begins made.goal made.happy (map server_of servers) 1 now begun.course → begun.pieces ≡ made.pieces → IsCarried operation folder_calls carries begun before ended after
-      → IfOk r (AreUploaded operation carries grid servers made)
-  uploaded before after begun ended now r wanted status e same right opened clock begins pieces carried =
+  pub uploaded : (after : GridState FolderState L) (begun ended : Uploading P) (given now : ℕ) (r : Result ℕ Fault) (wanted : ℕ) (status : UploadStatus)
+      → r ≡ ending_of wanted status → status ≡ ended.course.status → IsRight ended.course → given ≡ session → now ≡ before.clock
+      → Begins made.goal made.happy (map server_of servers) given now begun.course → begun.pieces ≡ made.pieces → IsCarried operation folder_calls carries begun before ended after
+      → IfOk r (AreUploaded operation carries before session servers made)
+  uploaded after begun ended given now r wanted status e same right own clock begins pieces carried =
       IfOk-weaker r _ _ (λ happiness stored. record {
-        before = before;
-        opened = opened;
         begun = begun;
-        begins = subst (λ (n : ℕ). Begins made.goal made.happy (map server_of servers) 1 n begun.course) clock begins;
+        begins = subst (λ (s : ℕ). Begins made.goal made.happy (map server_of servers) s before.clock begun.course) own
+            (subst (λ (n : ℕ). Begins made.goal made.happy (map server_of servers) given n begun.course) clock begins);
         pieces = pieces;
         after = after;
         stored = stored;
       })
       (reached operation folder_calls carries begun ended before after r wanted status e same carried right)
 
-  -- the same servers
-  pub used_as : (happiness : ℕ) (used : List ℕ) → servers ≡ used → AreUploaded operation carries grid servers made happiness → AreUploaded operation carries grid used made happiness
-  used_as happiness used same u = subst (λ (s : List ℕ). AreUploaded operation carries grid s made happiness) same u
+  -- over the same grid
+  pub begun_at : (r : Result ℕ Fault) (first : GridState FolderState L) → before ≡ first → IfOk r (AreUploaded operation carries before session servers made) → IfOk r (AreUploaded operation carries first session servers made)
+  begun_at r first same u = subst (λ (b : GridState FolderState L). IfOk r (AreUploaded operation carries b session servers made)) same u
 
+  -- the same servers
+  pub used_as : (happiness : ℕ) (used : List ℕ) → servers ≡ used → AreUploaded operation carries before session servers made happiness → AreUploaded operation carries before session used made happiness
+  used_as happiness used same u = subst (λ (s : List ℕ). AreUploaded operation carries before session s made happiness) same u
+
+module _ {P L : Type 0} (operation : OperationCalls (Uploading P)) (carries : Carries L) (grid servers : List ℕ) (made : Ready P) where
   -- what is told of shares that were placed on the first servers
-  pub put_of : (count : ℕ) (mend : Bool) (used : List ℕ) (s : Stored) (cap : ReadCapValue) (quiet : Bool) → used ≡ range_with_len 0 count → ArePlaced operation carries grid mend [] used made s
-      → (outcome : Outcome) → IsToldOf cap quiet s outcome → IsPutOf operation carries grid mend made cap quiet outcome
-  put_of count mend used s cap quiet first placed outcome told = record {
+  pub put_of : (count : ℕ) (kept mend : Bool) (used : List ℕ) (s : Stored) (cap : ReadCapValue) → used ≡ range_with_len 0 count → ArePlaced operation carries grid kept mend [] used made s
+      → (outcome : PutFile) → IsToldOf cap s outcome → IsPutOf operation carries grid kept mend made cap outcome
+  put_of count kept mend used s cap first placed outcome told = record {
     count = count;
     stored = s;
-    placed = subst (λ (x : List ℕ). ArePlaced operation carries grid mend [] x made s) first placed;
+    placed = subst (λ (x : List ℕ). ArePlaced operation carries grid kept mend [] x made s) first placed;
     told = told;
   }
 
@@ -87,20 +90,20 @@ pub encoded_as : (r : Result FileUpload Fault) (encoded : FileUpload) (file give
 encoded_as r encoded file given secret p was same is =
     subst (λ (s : List ℕ). encoded ≡ Shares (prepared_of file s p)) same (subst (λ (x : Result FileUpload Fault). IfOk x (λ u. u ≡ Shares (prepared_of file given p))) was is)
 
-module _ {L : Type 0} (carries : Carries L) (grid : List ℕ) (mend quiet : Bool) where
+module _ {L : Type 0} (carries : Carries L) (grid : List ℕ) (kept mend : Bool) where
   -- what is told of the shares of a file that was encoded whole
   pub held_put : (encoded : FileUpload) (upload p : Prepared) (m : Ready (List (List ℕ))) (cap : ReadCapValue) → encoded ≡ Shares upload → encoded ≡ Shares p → m ≡ upload_of upload → cap ≡ upload.cap
-      → (outcome : Outcome) → IsPutOf whole_calls carries grid mend m cap quiet outcome → IsPutOf whole_calls carries grid mend (upload_of p) p.cap quiet outcome
+      → (outcome : PutFile) → IsPutOf whole_calls carries grid kept mend m cap outcome → IsPutOf whole_calls carries grid kept mend (upload_of p) p.cap outcome
   held_put encoded upload p m cap is same made own outcome put =
-      subst (λ (q : Prepared). IsPutOf whole_calls carries grid mend (upload_of q) q.cap quiet outcome) (same_shares upload p (sym is ∙ same))
-      (subst (λ (x : ReadCapValue). IsPutOf whole_calls carries grid mend (upload_of upload) x quiet outcome) own
-      (subst (λ (x : Ready (List (List ℕ))). IsPutOf whole_calls carries grid mend x cap quiet outcome) made put))
+      subst (λ (q : Prepared). IsPutOf whole_calls carries grid kept mend (upload_of q) q.cap outcome) (same_shares upload p (sym is ∙ same))
+      (subst (λ (x : ReadCapValue). IsPutOf whole_calls carries grid kept mend (upload_of upload) x outcome) own
+      (subst (λ (x : Ready (List (List ℕ))). IsPutOf whole_calls carries grid kept mend x cap outcome) made put))
 
   -- those of a file that was read twice
   pub streamed_put : {S : Type 0} (operation : OperationCalls (Uploading (Streaming S))) (m : Ready (Streaming S)) (cap : ReadCapValue) (happy : ℕ)
       → m.goal ≡ goal_of m.pieces.kept → m.happy ≡ happy → cap ≡ m.pieces.kept.cap
-      → (outcome : Outcome) → IsPutOf operation carries grid mend m cap quiet outcome → IsPutOf operation carries grid mend (ready_stream m.pieces happy) m.pieces.kept.cap quiet outcome
+      → (outcome : PutFile) → IsPutOf operation carries grid kept mend m cap outcome → IsPutOf operation carries grid kept mend (ready_stream m.pieces happy) m.pieces.kept.cap outcome
   streamed_put {S = S} operation m cap happy goal wanted own outcome put =
-      subst (λ (x : ReadCapValue). IsPutOf operation carries grid mend (ready_stream m.pieces happy) x quiet outcome) own
-      (subst (λ (n : ℕ). IsPutOf operation carries grid mend (record { pieces = m.pieces; goal = goal_of m.pieces.kept; happy = n }) cap quiet outcome) wanted
-      (subst (λ (x : Goal). IsPutOf operation carries grid mend (record { pieces = m.pieces; goal = x; happy = m.happy }) cap quiet outcome) goal put))
+      subst (λ (x : ReadCapValue). IsPutOf operation carries grid kept mend (ready_stream m.pieces happy) x outcome) own
+      (subst (λ (n : ℕ). IsPutOf operation carries grid kept mend (record { pieces = m.pieces; goal = goal_of m.pieces.kept; happy = n }) cap outcome) wanted
+      (subst (λ (x : Goal). IsPutOf operation carries grid kept mend (record { pieces = m.pieces; goal = x; happy = m.happy }) cap outcome) goal put))

@@ -1,9 +1,12 @@
 -- What a put tells.
 use Rattle.std.specs.Prelude.{◌≡◌, ℕ, ◌<◌, ◌≤◌, List, [], ◌++◌, Bool, if◌then◌else◌, codes, decimal}
-use Rattle.std.specs.Prelude.{length}
+use Rattle.std.specs.Prelude.{IfSome, None, Option, Some, false, length, option_map}
+use Rattle.std.specs.Option.{option_map_or}
 use Rattle.std.specs.List.{range_with_len}
 use Rattle.cap_text.specs.Cap.{ReadCapValue}
-use Rattle.cap_text.specs.CapText.{lit_cap_text, read_cap_text}
+use Rattle.cap_text.specs.CapText.{cap_text}
+use Rattle.cap_text.specs.declared.cap.Cap.TheVariants.{Chk, Lit}
+use Rattle.tagged_hash.specs.ConvergentKey.{IsSecret}
 use Rattle.ueb.specs.Limits.{min_file_size}
 use Rattle.file_encoding.specs.Params.{UploadParameters, parameters_of}
 use Rattle.sources.specs.Opened.{Opened}
@@ -20,37 +23,46 @@ use Rattle.local_grid.specs.Nodes.{Carries}
 use Rattle.grid_words.specs.declared.words.PutWords.{PutWords}
 use Rattle.grid_shares.specs.Placing.{ArePlaced}
 use Rattle.grid_shares.specs.declared.Outcome.{Outcome}
+use Rattle.grid_shares.specs.declared.numbers.Choices.{Choices}
+use Rattle.grid_shares.specs.declared.putting.PutFile.{PutFile}
 use Rattle.grid_shares.specs.declared.placing.Stored.{Stored}
-
--- the line of a cap, and one that says how many servers hold a share of their own; or the first
--- alone
-abbrev pub put_lines : ReadCapValue → ℕ → Bool → List ℕ
-put_lines cap happiness quiet = read_cap_text cap
-    ++ (if quiet then codes "\n" else codes "\nhappiness " ++ (decimal happiness ++ codes "\n"))
-
--- the line of the cap that holds a file
-pub record IsLiteralOf (file : List ℕ) (outcome : Outcome) : Type 0 where
-  pub told : outcome.text.items ≡ lit_cap_text file ++ codes "\n"
-  pub done : outcome.status ≡ 0
 
 -- the exit status, by whether all was set aside that is none of the file's shares
 abbrev pub stored_status : Bool → ℕ
 stored_status is_cleared = if is_cleared then 0 else 5
 
--- the lines of what was stored, and the exit status
-pub record IsToldOf (cap : ReadCapValue) (quiet : Bool) (stored : Stored) (outcome : Outcome)
-    : Type 0 where
-  pub told : outcome.text.items ≡ put_lines cap stored.happiness quiet
-  pub status_is : outcome.status ≡ stored_status stored.is_cleared
+abbrev pub put_status : PutFile → ℕ
+put_status file = option_map_or (λ (s : Stored). stored_status s.is_cleared) file.stored 0
 
--- Shares that were made are placed on the first servers of a grid, so many, and this is told.
+-- the line that says how many servers hold a share of their own, unless none does or is to
+abbrev pub happiness_text : Option Stored → Bool → List ℕ
+happiness_text None quiet = []
+happiness_text (Some stored) quiet = if quiet then []
+    else codes "happiness " ++ (decimal stored.happiness ++ codes "\n")
+
+-- the line of its cap, and that of its happiness
+abbrev pub put_text : PutFile → Bool → List ℕ
+put_text file quiet = cap_text file.cap ++ (codes "\n" ++ happiness_text file.stored quiet)
+
+-- a file that its cap holds
+pub record IsLiteralOf (file : List ℕ) (put : PutFile) : Type 0 where
+  pub cap : put.cap ≡ Lit file
+  pub none : put.stored ≡ None
+
+-- a file of this cap, whose shares came to this
+pub record IsToldOf (cap : ReadCapValue) (stored : Stored) (put : PutFile) : Type 0 where
+  pub cap_is : put.cap ≡ Chk cap
+  pub stored_is : put.stored ≡ Some stored
+
+-- Shares that were made are placed on the first servers of a grid, so many, which may have been
+-- kept open for it; and this is told.
 pub record IsPutOf {P L : Type 0} (operation : OperationCalls (Uploading P)) (carries : Carries L)
-    (grid : List ℕ) (mend : Bool) (made : Ready P) (cap : ReadCapValue) (quiet : Bool)
-    (outcome : Outcome) : Type 0 where
+    (grid : List ℕ) (kept mend : Bool) (made : Ready P) (cap : ReadCapValue) (put : PutFile)
+    : Type 0 where
   pub count : ℕ
   pub stored : Stored
-  pub placed : ArePlaced operation carries grid mend [] (range_with_len 0 count) made stored
-  pub told : IsToldOf cap quiet stored outcome
+  pub placed : ArePlaced operation carries grid kept mend [] (range_with_len 0 count) made stored
+  pub told : IsToldOf cap stored put
 
 -- the calls of an upload of whole shares
 abbrev pub whole_calls : OperationCalls (Uploading (List (List ℕ)))
@@ -75,21 +87,46 @@ numbers_of words = record {
   max_segment = words.max_segment;
 }
 
--- What a put tells by its words: the cap that holds a small file; or what became of the shares of
--- another, by the numbers of the words and a secret. That was held, or read twice.
+-- the secret that is said, where one is
+abbrev pub said_by : Choices → Option (List ℕ)
+said_by choices = option_map (λ s. s.items) choices.said
+
+-- The numbers of a put are those of its words, and the secret that is said is one.
+pub record AreChoicesBy (words : PutWords) (choices : Choices) : Type 0 where
+  pub numbers : choices.params ≡ numbers_of words
+  pub secret : IfSome choices.said (λ s. IsSecret s.items)
+
+-- A file is encoded under this secret, where one is said, and else under some other.
+abbrev pub IsUnder : Option (List ℕ) → List ℕ → Type 0
+IsUnder said secret = IfSome said (λ s. secret ≡ s)
+
+-- What a put tells by its words, by the secret that is said, and by whether servers were kept open:
+-- the cap that holds a small file; or what became of the shares of another, by the numbers of the
+-- words and the secret. That was held, or read twice.
 pub data IsPutBy {F L : Type 0} (gives : Opened F → ℕ → List ℕ → Opened F → Type 0)
-    (carries : Carries L) (words : PutWords) (outcome : Outcome) : Type 0 where
-  small : (file : List ℕ) → length file < min_file_size → IsLiteralOf file outcome
-      → IsPutBy gives carries words outcome
-  held : (file secret : List ℕ) → min_file_size ≤ length file
-      → IsPutOf whole_calls carries words.grid.now words.mend
+    (carries : Carries L) (words : PutWords) (said : Option (List ℕ)) (kept : Bool)
+    (put : PutFile) : Type 0 where
+  small : (file : List ℕ) → length file < min_file_size → IsLiteralOf file put
+      → IsPutBy gives carries words said kept put
+  held : (file secret : List ℕ) → IsUnder said secret → min_file_size ≤ length file
+      → IsPutOf whole_calls carries words.grid.now kept words.mend
       (upload_of (prepared_of file secret (numbers_of words)))
-      (prepared_of file secret (numbers_of words)).cap words.quiet outcome
-      → IsPutBy gives carries words outcome
-  opened : (source : Opened F) → (secret : List ℕ) → (kept : Streaming (Opened F))
-      → min_file_size ≤ source.size
+      (prepared_of file secret (numbers_of words)).cap put
+      → IsPutBy gives carries words said kept put
+  opened : (source : Opened F) → (secret : List ℕ) → (stream : Streaming (Opened F))
+      → IsUnder said secret → min_file_size ≤ source.size
       → IsPreparedFrom gives source.size source secret (parameters_of (numbers_of words))
-      kept.kept kept.source
-      → IsPutOf (streamed_calls gives (λ s. s.failures)) carries words.grid.now words.mend
-      (ready_stream kept words.happy) kept.kept.cap words.quiet outcome
-      → IsPutBy gives carries words outcome
+      stream.kept stream.source
+      → IsPutOf (streamed_calls gives (λ s. s.failures)) carries words.grid.now kept words.mend
+      (ready_stream stream words.happy) stream.kept.cap put
+      → IsPutBy gives carries words said kept put
+
+-- It is told as these words ask, where it is the only file, and no server was kept open for it.
+-- Which secret they say, or the grid keeps, is not known here.
+pub record IsPutAlone {F L : Type 0} (gives : Opened F → ℕ → List ℕ → Opened F → Type 0)
+    (carries : Carries L) (words : PutWords) (outcome : Outcome) : Type 0 where
+  pub file : PutFile
+  pub said : Option (List ℕ)
+  pub put : IsPutBy gives carries words said false file
+  pub told : outcome.text.items ≡ put_text file words.quiet
+  pub status_is : outcome.status ≡ put_status file

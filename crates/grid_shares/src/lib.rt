@@ -1,23 +1,20 @@
-//! The commands that work on the shares of a file: `put` stores them on the servers of a grid,
-//! `check` looks at them, and `repair` makes the missing ones again.
+//! The shares of files, stored on the servers of a grid: a `put` makes them and places them, and a
+//! `repair`, which makes them otherwise, places them by the same calls.
 //!
-//! A `put` is an upload, a `check` a check, and a `repair` a check and an upload, which
-//! `carried_operations` carries to their ends. What is told of them is told by what the servers
-//! answered.
+//! Placing shares is an upload, which `carried_operations` carries to its end. What is told of it
+//! is told by what the servers answered.
 #![tactic(auto)]
 
-mod checking;
-mod choosing;
-mod made_shares;
 mod mending;
+mod numbers;
 mod placing;
 mod putting;
-mod remaking;
-mod repairing;
+mod standing;
 
-pub use checking::check;
-pub use putting::put;
-pub use repairing::repair;
+pub use numbers::{Choices, read_choices};
+pub use placing::{Placing, Stored, durability_of, place_shares};
+pub use putting::{PutFile, may_put, put, put_file, secret_of};
+pub use standing::OpenGrid;
 
 // The exit status of what is done.
 const DONE: u8 = 0;

@@ -1,10 +1,11 @@
 //! The way is cleared for the shares of a file, once all of them are made: what stands in the
 //! servers' folders under the names of its shares, and is none of them, is set aside.
 
-ghost use Rattle.std.specs.Prelude.{◌≡◌, ◌≢◌, ◌++◌, None, Some, if◌then◌else◌, option_map};
-ghost use Rattle.std.specs.Prelude.{IfOk, OnOk};
+ghost use Rattle.std.specs.Prelude.{◌≡◌, ◌≢◌, ◌++◌, ◌&&◌, None, Some, if◌then◌else◌, option_map};
+ghost use Rattle.std.specs.Prelude.{IfOk, OnOk, [], true};
 ghost use Rattle.grid_shares.specs.declared.mending.Way.TheVariants.{Unmarked};
-ghost use Rattle.grid_shares.specs.Ways.{AreCleared, IsWanted, IsWay, read_at, stuck_by, way_by};
+ghost use Rattle.grid_shares.specs.Ways.{AreCleared, IsWanted, IsWay, is_still, is_touched};
+ghost use Rattle.grid_shares.specs.Ways.{read_at, stuck_by, way_by};
 
 use crate::placing::Placing;
 use grid_faults::{Fault, server_name, told_path};
@@ -44,41 +45,65 @@ pub(crate) enum Way {
     Unmarked,
     /// Its folder could not be listed: its server will be silent.
     Unread,
-    /// No share was left.
+    /// No share was left, and no file was touched.
     Clear,
+    /// No share was left, and a file was set aside or removed.
+    Changed,
     /// A share could not be looked at, or should have been set aside and could not be.
     Stuck,
 }
 
-/// Clears the way for shares at each of the servers, and gives those at which a share was left, in
-/// their order. Each such share is told. A folder that cannot be read is passed over, and so is one
-/// without its mark in a grid that knows its servers. The files of shares that are read meanwhile
-/// stay.
+/// What clearing the way at servers came to.
+#[derive(Drop)]
+pub(crate) struct Clearance {
+    /// Those at which a share was left, in their order.
+    pub(crate) stuck: Vec<NodeId>,
+    /// Those whose folders were listed, and at which none was.
+    pub(crate) clear: Vec<NodeId>,
+    /// Whether all files stand as they stood.
+    pub(crate) is_still: bool,
+}
+
+/// Clears the way for shares at each of the servers. Each share that was left is told. A folder
+/// that cannot be read is passed over, and so is one without its mark in a grid that knows its
+/// servers. The files of shares that are read meanwhile stay.
 pub(crate) fn clear_servers<R, E>(
     rt: &R,
     placing: &Placing<'_>,
     goal: &UploadGoal,
     reading: &[SharePlace],
     progress: &mut Progress<'_, R, E>,
-) -> Result<Vec<NodeId>, Fault>
+) -> Result<Clearance, Fault>
 where
     R: Files + Clock + RandomSource + AllocGlobal + Clone + Drop,
     E: Write + IsTerminal,
     ensures { IfOk result
-        (λ stuck. AreCleared goal.now placing.now.mend reading.now placing.now.servers.now
-        stuck.items) }
+        (λ clearance. AreCleared goal.now placing.now.mend reading.now placing.now.servers.now
+        clearance.stuck.items clearance.is_still) }
 {
     // without a clock no open file is left over
     let now = SystemTime::now(rt).unwrap_or(SystemTime::UNIX_EPOCH);
     let known = grid_mark(rt, placing.grid)?;
-    let mut stuck = Vec::new(rt.alloc());
+    let mut clearance = nothing_cleared(rt.alloc());
     for server in placing.servers {
         let own = read_at(rt.alloc(), reading, *server)?;
         let wanted = wanted_of(goal, placing.mend, own.as_slice(), now);
         let way = clear_server(rt, placing.grid, &known, *server, &wanted, progress)?;
-        note_way(&mut stuck, *server, way)?;
+        note_way(&mut clearance, *server, way)?;
     }
-    Ok(stuck)
+    Ok(clearance)
+}
+
+// Before the first server.
+fn nothing_cleared(alloc: Global) -> Clearance
+    ensures none { result.stuck.items ≡ [] }
+    ensures still { result.is_still ≡ true }
+{
+    Clearance {
+        stuck: Vec::new(alloc),
+        clear: Vec::new(alloc),
+        is_still: true,
+    }
 }
 
 // The numbers of those of these shares that stand at a server.
@@ -92,14 +117,29 @@ fn read_at(alloc: Global, places: &[SharePlace], server: NodeId) -> Result<Vec<u
         .collect(alloc)
 }
 
-// Takes note of a server at which a share was left.
-fn note_way(stuck: &mut Vec<NodeId>, server: NodeId, way: Way) -> Result<(), AllocError>
-    ensures { OnOk result (stuck.new.items ≡ stuck.old.items ++ stuck_by server way) }
+// Takes note of what became of a server.
+fn note_way(clearance: &mut Clearance, server: NodeId, way: Way) -> Result<(), AllocError>
+    ensures stuck { OnOk result
+        (clearance.new.stuck.items ≡ clearance.old.stuck.items ++ stuck_by server way) }
+    ensures still { OnOk result
+        (clearance.new.is_still ≡ (clearance.old.is_still && is_still way)) }
 {
-    if let Way::Stuck = way {
-        stuck.push(server)?;
+    match way {
+        Way::Clear => Ok(clearance.clear.push(server)?),
+        Way::Unmarked => Ok(()),
+        Way::Unread => {
+            clearance.is_still = false;
+            Ok(())
+        }
+        Way::Changed => {
+            clearance.is_still = false;
+            Ok(clearance.clear.push(server)?)
+        }
+        Way::Stuck => {
+            clearance.is_still = false;
+            Ok(clearance.stuck.push(server)?)
+        }
     }
-    Ok(())
 }
 
 // The same at one server. In a grid with a mark, one without its own is passed over.
@@ -150,15 +190,24 @@ where
     }
 }
 
-// Whether a share was left.
+// Whether a share was left, and else whether a file was touched.
 fn way_of(cleared: &Cleared) -> Way
-    ensures { result ≡ way_by cleared.now.left.items }
+    ensures { result ≡ way_by cleared.now.left.items (is_touched cleared.now) }
 {
-    if cleared.left.is_empty() {
-        Way::Clear
-    } else {
+    if !cleared.left.is_empty() {
         Way::Stuck
+    } else if is_touched(cleared) {
+        Way::Changed
+    } else {
+        Way::Clear
     }
+}
+
+// Whether a file was set aside or removed.
+fn is_touched(cleared: &Cleared) -> bool
+    ensures { result ≡ is_touched cleared.now }
+{
+    cleared.set_aside != 0 || cleared.open_removed != 0
 }
 
 // Tells what was done in a server's folder, and always what could not be done.

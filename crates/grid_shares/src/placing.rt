@@ -1,22 +1,25 @@
 //! Shares that are all made, placed on servers by a `put` or a `repair`.
 
-ghost use Rattle.std.specs.Prelude.{◌≡◌, ◌*◌, ◌-◌, ◌^◌, length, min, map, nat_eq, IfOk};
-ghost use Rattle.std.specs.Prelude.{if◌then◌else◌};
+ghost use Rattle.std.specs.Prelude.{◌≡◌, ◌*◌, ◌-◌, ◌^◌, ℕ, List, length, min, map, nat_eq, IfOk};
+ghost use Rattle.std.specs.Prelude.{◌&&◌, IfSome, Some, false, if◌then◌else◌, is_some, true};
 ghost use Rattle.std.specs.List.{IsDistinct};
 ghost use Rattle.grid_faults.specs.Servers.{server_of};
 ghost use Rattle.upload_core.specs.Moves.{Begins};
 ghost use Rattle.socket_links.specs.Ends.{pair_calls};
 ghost use Rattle.socket_links.specs.Links.{IsCarriedOver};
 ghost use Rattle.upload_core.specs.Calls.{upload_calls};
+ghost use Rattle.grid_servers.specs.Opened.{AreOpened};
 ghost use Rattle.grid_shares.specs.Placing.{ArePlaced, AreUploaded};
 ghost use Rattle.grid_shares.specs.Puts.{stored_status};
+ghost use Rattle.grid_shares.specs.Standing.{WereOpened};
 
-use crate::mending::clear_servers;
+use crate::mending::{Clearance, clear_servers};
+use crate::standing::OpenGrid;
 use carried_operations::uploads::carry_upload;
 use grid_faults::{Fault, servers_of};
 use grid_rules::becoming::fault_of_loop;
 use grid_rules::{reached_happiness, turn_limit};
-use grid_servers::{Durability, FIRST_SESSION, Purpose, open_servers, servers_without};
+use grid_servers::{Durability, Purpose, servers_without};
 use grid_telling::{Counting, Progress, Verb, note_servers};
 use share_fetching::SharePlace;
 use std::alloc::Global;
@@ -33,7 +36,7 @@ use wire::message::NodeId;
 const NOT_CLEARED: u8 = 5;
 
 /// How a store puts shares on its disk.
-pub(crate) fn durability_of(no_sync: bool) -> Durability
+pub fn durability_of(no_sync: bool) -> Durability
     ensures { result ≡ (if no_sync then Durability.Unsynced else Durability.Synced) }
 {
     if no_sync {
@@ -45,7 +48,7 @@ pub(crate) fn durability_of(no_sync: bool) -> Durability
 
 /// The servers of a grid on which shares are placed, and how that is done.
 #[derive(Clone, Copy)]
-pub(crate) struct Placing<'a> {
+pub struct Placing<'a> {
     pub grid: &'a str,
     pub servers: &'a [NodeId],
     pub durability: Durability,
@@ -59,7 +62,7 @@ pub(crate) struct Placing<'a> {
 
 /// What shares that were placed came to.
 #[derive(Clone, Copy)]
-pub(crate) struct Stored {
+pub struct Stored {
     /// How many servers acknowledged a share of their own, by its digest.
     pub happiness: usize,
     /// Whether all was set aside that is none of the file's shares.
@@ -68,20 +71,20 @@ pub(crate) struct Stored {
 
 impl Stored {
     /// The exit status: 0, or 5 where something could not be set aside.
-    pub(crate) fn status(&self) -> u8
+    pub fn status(&self) -> u8
         ensures { result ≡ stored_status self.now.is_cleared }
     {
         if self.is_cleared { 0 } else { NOT_CLEARED }
     }
 }
 
-/// Places shares on servers. First what stands under their names in the servers' folders, and is
-/// none of them, is set aside. A server at which that fails is left out, so that nothing counts
-/// which it holds. The files of the shares at these places stay, which are read for it. Nothing was
-/// changed in any folder before this.
+/// Places shares on servers, which are opened for it. First what stands under their names in the
+/// servers' folders, and is none of them, is set aside. A server at which that fails is left out,
+/// so that nothing counts which it holds. The files of the shares at these places stay, which are
+/// read for it. Nothing was changed in any folder before this.
 ///
 /// `Unhappy` where fewer servers than were wanted hold a share of their own.
-pub(crate) fn place_shares<R, P, E>(
+pub fn place_shares<R, P, E>(
     rt: &R,
     placing: &Placing<'_>,
     ready: ReadyUpload<P>,
@@ -95,16 +98,91 @@ where
     requires { IsDistinct nat_eq placing.now.servers.now }
     ensures { IfOk result (ArePlaced (upload_calls P.gives P.fails)
         (IsCarriedOver (pair_calls R.Stream.contents R.Stream.remaining)) placing.now.grid.now
-        placing.now.mend reading.now placing.now.servers.now ready) }
+        false placing.now.mend reading.now placing.now.servers.now ready) }
 {
-    let stuck = clear_servers(rt, placing, ready.goal(), reading, progress)?;
-    let servers = servers_without(rt.alloc(), placing.servers, stuck.as_slice())?;
-    let happiness = upload_to(rt, placing, servers.as_slice(), ready, progress)?;
-    let is_cleared = stuck.as_slice().is_empty();
+    let mut kept = None;
+    place_more(rt, placing, &mut kept, ready, reading, progress)
+}
+
+/// The same over the servers that are kept open, and keeps them where each answered. They are
+/// opened anew where a file was touched on the way, or a folder is not there as it was: so nothing
+/// counts that they told of files which are there no longer. After a fault none are kept.
+pub(crate) fn place_more<R, P, E>(
+    rt: &R,
+    placing: &Placing<'_>,
+    kept: &mut Option<OpenGrid<R>>,
+    ready: ReadyUpload<P>,
+    reading: &[SharePlace],
+    progress: &mut Progress<'_, R, E>,
+) -> Result<Stored, Fault>
+where
+    R: Files + Net + Clock + RandomSource + AllocGlobal + Clone + Drop,
+    P: Pieces + Drop,
+    E: Write + IsTerminal,
+    requires distinct { IsDistinct nat_eq placing.now.servers.now }
+    requires kept { IfSome kept.old (λ g. WereOpened (IsCarriedOver (pair_calls R.Stream.contents
+        R.Stream.remaining)) placing.now.grid.now g.grid) }
+    ensures placed { IfOk result (ArePlaced (upload_calls P.gives P.fails)
+        (IsCarriedOver (pair_calls R.Stream.contents R.Stream.remaining)) placing.now.grid.now
+        (is_some kept.old) placing.now.mend reading.now placing.now.servers.now ready) }
+    ensures kept { IfSome kept.new (λ g. WereOpened (IsCarriedOver (pair_calls R.Stream.contents
+        R.Stream.remaining)) placing.now.grid.now g.grid) }
+{
+    let held = kept.take();
+    let clearance = clear_servers(rt, placing, ready.goal(), reading, progress)?;
+    let servers = servers_without(rt.alloc(), placing.servers, clearance.stuck.as_slice())?;
+    let is_cleared = clearance.stuck.as_slice().is_empty();
+    progress.begin(placing.verb, Counting::Stored, bytes_of(ready.goal()));
+    let mut standing = open_for(rt, placing, servers.as_slice(), held, clearance)?;
+    let happiness = upload_to(
+        rt,
+        placing,
+        servers.as_slice(),
+        &mut standing,
+        ready,
+        progress,
+    )?;
+    *kept = standing.speaking();
     Ok(Stored {
         happiness,
         is_cleared,
     })
+}
+
+// The servers that are held, where they may be asked for another upload; else these are opened.
+fn open_for<R>(
+    rt: &R,
+    placing: &Placing<'_>,
+    servers: &[NodeId],
+    held: Option<OpenGrid<R>>,
+    clearance: Clearance,
+) -> Result<OpenGrid<R>, Fault>
+where
+    R: Files + Net + RandomSource + AllocGlobal + Clone + Drop,
+    requires { IfSome held (λ g. WereOpened (IsCarriedOver (pair_calls R.Stream.contents
+        R.Stream.remaining)) placing.now.grid.now g.grid) }
+    ensures opened { IfOk result (λ g. WereOpened (IsCarriedOver (pair_calls R.Stream.contents
+        R.Stream.remaining)) placing.now.grid.now g.grid) }
+    ensures anew { (is_some held && clearance.is_still) ≡ false
+        → IfOk result (λ g. AreOpened placing.now.grid.now g.grid) }
+{
+    match still_fitting(held, &clearance) {
+        Some(standing) => Ok(standing),
+        None => OpenGrid::open(rt, placing, servers, clearance.clear),
+    }
+}
+
+// The servers that are held, where they may be asked for another upload.
+fn still_fitting<R>(held: Option<OpenGrid<R>>, clearance: &Clearance) -> Option<OpenGrid<R>>
+where
+    R: Files + Net + RandomSource + AllocGlobal + Clone + Drop,
+    ensures held { IfSome result (λ g. held ≡ Some g) }
+    ensures still { IfSome result (λ _. clearance.now.is_still ≡ true) }
+{
+    match held {
+        Some(standing) => standing.after(clearance),
+        None => None,
+    }
 }
 
 // Uploads shares to these servers, which are distinct, and gives the happiness that was reached.
@@ -112,6 +190,7 @@ fn upload_to<R, P, E>(
     rt: &R,
     placing: &Placing<'_>,
     servers: &[NodeId],
+    standing: &mut OpenGrid<R>,
     ready: ReadyUpload<P>,
     progress: &mut Progress<'_, R, E>,
 ) -> Result<usize, Fault>
@@ -120,17 +199,32 @@ where
     P: Pieces + Drop,
     E: Write + IsTerminal,
     requires { IsDistinct nat_eq servers.now }
-    ensures { IfOk result (AreUploaded (upload_calls P.gives P.fails)
-        (IsCarriedOver (pair_calls R.Stream.contents R.Stream.remaining)) placing.now.grid.now
-        servers.now ready) }
+    ensures uploaded { IfOk result (AreUploaded (upload_calls P.gives P.fails)
+        (IsCarriedOver (pair_calls R.Stream.contents R.Stream.remaining)) standing.old.grid
+        standing.old.session servers.now ready) }
+    ensures opened { (grid : List ℕ) → WereOpened (IsCarriedOver (pair_calls R.Stream.contents
+        R.Stream.remaining)) grid standing.old.grid → IfOk result
+        (λ _. WereOpened (IsCarriedOver (pair_calls R.Stream.contents R.Stream.remaining)) grid
+        standing.new.grid) }
 {
-    progress.begin(placing.verb, Counting::Stored, bytes_of(ready.goal()));
+    let session = standing.next_session();
+    let (happy, turns, now) = (
+        ready.happy(),
+        turns_for(ready.goal()),
+        standing.nodes.clock(),
+    );
+    let upload = begin(rt.alloc(), ready, servers, session, now)?;
+    let nodes = &mut standing.nodes;
+    let upload = carry_upload(nodes, upload, turns, &mut *progress).map_err(fault_of_loop)?;
     let purpose = Purpose::Writing(placing.durability);
-    let mut nodes = open_servers(rt, placing.grid, servers, purpose, placing.net)?;
-    let (happy, turns, now) = (ready.happy(), turns_for(ready.goal()), nodes.clock());
-    let upload = begin(rt.alloc(), ready, servers, now)?;
-    let upload = carry_upload(&mut nodes, upload, turns, &mut *progress).map_err(fault_of_loop)?;
-    note_servers(rt, placing.grid, servers, &nodes, purpose, progress)?;
+    note_servers(
+        rt,
+        placing.grid,
+        servers,
+        &standing.nodes,
+        purpose,
+        progress,
+    )?;
     reached_happiness(upload.status(), happy)
 }
 
@@ -153,13 +247,14 @@ fn begin<P: Pieces + Drop>(
     alloc: Global,
     ready: ReadyUpload<P>,
     servers: &[NodeId],
+    session: u64,
     now: u64,
 ) -> Result<Upload<P>, Fault>
     requires { IsDistinct nat_eq servers.now }
     ensures begins { IfOk result (λ upload. Begins ready.goal ready.happy
-        (map server_of servers.now) FIRST_SESSION now upload.course) }
+        (map server_of servers.now) session now upload.course) }
     ensures pieces { IfOk result (λ upload. upload.pieces ≡ ready.pieces) }
 {
     let infos = servers_of(alloc, servers)?;
-    Ok(ready.start(alloc, &infos, FIRST_SESSION, now)?)
+    Ok(ready.start(alloc, &infos, session, now)?)
 }

@@ -1,8 +1,9 @@
 //! `grid put`: a file becomes shares on servers, and a cap.
 
 ghost use Rattle.std.specs.Prelude.{◌≡◌, ◌≤◌, ◌<◌, ◌*◌, ◌/◌, ℕ, List, length, max, IfOk, IfSome};
-ghost use Rattle.std.specs.Prelude.{nat_eq};
+ghost use Rattle.std.specs.Prelude.{is_some, nat_eq, option_map};
 ghost use Rattle.std.specs.List.{IsDistinct};
+ghost use Rattle.std.specs.String.{string_bytes};
 ghost use Rattle.tagged_hash.specs.ConvergentKey.{IsSecret};
 ghost use Rattle.ueb.specs.Limits.{min_file_size};
 ghost use Rattle.file_encoding.specs.Params.{parameters_of};
@@ -15,22 +16,26 @@ ghost use Rattle.socket_links.specs.Links.{IsCarriedOver};
 ghost use Rattle.streamed_upload.specs.Ready.{ready_stream};
 ghost use Rattle.streamed_upload.specs.Streamed.{Streaming};
 ghost use Rattle.upload_core.specs.Calls.{upload_calls};
-ghost use Rattle.grid_shares.specs.Puts.{IsLiteralOf, IsPutOf, IsToldOf};
-ghost use Rattle.grid_shares.specs.Puts.{IsPutBy, numbers_of, streamed_calls, whole_calls};
+ghost use Rattle.grid_shares.specs.Puts.{AreChoicesBy, IsLiteralOf, IsPutAlone, IsPutBy, IsPutOf};
+ghost use Rattle.grid_shares.specs.Puts.{IsToldOf, happiness_text, numbers_of, put_status};
+ghost use Rattle.grid_shares.specs.Puts.{put_text, said_by, streamed_calls, whole_calls};
+ghost use Rattle.grid_shares.specs.Standing.{WereOpened};
 
-use crate::placing::{Placing, Stored, durability_of, place_shares};
+use crate::numbers::{Choices, read_choices, server_count};
+use crate::placing::{Placing, Stored, durability_of, place_more};
+use crate::standing::OpenGrid;
 use crate::{DONE, Environment, Outcome};
 use cap_text::{Cap, LitCap, ReadCap};
-use file_encoding::{MAX_SECRET_SIZE, Params};
+use file_encoding::Params;
 use file_upload::prepared::{FileUpload, prepare};
-use grid_faults::{Fault, Limit, first_servers, made_line, told_path};
+use grid_faults::{Fault, first_servers, made_line, told_path};
 use grid_marks::{MAX_SERVERS, can_be_grid, grid_servers_count, known_grid, make_grid};
 use grid_rules::becoming::{fault_of_encoding, fault_of_preparing};
-use grid_servers::{grid_secret, is_new_grid, read_secret_file};
-use grid_telling::{Progress, Verb, note_limits};
-use grid_words::{PutWords, SecretWords};
+use grid_servers::{grid_secret, is_new_grid};
+use grid_telling::{Progress, Verb};
+use grid_words::PutWords;
 use sources::{FileSource, Source};
-use std::alloc::Global;
+use std::alloc::{AllocError, Global};
 use std::io::{self, IsTerminal, Write};
 use std::net::Net;
 use std::random::RandomSource;
@@ -39,12 +44,6 @@ use streamed_upload::prepared::prepare_stream;
 use upload_core::ReadyUpload;
 use upload_core::pieces::Pieces;
 use user_files::{Input, open_input};
-
-/// The greatest number of shares.
-const MAX_SHARES: u64 = 256;
-
-/// The greatest segment that may be chosen, in bytes.
-const MAX_SEGMENT_SIZE: u64 = 1 << 20;
 
 /// The greatest file that its cap holds, in bytes.
 const MAX_LITERAL_SIZE: usize = 55;
@@ -57,6 +56,26 @@ const USUAL_SERVERS: u16 = 10;
 /// takes it holds some 100 MB then. A greater file is never held.
 const HELD_SHARES: u64 = 63 << 20;
 
+/// A file that was put.
+#[derive(Drop)]
+pub struct PutFile {
+    pub cap: Cap,
+    /// What its shares came to; none of a small file, which its cap holds.
+    pub stored: Option<Stored>,
+}
+
+impl PutFile {
+    /// The exit status: 0, or 5 where something could not be set aside.
+    pub fn status(&self) -> u8
+        ensures { result ≡ put_status self.now }
+    {
+        match &self.stored {
+            Some(stored) => stored.status(),
+            None => DONE,
+        }
+    }
+}
+
 /// What a `put` stores by: its words, the numbers, and the secret, where one is said.
 #[derive(Clone, Copy)]
 struct Putting<'a> {
@@ -66,58 +85,66 @@ struct Putting<'a> {
     is_known: bool,
 }
 
-/// Stores a file, and gives the lines with its cap and its happiness. The cap of a small file holds
-/// it, and no server is needed.
+/// Stores the file of a path, and gives the lines with its cap and its happiness.
 pub fn put<R, E>(
     rt: &R,
     words: &PutWords<'_>,
+    path: &str,
     environment: &Environment<'_>,
     progress: &mut Progress<'_, R, E>,
 ) -> Result<Outcome, Fault>
 where
     R: Files + io::Input + Net + Clock + RandomSource + AllocGlobal + Clone + Drop,
     E: Write + IsTerminal,
-    ensures { IfOk result (IsPutBy (GivesOpened R.File.stream_position R.File.stream_bytes
+    ensures { IfOk result (IsPutAlone (GivesOpened R.File.stream_position R.File.stream_bytes
         R.File.remaining) (IsCarriedOver (pair_calls R.Stream.contents R.Stream.remaining))
         words.now) }
 {
-    let params = read_numbers(rt, words, progress)?;
-    let said = said_secret(rt, &words.secret, progress)?;
-    let said = match &said {
-        Some(secret) => Some(secret.as_slice()),
-        None => None,
-    };
-    let putting = Putting {
-        words,
-        params: &params,
-        said,
-        is_known: words.known || environment.known,
-    };
-    let most = most_held(&params);
-    match open_input(rt, words.file, environment.temporary, most)? {
-        Input::Held(file) => put_held(rt, &putting, file, progress),
-        Input::Opened(file, size) => put_opened(rt, &putting, file, size, progress),
-    }
+    let choices = read_choices(rt, words, progress)?;
+    let mut kept = None;
+    let file = put_file(rt, words, &choices, path, environment, &mut kept, progress)?;
+    let text = lines_of(rt.alloc(), &file, words.quiet)?;
+    Ok(Outcome {
+        text,
+        status: file.status(),
+    })
 }
 
-// The numbers of a put, in their ranges. Each that is not is told.
-fn read_numbers<R, E>(
+/// Stores the file of a path, or for `-` what standard input has left. The cap of a small file
+/// holds it, and no server is needed. The servers that are kept open are asked where they may be,
+/// and those are kept that were (`OpenGrid`).
+pub fn put_file<R, E>(
     rt: &R,
     words: &PutWords<'_>,
+    choices: &Choices,
+    path: &str,
+    environment: &Environment<'_>,
+    kept: &mut Option<OpenGrid<R>>,
     progress: &mut Progress<'_, R, E>,
-) -> Result<Params, Fault>
+) -> Result<PutFile, Fault>
 where
-    R: Clock + AllocGlobal,
+    R: Files + io::Input + Net + Clock + RandomSource + AllocGlobal + Clone + Drop,
     E: Write + IsTerminal,
-    ensures { IfOk result (λ params. params ≡ numbers_of words.now) }
+    requires choices { AreChoicesBy words.now choices.now }
+    requires kept { IfSome kept.old (λ g. WereOpened (IsCarriedOver (pair_calls R.Stream.contents
+        R.Stream.remaining)) words.now.grid.now g.grid) }
+    ensures put { IfOk result (IsPutBy (GivesOpened R.File.stream_position R.File.stream_bytes
+        R.File.remaining) (IsCarriedOver (pair_calls R.Stream.contents R.Stream.remaining))
+        words.now (said_by choices.now) (is_some kept.old)) }
+    ensures kept { IfSome kept.new (λ g. WereOpened (IsCarriedOver (pair_calls R.Stream.contents
+        R.Stream.remaining)) words.now.grid.now g.grid) }
 {
-    note_limits(rt, &limits_of(words), progress)?;
-    let params = Params::new(words.needed, words.happy, words.total, words.max_segment);
-    let params = params.map_err(fault_of_encoding)?;
-    if let Some(servers) = words.servers {
-        server_count(servers)?;
+    let putting = Putting {
+        words,
+        params: &choices.params,
+        said: choices.secret(),
+        is_known: words.known || environment.known,
+    };
+    let most = most_held(&choices.params);
+    match open_input(rt, path, environment.temporary, most)? {
+        Input::Held(file) => put_held(rt, &putting, file, kept, progress),
+        Input::Opened(file, size) => put_opened(rt, &putting, file, size, kept, progress),
     }
-    Ok(params)
 }
 
 // The bytes of the greatest file that is held: its shares have `total / needed` times so many, and
@@ -130,79 +157,15 @@ fn most_held(params: &Params) -> u64
     most.max(MAX_LITERAL_SIZE as u64)
 }
 
-// The numbers of a put, and their ranges. Where no number of servers is written there is none that
-// could be outside its range.
-fn limits_of<'a>(words: &PutWords<'a>) -> [Limit<'a>; 5] {
-    let total = words.total.min(MAX_SHARES);
-    [
-        limit("--k", words.needed, total),
-        limit("--happy", words.happy, total),
-        limit("--n", words.total, MAX_SHARES),
-        limit("--segment", words.max_segment, MAX_SEGMENT_SIZE),
-        limit(
-            "--servers",
-            words.servers.unwrap_or(1),
-            u64::from(MAX_SERVERS),
-        ),
-    ]
-}
-
-// A number from 1 to the most.
-fn limit<'a>(option: &'a str, value: u64, most: u64) -> Limit<'a> {
-    Limit {
-        option,
-        value,
-        least: 1,
-        most,
+// A file that its cap holds.
+fn literal(cap: LitCap) -> PutFile
+    ensures { IsLiteralOf cap result }
+{
+    PutFile {
+        cap: Cap::Lit(cap),
+        stored: None,
     }
 }
-
-// The line of a cap that holds its file.
-fn literal_line(alloc: Global, cap: LitCap) -> Result<Outcome, Fault>
-    ensures { IfOk result (IsLiteralOf cap) }
-{
-    let cap = Cap::Lit(cap);
-    Ok(Outcome {
-        text: format!(in alloc; "{cap}\n")?.into_bytes(),
-        status: DONE,
-    })
-}
-
-// The number of servers, which is 1 to 256.
-fn server_count(servers: u64) -> Result<u16, Fault>
-    ensures { IfOk result (λ count. (0 < count) × (count ≤ MAX_SERVERS)) }
-{
-    if servers == 0 || servers > u64::from(MAX_SERVERS) {
-        return Err(Fault::BadParameters);
-    }
-    Ok(servers as u16)
-}
-
-// The secret that the words say, which has at most 64 bytes; none where they say nothing.
-fn said_secret<R, E>(
-    rt: &R,
-    words: &SecretWords<'_>,
-    progress: &mut Progress<'_, R, E>,
-) -> Result<Option<Vec<u8>>, Fault>
-where
-    R: Files + Clock + AllocGlobal,
-    E: Write + IsTerminal,
-    ensures { IfOk result (λ said. IfSome said (λ secret. IsSecret secret.items)) }
-{
-    let secret = match words {
-        SecretWords::Unsaid => return Ok(None),
-        SecretWords::Text(text) => Vec::from_slice(rt.alloc(), text.as_bytes())?,
-        SecretWords::File(path) => read_secret_file(rt, path)?,
-    };
-    if secret.len() > MAX_SECRET_SIZE {
-        progress.tell(LONG_SECRET);
-        return Err(Fault::BadParameters);
-    }
-    Ok(Some(secret))
-}
-
-// What is told of a secret that is too long.
-const LONG_SECRET: &str = "a secret has at most 64 bytes\n";
 
 // Stores a file that is held. A fault of the grid's folder comes before those of the file's size,
 // and a small file does not need the folder.
@@ -210,20 +173,24 @@ fn put_held<R, E>(
     rt: &R,
     putting: &Putting<'_>,
     file: Vec<u8>,
+    kept: &mut Option<OpenGrid<R>>,
     progress: &mut Progress<'_, R, E>,
-) -> Result<Outcome, Fault>
+) -> Result<PutFile, Fault>
 where
     R: Files + Net + Clock + RandomSource + AllocGlobal + Clone + Drop,
     E: Write + IsTerminal,
-    requires { IfSome putting.now.said (λ secret. IsSecret secret.now) }
+    requires said { IfSome putting.now.said (λ secret. IsSecret secret.now) }
+    requires kept { IfSome kept.old (λ g. WereOpened (IsCarriedOver (pair_calls R.Stream.contents
+        R.Stream.remaining)) putting.now.words.now.grid.now g.grid) }
     ensures small { length file.items < min_file_size → IfOk result (IsLiteralOf file.items) }
-    ensures stored { min_file_size ≤ length file.items → IfOk result (λ outcome.
+    ensures stored { min_file_size ≤ length file.items → IfOk result (λ put.
         (secret : List ℕ) × IfSome putting.now.said (λ said. secret ≡ said.now)
         × IsPutOf whole_calls (IsCarriedOver (pair_calls R.Stream.contents R.Stream.remaining))
-        putting.now.words.now.grid.now putting.now.words.now.mend
+        putting.now.words.now.grid.now (is_some kept.old) putting.now.words.now.mend
         (upload_of (prepared_of file.items secret putting.now.params.now))
-        (prepared_of file.items secret putting.now.params.now).cap putting.now.words.now.quiet
-        outcome) }
+        (prepared_of file.items secret putting.now.params.now).cap put) }
+    ensures kept { IfSome kept.new (λ g. WereOpened (IsCarriedOver (pair_calls R.Stream.contents
+        R.Stream.remaining)) putting.now.words.now.grid.now g.grid) }
 {
     let size = file.as_slice().len();
     let secret = secret_for(rt, putting, size)?;
@@ -231,9 +198,9 @@ where
     match encode(rt.alloc(), file, &secret, putting.params)? {
         FileUpload::Shares(upload) => {
             let cap = *upload.cap();
-            place(rt, putting, &cap, upload.into_upload(), progress)
+            place(rt, putting, &cap, upload.into_upload(), kept, progress)
         }
-        FileUpload::Literal(cap) => literal_line(rt.alloc(), cap),
+        FileUpload::Literal(cap) => Ok(literal(cap)),
     }
 }
 
@@ -243,22 +210,28 @@ fn put_opened<R, E>(
     putting: &Putting<'_>,
     file: R::File,
     size: u64,
+    kept: &mut Option<OpenGrid<R>>,
     progress: &mut Progress<'_, R, E>,
-) -> Result<Outcome, Fault>
+) -> Result<PutFile, Fault>
 where
     R: Files + Net + Clock + RandomSource + AllocGlobal + Clone + Drop,
     E: Write + IsTerminal,
     requires said { IfSome putting.now.said (λ secret. IsSecret secret.now) }
     requires not_small { min_file_size ≤ size }
     requires numbers { putting.now.params.now ≡ numbers_of putting.now.words.now }
-    ensures { IfOk result (IsPutBy (GivesOpened R.File.stream_position R.File.stream_bytes
+    requires kept { IfSome kept.old (λ g. WereOpened (IsCarriedOver (pair_calls R.Stream.contents
+        R.Stream.remaining)) putting.now.words.now.grid.now g.grid) }
+    ensures put { IfOk result (IsPutBy (GivesOpened R.File.stream_position R.File.stream_bytes
         R.File.remaining) (IsCarriedOver (pair_calls R.Stream.contents R.Stream.remaining))
-        putting.now.words.now) }
+        putting.now.words.now (option_map (λ s. s.now) putting.now.said) (is_some kept.old)) }
+    ensures kept { IfSome kept.new (λ g. WereOpened (IsCarriedOver (pair_calls R.Stream.contents
+        R.Stream.remaining)) putting.now.words.now.grid.now g.grid) }
 {
-    may_put(rt, putting)?;
-    let secret = secret_of(rt, putting)?;
+    may_put(rt, putting.words.grid, putting.is_known)?;
+    let secret = secret_of(rt, putting.words.grid, putting.said)?;
     progress.encode(Verb::Put, size);
-    put_source(rt, putting, FileSource::new(file, size), &secret, progress)
+    let source = FileSource::new(file, size);
+    put_source(rt, putting, source, &secret, kept, progress)
 }
 
 // Stores what a source has, which is read twice.
@@ -267,38 +240,42 @@ fn put_source<R, S, E>(
     putting: &Putting<'_>,
     source: S,
     secret: &[u8],
+    kept: &mut Option<OpenGrid<R>>,
     progress: &mut Progress<'_, R, E>,
-) -> Result<Outcome, Fault>
+) -> Result<PutFile, Fault>
 where
     R: Files + Net + Clock + RandomSource + AllocGlobal + Clone + Drop,
     S: Source + Drop,
     E: Write + IsTerminal,
     requires secret { IsSecret secret.now }
     requires not_small { min_file_size ≤ S.size source }
-    ensures { IfOk result (λ outcome. (kept : Streaming S)
+    requires kept { IfSome kept.old (λ g. WereOpened (IsCarriedOver (pair_calls R.Stream.contents
+        R.Stream.remaining)) putting.now.words.now.grid.now g.grid) }
+    ensures put { IfOk result (λ put. (stream : Streaming S)
         × IsPreparedFrom S.gives (S.size source) source secret.now
-        (parameters_of putting.now.params.now) kept.kept kept.source
+        (parameters_of putting.now.params.now) stream.kept stream.source
         × IsPutOf (streamed_calls S.gives S.failures)
         (IsCarriedOver (pair_calls R.Stream.contents R.Stream.remaining))
-        putting.now.words.now.grid.now putting.now.words.now.mend
-        (ready_stream kept putting.now.params.now.happy) kept.kept.cap
-        putting.now.words.now.quiet outcome) }
+        putting.now.words.now.grid.now (is_some kept.old) putting.now.words.now.mend
+        (ready_stream stream putting.now.params.now.happy) stream.kept.cap put) }
+    ensures kept { IfSome kept.new (λ g. WereOpened (IsCarriedOver (pair_calls R.Stream.contents
+        R.Stream.remaining)) putting.now.words.now.grid.now g.grid) }
 {
     let ready = prepare_stream(rt.alloc(), source, secret, putting.params);
     let ready = ready.map_err(fault_of_preparing)?;
     let cap = *ready.pieces().cap();
-    place(rt, putting, &cap, ready, progress)
+    place(rt, putting, &cap, ready, kept, progress)
 }
 
-// Refuses what can be no grid's folder, and where only a grid that is marked is wanted, one that is
-// not.
-fn may_put<R>(rt: &R, putting: &Putting<'_>) -> Result<(), Fault>
+/// Refuses what can be no grid's folder, and where only a grid that is marked is wanted, one that
+/// is not.
+pub fn may_put<R>(rt: &R, grid: &str, is_known: bool) -> Result<(), Fault>
 where
     R: Files + AllocGlobal,
 {
-    can_be_grid(rt, putting.words.grid)?;
-    if putting.is_known {
-        known_grid(rt, putting.words.grid)?;
+    can_be_grid(rt, grid)?;
+    if is_known {
+        known_grid(rt, grid)?;
     }
     Ok(())
 }
@@ -316,24 +293,23 @@ where
     if size <= MAX_LITERAL_SIZE {
         return Ok(Vec::new(rt.alloc()));
     }
-    may_put(rt, putting)?;
-    secret_of(rt, putting)
+    may_put(rt, putting.words.grid, putting.is_known)?;
+    secret_of(rt, putting.words.grid, putting.said)
 }
 
-// The secret that a file's key depends on: the one that was said, else the grid's, and where it has
-// none no byte.
-fn secret_of<R>(rt: &R, putting: &Putting<'_>) -> Result<Vec<u8>, Fault>
+/// The secret that a file's key depends on: the one that was said, else the grid's, and where it
+/// has none no byte.
+pub fn secret_of<R>(rt: &R, grid: &str, said: Option<&[u8]>) -> Result<Vec<u8>, Fault>
 where
     R: Files + AllocGlobal,
-    requires { IfSome putting.now.said (λ secret. IsSecret secret.now) }
+    requires { IfSome said (λ secret. IsSecret secret.now) }
     ensures secret { IfOk result (λ secret. IsSecret secret.items) }
-    ensures said { IfOk result
-        (λ secret. IfSome putting.now.said (λ said. secret.items ≡ said.now)) }
+    ensures said { IfOk result (λ secret. IfSome said.entry (λ said. secret.items ≡ said.now)) }
 {
-    match putting.said {
+    match said {
         Some(secret) => Ok(Vec::from_slice(rt.alloc(), secret)?),
         None => {
-            let kept = grid_secret(rt, putting.words.grid)?;
+            let kept = grid_secret(rt, grid)?;
             Ok(kept.unwrap_or(Vec::new(rt.alloc())))
         }
     }
@@ -366,23 +342,28 @@ fn encode(alloc: Global, file: Vec<u8>, secret: &[u8], params: &Params) -> Resul
     prepare(alloc, &file, secret, params).map_err(fault_of_encoding)
 }
 
-// Places the shares on the servers of the grid, which is made where it is not there, and gives the
-// lines with the cap and the happiness.
+// Places the shares on the servers of the grid, which is made where it is not there. It is there
+// where its servers are kept open.
 fn place<R, P, E>(
     rt: &R,
     putting: &Putting<'_>,
     cap: &ReadCap,
     ready: ReadyUpload<P>,
+    kept: &mut Option<OpenGrid<R>>,
     progress: &mut Progress<'_, R, E>,
-) -> Result<Outcome, Fault>
+) -> Result<PutFile, Fault>
 where
     R: Files + Net + Clock + RandomSource + AllocGlobal + Clone + Drop,
     P: Pieces + Drop,
     E: Write + IsTerminal,
-    ensures { IfOk result (IsPutOf (upload_calls P.gives P.fails)
+    requires { IfSome kept.old (λ g. WereOpened (IsCarriedOver (pair_calls R.Stream.contents
+        R.Stream.remaining)) putting.now.words.now.grid.now g.grid) }
+    ensures put { IfOk result (IsPutOf (upload_calls P.gives P.fails)
         (IsCarriedOver (pair_calls R.Stream.contents R.Stream.remaining))
-        putting.now.words.now.grid.now putting.now.words.now.mend ready cap.now
-        putting.now.words.now.quiet) }
+        putting.now.words.now.grid.now (is_some kept.old) putting.now.words.now.mend ready
+        cap.now) }
+    ensures kept { IfSome kept.new (λ g. WereOpened (IsCarriedOver (pair_calls R.Stream.contents
+        R.Stream.remaining)) putting.now.words.now.grid.now g.grid) }
 {
     let words = putting.words;
     let servers = first_servers(rt.alloc(), servers_for(rt, putting)?)?;
@@ -394,10 +375,22 @@ where
         net: words.net,
         verb: Verb::Put,
     };
-    begin_grid(rt, &placing, progress)?;
-    let stored = place_shares(rt, &placing, ready, &[], progress)?;
+    if kept.is_none() {
+        begin_grid(rt, &placing, progress)?;
+    }
+    let stored = place_more(rt, &placing, kept, ready, &[], progress)?;
     progress.clear();
-    outcome_of(rt.alloc(), cap, &stored, words.quiet)
+    Ok(stored_file(cap, stored))
+}
+
+// A file whose shares were stored.
+fn stored_file(cap: &ReadCap, stored: Stored) -> PutFile
+    ensures { IsToldOf cap.now stored result }
+{
+    PutFile {
+        cap: Cap::Chk(*cap),
+        stored: Some(stored),
+    }
 }
 
 // Makes the folder of the grid, where it is not there. A grid that is new is told always: the
@@ -422,16 +415,26 @@ where
 }
 
 // The lines with a file's cap and its happiness, or the cap alone.
-fn outcome_of(alloc: Global, cap: &ReadCap, stored: &Stored, quiet: bool) -> Result<Outcome, Fault>
-    ensures { IfOk result (IsToldOf cap.now quiet stored.now) }
+fn lines_of(alloc: Global, file: &PutFile, quiet: bool) -> Result<Vec<u8>, AllocError>
+    ensures { IfOk result (λ lines. lines.items ≡ put_text file.now quiet) }
 {
-    let text = if quiet {
-        format!(in alloc; "{cap}\n")
-    } else {
-        format!(in alloc; "{cap}\nhappiness {}\n", stored.happiness)
-    };
-    Ok(Outcome {
-        text: text?.into_bytes(),
-        status: stored.status(),
-    })
+    let happiness = happiness_line(alloc, &file.stored, quiet)?;
+    let text = format!(in alloc; "{}\n{happiness}", file.cap)?;
+    Ok(text.into_bytes())
+}
+
+// The line with the happiness, where there is one that is to be told.
+fn happiness_line(alloc: Global, stored: &Option<Stored>, quiet: bool) -> Result<String, AllocError>
+    ensures { IfOk result (λ line. string_bytes line ≡ happiness_text stored.now quiet) }
+{
+    match stored {
+        None => Ok(String::new(alloc)),
+        Some(stored) => {
+            if quiet {
+                Ok(String::new(alloc))
+            } else {
+                format!(in alloc; "happiness {}\n", stored.happiness)
+            }
+        }
+    }
 }

@@ -1,5 +1,5 @@
 -- What the getters of the matches give, by the rows.
-use Rattle.std.proofs.Common.{◌≡◌, ◌∙◌, ◌&&◌, ℕ, Bool, true, false, refl, sym, ap, List, [], ◌∷◌, length, Option, Some, None, Result, Ok, Err, true≢false, nat_lt, lt-ltb, ltb-true, codes}
+use Rattle.std.proofs.Common.{◌≡◌, ◌∙◌, ◌&&◌, ℕ, Bool, true, false, refl, sym, ap, List, [], ◌∷◌, length, Option, Some, None, Result, Ok, Err, map, true≢false, nat_lt, lt-ltb, ltb-true, codes}
 use Rattle.std.specs.Borrow.{Bor}
 use Rattle.std.specs.List.{list_all}
 use Rattle.std.specs.Option.{option_map, unwrap_or}
@@ -65,3 +65,12 @@ pub text_read : (o : Option (Bor Text)) (other : Bor Text) (found : Option Text)
     → (unwrap_or o other).now ≡ unwrap_or found []
 text_read None other found same empty = empty ∙ ap (λ (t : Option Text). unwrap_or t []) same
 text_read (Some s) other found same empty = ap (λ (t : Option Text). unwrap_or t []) same
+
+-- the texts of an answer, or none
+pub some_texts : (o : Option (Bor (List (Bor Text)))) (given : Bor (List (Bor Text))) (found : Option (List Text)) → o ≡ Some given
+    → option_map (λ (s : Bor (List (Bor Text))). map (λ (v : Bor Text). v.now) s.now) o ≡ found → map (λ (v : Bor Text). v.now) given.now ≡ unwrap_or found []
+some_texts o given found is same = ap (λ (t : Option (List Text)). unwrap_or t []) (sym (ap (option_map (λ (s : Bor (List (Bor Text))). map (λ (v : Bor Text). v.now) s.now)) is) ∙ same)
+
+pub no_texts : (o : Option (Bor (List (Bor Text)))) (found : Option (List Text)) → o ≡ None
+    → option_map (λ (s : Bor (List (Bor Text))). map (λ (v : Bor Text). v.now) s.now) o ≡ found → [] ≡ unwrap_or found []
+no_texts o found is same = ap (λ (t : Option (List Text)). unwrap_or t []) (sym (ap (option_map (λ (s : Bor (List (Bor Text))). map (λ (v : Bor Text). v.now) s.now)) is) ∙ same)

@@ -1,15 +1,17 @@
 -- What a command and the values of its arguments ask for.
 use Rattle.std.specs.Prelude.{◌≡◌, ◌≢◌, ◌&&◌, ℕ, Bool, true, false, List, [], ◌∷◌, Option, Some}
 use Rattle.std.specs.Prelude.{codes, if◌then◌else◌, length, nat_lt, option_and_then, option_map}
-use Rattle.std.specs.Prelude.{None, unwrap_or}
+use Rattle.std.specs.Prelude.{None, map, unwrap_or}
 use Rattle.std.specs.List.{All, list_all}
 use Rattle.std.specs.Str.Parse.{digits_value, without_leading_plus}
 use Rattle.std.specs.Char.{digit_value}
-use Rattle.clap.specs.Words.{Row, Text, first_of, found_of, one_of, rows_of}
+use Rattle.clap.specs.Words.{Row, Text, all_of, first_of, found_of, one_of, rows_of}
 use Rattle.clap.specs.declared.parser.matches.ArgMatches.{ArgMatches}
 use Rattle.grid_words.specs.declared.words.CheckWords.{CheckWords}
 use Rattle.grid_words.specs.declared.words.GetWords.{GetWords}
 use Rattle.grid_words.specs.declared.words.InitWords.{InitWords}
+use Rattle.grid_words.specs.declared.words.ListWords.{ListWords}
+use Rattle.grid_words.specs.declared.words.ListWords.TheVariants as lists
 use Rattle.grid_words.specs.declared.words.Marking.{Marking}
 use Rattle.grid_words.specs.declared.words.Marking.TheVariants as markings
 use Rattle.grid_words.specs.declared.words.PutWords.{PutWords}
@@ -27,6 +29,10 @@ rows_in m = rows_of (found_of m)
 -- the text of an argument that is always there
 abbrev pub text_under : Text → List Row → Text
 text_under id rows = unwrap_or (first_of id rows) []
+
+-- the texts of an argument that may have several
+abbrev pub texts_under : Text → List Row → List Text
+texts_under id rows = unwrap_or (all_of id rows) []
 
 -- the number below 2^64 that a text spells in decimal
 abbrev pub spelled_number : Text → Option ℕ
@@ -51,6 +57,14 @@ IsSecret rows (secrets.Text text) = (first_of (codes "secret-file") rows ≡ Non
     × (first_of (codes "secret") rows ≡ Some text.now)
 IsSecret rows (secrets.File path) = first_of (codes "secret-file") rows ≡ Some path.now
 
+-- a list of files of a put
+abbrev pub IsList : List Row → ListWords → Type 0
+IsList rows lists.Unsaid = (first_of (codes "files0-from") rows ≡ None)
+    × (first_of (codes "files-from") rows ≡ None)
+IsList rows (lists.Lines path) = (first_of (codes "files0-from") rows ≡ None)
+    × (first_of (codes "files-from") rows ≡ Some path.now)
+IsList rows (lists.Nuls path) = first_of (codes "files0-from") rows ≡ Some path.now
+
 -- what becomes of a grid's marks
 abbrev pub IsMarking : List Row → Marking → Type 0
 IsMarking rows (markings.Replace server) = number_under (codes "replace") rows ≡ Some server
@@ -73,7 +87,8 @@ pub record AsksInit (rows : List Row) (words : InitWords) : Type 0 where
   pub verbose : IsFlag (one_of (codes "verbose") rows) words.verbose
 
 pub record AsksPut (rows : List Row) (words : PutWords) : Type 0 where
-  pub file : words.file.now ≡ text_under (codes "FILE") rows
+  pub files : map (λ f. f.now) words.files.items ≡ texts_under (codes "FILE") rows
+  pub list : IsList rows words.list
   pub grid : words.grid.now ≡ text_under (codes "grid") rows
   pub secret : IsSecret rows words.secret
   pub needed : words.needed ≡ unwrap_or (number_under (codes "k") rows) 0

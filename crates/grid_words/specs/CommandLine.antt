@@ -1,5 +1,6 @@
 -- The command line of `grid`, as `clap` reads it: its commands, and the arguments of each.
 use Rattle.std.specs.Prelude.{true, false, List, [], ◌∷◌, Some, codes}
+use Rattle.clap.specs.Lexer.{usize_max}
 use Rattle.clap.specs.Simple.{App, Shape, new_rule, new_shape}
 use Rattle.clap.specs.Walk.{Rule, Text}
 use Rattle.clap.specs.declared.builder.action.ArgAction.TheVariants.{SetTrue}
@@ -45,6 +46,15 @@ output = record (option (codes "output")) { short = Some 111 }
 abbrev pub excluding : Rule → Rule
 excluding rule = record rule { is_free = false }
 
+-- files of which one has to be there at least, unless there is a list
+abbrev pub files : Rule
+files = excluding (record (new_rule (codes "FILE")) {
+  range = Some (record { start_inclusive = 1; end_inclusive = usize_max });
+})
+
+abbrev pub files_from : Rule
+files_from = excluding (option (codes "files-from"))
+
 abbrev pub secret_file : Rule
 secret_file = excluding (option (codes "secret-file"))
 
@@ -65,7 +75,9 @@ init_rules = operand (codes "DIR")
     ∷ []
 
 abbrev pub put_rules : List Rule
-put_rules = operand (codes "FILE")
+put_rules = files
+    ∷ files_from
+    ∷ option (codes "files0-from")
     ∷ grid_folder
     ∷ number_or (codes "k") (codes "3")
     ∷ happy

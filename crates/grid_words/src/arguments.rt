@@ -3,18 +3,48 @@
 ghost use Rattle.std.specs.Prelude.{codes, IfOk};
 ghost use Rattle.clap.specs.Walk.{Rule};
 ghost use Rattle.grid_words.specs.Builds.{HasRule};
-ghost use Rattle.grid_words.specs.CommandLine.{add, excluding, flag, grid_folder, happy, number};
+ghost use Rattle.grid_words.specs.CommandLine.{add, excluding, files, files_from, flag};
+ghost use Rattle.grid_words.specs.CommandLine.{grid_folder, happy, number};
 ghost use Rattle.grid_words.specs.CommandLine.{number_or, operand, option, output, replace};
 ghost use Rattle.grid_words.specs.CommandLine.{secret_file, verbose};
 
 use clap::{Arg, ArgAction, value_parser};
 use std::alloc::{AllocError, Global};
 
-/// The file of a `put`.
-pub(crate) fn file<'a>(alloc: Global) -> Arg<'a>
-    ensures { HasRule (operand (codes "FILE")) result }
+/// The files of a `put`.
+pub(crate) fn files<'a>(alloc: Global) -> Result<Arg<'a>, AllocError>
+    ensures { IfOk result (HasRule files) }
 {
-    operand(alloc, "FILE", "The file to store, or - for standard input")
+    Arg::new(alloc, "FILE")
+        .num_args(1..)
+        .help("The files to store, or - for standard input")
+        .required_unless_present("files-from")?
+        .required_unless_present("files0-from")
+}
+
+/// A list of more of them, of a name a line.
+pub(crate) fn files_from<'a>(alloc: Global) -> Result<Arg<'a>, AllocError>
+    ensures { IfOk result (HasRule files_from) }
+{
+    option(
+        alloc,
+        "files-from",
+        "LIST",
+        "Store the files of LIST too, which has a name a line; - is standard input",
+    )
+    .conflicts_with("files0-from")
+}
+
+/// The same, of names that each end with a NUL.
+pub(crate) fn files0_from<'a>(alloc: Global) -> Arg<'a>
+    ensures { HasRule (option (codes "files0-from")) result }
+{
+    option(
+        alloc,
+        "files0-from",
+        "LIST",
+        "The same with a NUL behind each name, as `find -print0` writes them",
+    )
 }
 
 /// The cap of a file that is to be read.

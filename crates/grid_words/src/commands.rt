@@ -10,9 +10,9 @@ ghost use Rattle.grid_words.specs.CommandLine.{repair_shape, scrub_rules, scrub_
 ghost use Rattle.grid_words.specs.CommandLine.{world_shape};
 
 use crate::arguments::{
-    add, adopt, file, flag, grid_folder, happy, json, kept_secret, known, max_segment, mend,
-    needed, net, new_grid, new_servers, no_sync, number, operand, output, read_cap, replace,
-    secret, secret_file, servers, total, verbose, verify_cap,
+    add, adopt, files, files_from, files0_from, flag, grid_folder, happy, json, kept_secret, known,
+    max_segment, mend, needed, net, new_grid, new_servers, no_sync, number, operand, output,
+    read_cap, replace, secret, secret_file, servers, total, verbose, verify_cap,
 };
 use clap::{Arg, Command};
 use std::alloc::{AllocError, Global};
@@ -128,7 +128,8 @@ fn put_command<'a>(alloc: Global) -> Result<Command<'a>, AllocError>
         alloc,
         "put",
         "Stores a file and prints its cap, which gives it back, and how many servers hold shares \
-of their own.",
+of their own. Of several files, or of a list, it prints a catalogue: a line for each that is \
+stored, with its cap and its name.",
         coding_arguments(alloc)?,
     )?;
     command.args(storing_arguments(alloc)?)
@@ -136,10 +137,12 @@ of their own.",
 
 // What `put` stores, and the numbers by which it is cut and placed.
 fn coding_arguments<'a>(alloc: Global) -> Result<Vec<Arg<'a>>, AllocError>
-    ensures { IfOk result (λ arguments. HaveRules (take 7 put_rules) arguments.items) }
+    ensures { IfOk result (λ arguments. HaveRules (take 9 put_rules) arguments.items) }
 {
     Ok(vec![in alloc;
-        file(alloc),
+        files(alloc)?,
+        files_from(alloc)?,
+        files0_from(alloc),
         grid_folder(alloc),
         needed(alloc),
         happy(alloc),
@@ -151,7 +154,7 @@ fn coding_arguments<'a>(alloc: Global) -> Result<Vec<Arg<'a>>, AllocError>
 
 // How `put` keys, stores and tells.
 fn storing_arguments<'a>(alloc: Global) -> Result<Vec<Arg<'a>>, AllocError>
-    ensures { IfOk result (λ arguments. HaveRules (drop 7 put_rules) arguments.items) }
+    ensures { IfOk result (λ arguments. HaveRules (drop 9 put_rules) arguments.items) }
 {
     Ok(vec![in alloc;
         secret(alloc),

@@ -8,6 +8,6 @@ mod words;
 
 pub use commands::VERSION;
 pub use words::{
-    CheckWords, GetWords, InitWords, Marking, PutWords, RepairWords, Request, ScrubWords,
-    SecretWords, read_words,
+    CheckWords, GetWords, InitWords, ListWords, Marking, PutWords, RepairWords, Request,
+    ScrubWords, SecretWords, read_words,
 };

@@ -3,15 +3,15 @@
 ghost use Rattle.std.specs.Prelude.{◌≡◌, IfErr, IfOk, map, option_map, true};
 ghost use Rattle.clap.specs.Words.{first_of, kind_of, one_of, subcommand_of, takes};
 ghost use Rattle.grid_words.specs.Asked.{Asks, AsksCheck, AsksGet, AsksInit, AsksPut, AsksRepair};
-ghost use Rattle.grid_words.specs.Asked.{AsksScrub, IsAsked, IsFlag, IsMarking, IsSecret};
+ghost use Rattle.grid_words.specs.Asked.{AsksScrub, IsAsked, IsFlag, IsList, IsMarking, IsSecret};
 ghost use Rattle.grid_words.specs.Asked.{asks_notes, number_under, rows_in, text_under};
-ghost use Rattle.grid_words.specs.Asked.{wants_known};
+ghost use Rattle.grid_words.specs.Asked.{texts_under, wants_known};
 ghost use Rattle.grid_words.specs.CommandLine.{grid_app};
 
 use crate::commands::grid_command;
 use clap::error::ErrorKind;
 use clap::{ArgMatches, Error};
-use std::alloc::Global;
+use std::alloc::{AllocError, Global};
 use std::convert::AsStr;
 
 /// What the user asks for.
@@ -94,11 +94,23 @@ pub struct InitWords<'a> {
     pub verbose: bool,
 }
 
-/// `grid put FILE --grid DIR ..`: numbers as the user wrote them, in no range yet.
+/// A list of names of files.
+#[derive(Drop)]
+pub enum ListWords<'a> {
+    /// None was written.
+    Unsaid,
+    /// `--files-from LIST`: the path of one with a name a line, or `-`.
+    Lines(&'a str),
+    /// `--files0-from LIST`: that of one with a NUL behind each name, or `-`.
+    Nuls(&'a str),
+}
+
+/// `grid put FILE.. --grid DIR ..`: numbers as the user wrote them, in no range yet.
 #[derive(Drop)]
 pub struct PutWords<'a> {
-    /// A path, or `-` for standard input.
-    pub file: &'a str,
+    /// Paths, or `-` for standard input. There is one at least, or a list.
+    pub files: Vec<&'a str>,
+    pub list: ListWords<'a>,
     pub grid: &'a str,
     pub secret: SecretWords<'a>,
     pub needed: u64,
@@ -176,19 +188,23 @@ pub fn read_words<'a, S: AsStr>(alloc: Global, words: &'a [S]) -> Result<Request
     let command = grid_command(alloc)?;
     let matches = command.try_get_matches_from(words)?;
     match matches.subcommand() {
-        Some((name, found)) => Ok(request_of(name, found)),
+        Some((name, found)) => Ok(request_of(alloc, name, found)?),
         // A command is required.
         None => unreachable!(),
     }
 }
 
 // What a command's own words ask for.
-fn request_of<'a>(name: &str, found: &ArgMatches<'a>) -> Request<'a>
-    ensures { Asks name.now (rows_in found.now) result }
+fn request_of<'a>(
+    alloc: Global,
+    name: &str,
+    found: &ArgMatches<'a>,
+) -> Result<Request<'a>, AllocError>
+    ensures { IfOk result (Asks name.now (rows_in found.now)) }
 {
-    match name {
+    Ok(match name {
         "init" => Request::Init(init_words(found)),
-        "put" => Request::Put(put_words(found)),
+        "put" => Request::Put(put_words(alloc, found)?),
         "get" => Request::Get(get_words(found)),
         "check" => Request::Check(check_words(found)),
         "repair" => Request::Repair(repair_words(found)),
@@ -196,7 +212,7 @@ fn request_of<'a>(name: &str, found: &ArgMatches<'a>) -> Request<'a>
         "world" => Request::World(text_of(found, "SCRIPT")),
         // There is no other.
         _ => Request::Describe(text_of(found, "CAP")),
-    }
+    })
 }
 
 fn init_words<'a>(found: &ArgMatches<'a>) -> InitWords<'a>
@@ -223,11 +239,12 @@ fn marking_of(found: &ArgMatches<'_>) -> Marking
     }
 }
 
-fn put_words<'a>(found: &ArgMatches<'a>) -> PutWords<'a>
-    ensures { AsksPut (rows_in found.now) result }
+fn put_words<'a>(alloc: Global, found: &ArgMatches<'a>) -> Result<PutWords<'a>, AllocError>
+    ensures { IfOk result (AsksPut (rows_in found.now)) }
 {
-    PutWords {
-        file: text_of(found, "FILE"),
+    Ok(PutWords {
+        files: texts_of(alloc, found, "FILE")?,
+        list: list_words(found),
         grid: text_of(found, "grid"),
         secret: secret_words(found),
         needed: number_of(found, "k").unwrap_or(0),
@@ -241,6 +258,20 @@ fn put_words<'a>(found: &ArgMatches<'a>) -> PutWords<'a>
         quiet: is_set(found, "quiet"),
         known: is_set(found, "known"),
         verbose: is_set(found, "verbose"),
+    })
+}
+
+// The two kinds of lists exclude each other.
+fn list_words<'a>(found: &ArgMatches<'a>) -> ListWords<'a>
+    ensures { IsList (rows_in found.now) result }
+{
+    match (
+        found_text(found, "files0-from"),
+        found_text(found, "files-from"),
+    ) {
+        (Some(path), _) => ListWords::Nuls(path),
+        (None, Some(path)) => ListWords::Lines(path),
+        (None, None) => ListWords::Unsaid,
     }
 }
 
@@ -321,6 +352,17 @@ fn found_text<'a>(found: &ArgMatches<'a>, id: &str) -> Option<&'a str>
     ensures { option_map (λ s. s.now) result ≡ first_of id.now (rows_in found.now) }
 {
     found.get_str(id)
+}
+
+// The texts of an argument that may have several.
+fn texts_of<'a>(alloc: Global, found: &ArgMatches<'a>, id: &str) -> Result<Vec<&'a str>, AllocError>
+    ensures { IfOk result
+        (λ texts. map (λ s. s.now) texts.items ≡ texts_under id.now (rows_in found.now)) }
+{
+    match found.get_strs(id) {
+        Some(texts) => Vec::from_slice(alloc, texts),
+        None => Ok(Vec::new(alloc)),
+    }
 }
 
 // The text of an argument that is required or has a default, so that it is always there.

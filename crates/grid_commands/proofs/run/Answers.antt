@@ -6,13 +6,13 @@ pub returns-in-Init : goal.returns-in-Init
 returns-in-Init g c = init_run _ _ c.args.request.now c.printed.result _ _ _ _ refl c.in-Init.words c.init.result c.in-Init.is c.init.ensures c.printed.ensures.done c.printed.ensures.undone
 
 pub returns-in-Put : goal.returns-in-Put
-returns-in-Put g c = put_run _ _ c.args.request.now c.told.result _ _ _ _ refl c.in-Put.words c.put.result c.in-Put.is c.put.ensures c.told.ensures.done c.told.ensures.undone
+returns-in-Put g c = put_run _ _ c.args.request.now c.put.result _ _ _ _ refl c.in-Put.words c.in-Put.is c.put.ensures.done c.put.ensures.undone
 
 pub returns-in-Get : goal.returns-in-Get
 returns-in-Get g c = get_run _ _ c.args.request.now c.got.result _ _ _ _ c.in-Get.words c.in-Get.is c.got.ensures.done c.got.ensures.undone c.got.ensures.filed
 
 pub returns-in-Check : goal.returns-in-Check
-returns-in-Check g c = check_run _ _ c.args.request.now c.told-in-Check.result _ _ _ _ refl c.in-Check.words c.check.result c.in-Check.is c.check.ensures c.told-in-Check.ensures.done c.told-in-Check.ensures.undone
+returns-in-Check g c = check_run _ _ c.args.request.now c.told.result _ _ _ _ refl c.in-Check.words c.check.result c.in-Check.is c.check.ensures c.told.ensures.done c.told.ensures.undone
 
 pub returns-in-Repair : goal.returns-in-Repair
 returns-in-Repair g c = repair_run _ _ c.args.request.now c.told-in-Repair.result _ _ _ _ refl c.in-Repair.words c.repair.result c.in-Repair.is c.repair.ensures c.told-in-Repair.ensures.done c.told-in-Repair.ensures.undone

@@ -4,4 +4,4 @@ use Rattle.grid_shares.proofs.mending.clear_servers.Given as goal
 
 -- what became of the servers so far
 abbrev pub invariant-loop-server : goal.invariant-loop-server
-invariant-loop-server g l = AreCleared l.goal l.placing.mend l.reading (take l.server-index l.fn.placing.servers.now) l.stuck.items
+invariant-loop-server g l = AreCleared l.goal l.placing.mend l.reading (take l.server-index l.fn.placing.servers.now) l.clearance.stuck.items l.clearance.is_still

@@ -20,7 +20,7 @@ returns-clause-asked g c =
     ap (option_map (λ (p : Text × List Row). p.0)) (sym found) ∙ name_in_rows c.in_ok-matches.matches ∙ sym c.in-Some.ensures.name in
     let held : option_map (λ (p : Text × List Row). p.1) (subcommand_of grid_app texts) ≡ Some (rows_in c.in-Some.found.now) =
     ap (option_map (λ (p : Text × List Row). p.1)) (sym found) ∙ sym c.in-Some.ensures.rows in
-    asked _ _ _ _ named held c.request_of.ensures
+    asked _ _ _ _ named held c.in_ok-request_of-in-Some.ensures
 
 pub returns-in_err-matches-clause-passes : goal.returns-in_err-matches-clause-passes
 returns-in_err-matches-clause-passes g c =

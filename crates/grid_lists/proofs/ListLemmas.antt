@@ -1,0 +1,171 @@
+-- Files of a list, one after the other, and their catalogue.
+use Rattle.std.proofs.Common.{◌≡◌, ◌<◌, ◌+◌, ◌∙◌, ℕ, List, [], ◌∷◌, ◌++◌, Bool, true, false, Option, Some, Bor, length, map, take, refl, sym, ap, subst, get_or, Result, Ok, Err, IfOk, IfErr}
+use Rattle.std.proofs.lemmas.Result.{IfOk-weaker}
+use Rattle.std.specs.Io.KnownBytes.{Appends}
+use Rattle.std.specs.List.{AllByRecursion, flat_map}
+use Rattle.std.specs.Prelude.{codes, decimal, fold}
+use Rattle.std.proofs.KnownBytes.{Appends-nil, Appends-trans}
+use Rattle.std.proofs.lemmas.Grind.{flat_map-append}
+use Rattle.std.proofs.lemmas.List.{append-nil, append_assoc, get_or-map, length-map, map-append, take_more}
+use Rattle.std.proofs.lemmas.List.Sums.{fold-append}
+use Rattle.sources.specs.Opened.{Opened}
+use Rattle.local_grid.specs.Nodes.{Carries}
+use Rattle.grid_words.specs.declared.words.PutWords.{PutWords}
+use Rattle.grid_lists.specs.Ends.{IsListed}
+use Rattle.cap_text.specs.Base32.{base32}
+use Rattle.catalogues.specs.Catalogues.{Entry, IsEntry, entry_text}
+use Rattle.catalogues.specs.Heads.{first_text, first_then, nine_digits}
+use Rattle.catalogues.specs.Lines.{line_text}
+use Rattle.catalogues.specs.declared.head.Head.{Head}
+use Rattle.grid_faults.specs.Fault.{fault_status}
+use Rattle.grid_faults.specs.declared.fault.Fault.{Fault}
+use Rattle.grid_shares.specs.Puts.{IsPutBy, put_status}
+use Rattle.grid_shares.specs.declared.putting.PutFile.{PutFile}
+use Rattle.grid_telling.specs.declared.outcome.Failure.{Failure}
+use Rattle.grid_lists.specs.Puts.{AreListed, Fate, IsFate, IsHeadBy, IsPutDone, IsPutList, IsPutOne, IsPutUndone, Listed, fate_entries, fate_text, is_one, listed_entries, listed_status, listed_text, many, one, refused, status_after, stored}
+
+-- pieces, one behind the other
+abbrev joined : List (List ℕ) → List ℕ → List ℕ
+joined [] rest = rest
+joined (piece ∷ pieces) rest = piece ++ joined pieces rest
+
+joined_then : (pieces : List (List ℕ)) (x : List ℕ) → joined pieces [] ++ x ≡ joined pieces x
+joined_then [] x = refl
+joined_then (piece ∷ pieces) x = append_assoc piece (joined pieces []) x ∙ ap (λ (ys : List ℕ). piece ++ ys) (joined_then pieces x)
+
+-- those of a first line
+abbrev pieces_of : Head → List (List ℕ)
+pieces_of h = codes "# grid catalogue 1 begun " ∷ decimal h.begun.seconds ∷ codes "." ∷ nine_digits h.begun.nanoseconds ∷ codes " k " ∷ decimal h.numbers.needed ∷ codes " n " ∷ decimal h.numbers.total
+    ∷ codes " segment " ∷ decimal h.numbers.segment_size ∷ codes " under " ∷ base32 h.fingerprint ∷ codes "\n" ∷ []
+
+-- what follows the first line
+then_all : (h : Head) (x : List ℕ) → first_text h ++ x ≡ first_then h x
+then_all h x = joined_then (pieces_of h) x
+
+module _ {F L : Type 0} (gives : Opened F → ℕ → List ℕ → Opened F → Type 0) (carries : Carries L) (words : PutWords) (said : Option (List ℕ)) where
+  abbrev fated : Listed → Type 0
+  fated l = IsFate gives carries words said l.name l.fate
+
+  abbrev name_of : Listed → List ℕ
+  name_of l = l.name
+
+  each_both : (xs ys : List Listed) → AllByRecursion fated xs → AllByRecursion fated ys → AllByRecursion fated (xs ++ ys)
+  each_both [] ys a b = b
+  each_both (x ∷ xs) ys a b = (a.0, each_both xs ys a.1 b)
+
+  pub none_listed : (first : ℕ) (out : Option (List ℕ)) → AreListed gives carries words said [] first first out out
+  none_listed first out = record { listed = []; names_are = refl; fates = tt; status_is = refl; written = Appends-nil out }
+
+  -- these and then those
+  pub both_listed : (names more : List (List ℕ)) (first mid last : ℕ) (a b c : Option (List ℕ)) → AreListed gives carries words said names first mid a b → AreListed gives carries words said more mid last b c
+      → AreListed gives carries words said (names ++ more) first last a c
+  both_listed names more first mid last a b c before behind = record {
+    listed = before.listed ++ behind.listed;
+    names_are = map-append name_of before.listed behind.listed ∙ ap (λ (xs : List (List ℕ)). xs ++ map name_of behind.listed) before.names_are ∙ ap (λ (xs : List (List ℕ)). names ++ xs) behind.names_are;
+    fates = each_both before.listed behind.listed before.fates behind.fates;
+    status_is = behind.status_is ∙ ap (λ (s : ℕ). fold listed_status s behind.listed) before.status_is ∙ sym (fold-append listed_status first before.listed behind.listed);
+    written = subst (Appends a c) (sym (flat_map-append listed_text before.listed behind.listed)) (Appends-trans a b c _ _ before.written behind.written);
+  }
+
+  one_listed : (name : List ℕ) (first own : ℕ) (a b : Option (List ℕ)) → IsListed gives carries words said name own a b → AreListed gives carries words said (name ∷ []) first (status_after first own) a b
+  one_listed name first own a b l = record {
+    listed = record { name = name; fate = l.fate } ∷ [];
+    names_are = refl;
+    fates = (l.is, tt);
+    status_is = ap (status_after first) l.status_is;
+    written = subst (Appends a b) (sym (append-nil _)) l.written;
+  }
+
+  -- one name more of a list
+  pub next_listed : (names : List (Bor (List ℕ))) (i : ℕ) (name : List ℕ) (first so_far own status : ℕ) (a b c : Option (List ℕ)) (any : Bor (List ℕ)) → i < length names
+      → name ≡ (get_or names i any).now → status ≡ status_after so_far own → AreListed gives carries words said (take i (map (λ n. n.now) names)) first so_far a b → IsListed gives carries words said name own b c
+      → AreListed gives carries words said (take (i + 1) (map (λ n. n.now) names)) first status a c
+  next_listed names i name first so_far own status a b c any within is after listed more =
+      let now : Bor (List ℕ) → List ℕ = λ n. n.now in
+      let long : i < length (map now names) = subst (λ (n : ℕ). i < n) (sym (length-map names now)) within in
+      let here : get_or (map now names) i [] ≡ name = get_or-map now names i any [] within ∙ sym is in
+      let grown = both_listed (take i (map now names)) (name ∷ []) first so_far (status_after so_far own) a b c listed (one_listed name so_far own b c more) in
+      subst (λ (s : ℕ). AreListed gives carries words said (take (i + 1) (map now names)) first s a c) (sym after)
+      (subst (λ (xs : List (List ℕ)). AreListed gives carries words said xs first (status_after so_far own) a c)
+      (sym (take_more (map now names) i [] long ∙ ap (λ (x : List ℕ). take i (map now names) ++ x ∷ []) here)) grown)
+
+  -- ---- the catalogue
+
+  lines_of : (name : List ℕ) (fate : Fate) → fate_text name fate ≡ flat_map entry_text (fate_entries name fate)
+  lines_of name (stored file) = sym (append-nil (line_text file.cap name))
+  lines_of name (refused fault) = refl
+
+  entries_of : (name : List ℕ) (fate : Fate) → IsFate gives carries words said name fate → AllByRecursion IsEntry (fate_entries name fate)
+  entries_of name (stored file) is = (is.1, tt)
+  entries_of name (refused fault) is = tt
+
+  all_lines : (ls : List Listed) → flat_map listed_text ls ≡ flat_map entry_text (flat_map listed_entries ls)
+  all_lines [] = refl
+  all_lines (l ∷ ls) =
+      ap (λ (xs : List ℕ). xs ++ flat_map listed_text ls) (lines_of l.name l.fate) ∙ ap (λ (xs : List ℕ). flat_map entry_text (listed_entries l) ++ xs) (all_lines ls)
+      ∙ sym (flat_map-append entry_text (listed_entries l) (flat_map listed_entries ls))
+
+  entries_both : (xs ys : List Entry) → AllByRecursion IsEntry xs → AllByRecursion IsEntry ys → AllByRecursion IsEntry (xs ++ ys)
+  entries_both [] ys a b = b
+  entries_both (x ∷ xs) ys a b = (a.0, entries_both xs ys a.1 b)
+
+  all_entries : (ls : List Listed) → AllByRecursion fated ls → AllByRecursion IsEntry (flat_map listed_entries ls)
+  all_entries [] is = tt
+  all_entries (l ∷ ls) is = entries_both (listed_entries l) (flat_map listed_entries ls) (entries_of l.name l.fate is.0) (all_entries ls is.1)
+
+  -- a first line, and then files
+  pub list_put : (secret : List ℕ) (head : Head) (line : List ℕ) (names : List (List ℕ)) (status : ℕ) (a b c : Option (List ℕ)) → said ≡ Some secret → IsHeadBy words secret head → line ≡ first_text head → Appends a b line
+      → AreListed gives carries words said (map (λ f. f.now) words.files.items ++ names) 0 status b c → IsPutList gives carries words status a c
+  list_put secret head line names status a b c under is_head is first files = record {
+    secret = secret;
+    head = head;
+    is_head = is_head;
+    names = names;
+    listed = files.listed;
+    names_are = files.names_are;
+    fates = subst (λ (o : Option (List ℕ)). AllByRecursion (λ (l : Listed). IsFate gives carries words o l.name l.fate) files.listed) under files.fates;
+    status_is = files.status_is;
+    text = first_then head (flat_map entry_text (flat_map listed_entries files.listed));
+    catalogue = record { is_head = is_head.is_head; are = all_entries files.listed files.fates; is = refl };
+    written = subst (Appends a c) (then_all head _ ∙ ap (first_then head) (all_lines files.listed)) (Appends-trans a b c _ _ (subst (Appends a b) is first) files.written);
+  }
+
+  -- ---- one file
+
+  pub stored_listed : (file : PutFile) (name : List ℕ) (r : Result ℕ Failure) (a b : Option (List ℕ)) → ((kept : Bool) × IsPutBy gives carries words said kept file) → IfOk r (λ _. IsEntry (record { cap = file.cap; name = name }))
+      → IfOk r (λ status. status ≡ put_status file) → IfOk r (λ _. Appends a b (line_text file.cap name)) → IfOk r (λ status. IsListed gives carries words said name status a b)
+  stored_listed file name (Ok s) a b put entry status written = record { fate = stored file; is = (put, entry); status_is = status; written = written }
+  stored_listed file name (Err failure) a b put entry status written = tt
+
+  pub refused_listed : (fault : Fault) (name : List ℕ) (status : ℕ) (a : Option (List ℕ)) → status ≡ fault_status fault → IsListed gives carries words said name status a a
+  refused_listed fault name status a is = record { fate = refused fault; is = tt; status_is = is; written = Appends-nil a }
+
+  -- the same files under names that are equal
+  pub listed_as : (names given : List (List ℕ)) (status : ℕ) (a b : Option (List ℕ)) → given ≡ names → AreListed gives carries words said given 0 status a b → AreListed gives carries words said names 0 status a b
+  listed_as names given status a b same files = subst (λ (ns : List (List ℕ)). AreListed gives carries words said ns 0 status a b) same files
+
+  -- ---- one file or many
+
+  pub one_done : (one : Bool) (r : Result ℕ Failure) (a b : Option (List ℕ)) → one ≡ is_one words → one ≡ true → IfOk r (λ status. IsPutOne gives carries words status a b) → IfOk r (λ status. IsPutDone gives carries words status a b)
+  one_done o r a b is holds done = IfOk-weaker r _ _ (λ status put. one (sym is ∙ holds) put) done
+
+  pub many_done : (one : Bool) (r : Result ℕ Failure) (a b : Option (List ℕ)) → one ≡ is_one words → one ≡ false → IfOk r (λ status. IsPutList gives carries words status a b) → IfOk r (λ status. IsPutDone gives carries words status a b)
+  many_done o r a b is holds done = IfOk-weaker r _ _ (λ status put. many (sym is ∙ holds) put) done
+
+pub one_undone : (words : PutWords) (one : Bool) (r : Result ℕ Failure) (a b : Option (List ℕ)) → one ≡ is_one words → one ≡ true → IfErr r (λ failure. IsPutUndone true failure a b) → IfErr r (λ failure. IsPutUndone (is_one words) failure a b)
+one_undone words o r a b is holds undone = subst (λ (x : Bool). IfErr r (λ failure. IsPutUndone x failure a b)) (sym holds ∙ is) undone
+
+pub many_undone : (words : PutWords) (one : Bool) (r : Result ℕ Failure) (a b : Option (List ℕ)) → one ≡ is_one words → one ≡ false → IfErr r (λ failure. IsPutUndone (is_one words) failure a b)
+many_undone words o r a b is holds = subst (λ (x : Bool). IfErr r (λ failure. IsPutUndone x failure a b)) (sym holds ∙ is) (nothing r) where
+  nothing : (r : Result ℕ Failure) → IfErr r (λ failure. IsPutUndone false failure a b)
+  nothing (Ok status) = tt
+  nothing (Err failure) = tt
+
+-- ---- the bytes of texts
+
+pub bytes_more : (texts : List (Bor (List ℕ))) (i : ℕ) (old new : List (Bor (List ℕ))) (x any : Bor (List ℕ)) → i < length texts → map (λ (b : Bor (List ℕ)). b.now) old ≡ map (λ (b : Bor (List ℕ)). b.now) (take i texts)
+    → new ≡ old ++ x ∷ [] → x.now ≡ (get_or texts i any).now → map (λ (b : Bor (List ℕ)). b.now) new ≡ map (λ (b : Bor (List ℕ)). b.now) (take (i + 1) texts)
+bytes_more texts i old new x any here was is own =
+    let now : Bor (List ℕ) → List ℕ = λ b. b.now in
+    ap (map now) is ∙ map-append now old (x ∷ []) ∙ ap (λ (l : List (List ℕ)). l ++ x.now ∷ []) was ∙ ap (λ (y : List ℕ). map now (take i texts) ++ y ∷ []) own
+    ∙ sym (map-append now (take i texts) (get_or texts i any ∷ [])) ∙ ap (map now) (sym (take_more texts i any here))

@@ -1,0 +1,151 @@
+-- What a put of one file or of many writes.
+use Rattle.std.specs.Prelude.{◌≡◌, ◌==◌, ◌&&◌, ℕ, List, [], ◌∷◌, ◌++◌, Bool, Option, true, false}
+use Rattle.std.specs.Prelude.{Some, fold, if◌then◌else◌, length, map, ⊤}
+use Rattle.std.specs.Io.KnownBytes.{Appends}
+use Rattle.std.specs.List.{AllByRecursion, flat_map}
+use Rattle.sources.specs.Opened.{Opened}
+use Rattle.catalogues.specs.Catalogues.{Entry, IsCatalogue, IsEntry}
+use Rattle.catalogues.specs.Heads.{IsHead, fingerprint_of}
+use Rattle.catalogues.specs.Lines.{line_text}
+use Rattle.catalogues.specs.declared.head.Head.{Head}
+use Rattle.catalogues.specs.declared.head.Numbers.{Numbers}
+use Rattle.local_grid.specs.Nodes.{Carries}
+use Rattle.grid_faults.specs.Fault.{fault_status}
+use Rattle.grid_faults.specs.declared.fault.Fault.{Fault}
+use Rattle.grid_shares.specs.Puts.{IsPutAlone, IsPutBy, put_status}
+use Rattle.grid_shares.specs.declared.Outcome.{Outcome}
+use Rattle.grid_shares.specs.declared.putting.PutFile.{PutFile}
+use Rattle.grid_telling.specs.declared.outcome.Failure.{Failure}
+use Rattle.grid_telling.specs.declared.outcome.Failure.TheVariants as failures
+use Rattle.grid_words.specs.declared.words.ListWords.{ListWords}
+use Rattle.grid_words.specs.declared.words.ListWords.TheVariants as lists
+use Rattle.grid_words.specs.declared.words.PutWords.{PutWords}
+
+-- ---- the files of a put
+
+-- what became of a file: it was stored, or refused
+pub data Fate : Type 0 where
+  stored : PutFile → Fate
+  refused : Fault → Fate
+
+-- a file by its name
+pub record Listed : Type 0 where
+  pub name : List ℕ
+  pub fate : Fate
+
+-- it was stored by these words and the secret that is said, by servers that may have been kept open,
+-- and its line may stand in a catalogue; of a refusal nothing is known
+abbrev pub IsFate : {F L : Type 0} → (Opened F → ℕ → List ℕ → Opened F → Type 0) → Carries L
+    → PutWords → Option (List ℕ) → List ℕ → Fate → Type 0
+IsFate gives carries words said name (stored file) =
+    ((kept : Bool) × IsPutBy gives carries words said kept file)
+    × IsEntry (record { cap = file.cap; name = name })
+IsFate gives carries words said name (refused fault) = ⊤
+
+-- the line of one that was stored
+abbrev pub fate_text : List ℕ → Fate → List ℕ
+fate_text name (stored file) = line_text file.cap name
+fate_text name (refused fault) = []
+
+abbrev pub listed_text : Listed → List ℕ
+listed_text l = fate_text l.name l.fate
+
+abbrev pub fate_status : Fate → ℕ
+fate_status (stored file) = put_status file
+fate_status (refused fault) = fault_status fault
+
+-- the first status that is not 0 stays
+abbrev pub status_after : ℕ → ℕ → ℕ
+status_after first status = if first == 0 then status else first
+
+abbrev pub listed_status : ℕ → Listed → ℕ
+listed_status first l = status_after first (fate_status l.fate)
+
+-- Files with these names were put one after the other: those that were stored have their lines, and
+-- the status is the first that is not 0.
+pub record AreListed {F L : Type 0} (gives : Opened F → ℕ → List ℕ → Opened F → Type 0)
+    (carries : Carries L) (words : PutWords) (said : Option (List ℕ)) (names : List (List ℕ))
+    (first status : ℕ) (before after : Option (List ℕ)) : Type 0 where
+  pub listed : List Listed
+  pub names_are : map (λ l. l.name) listed ≡ names
+  pub fates : AllByRecursion (λ l. IsFate gives carries words said l.name l.fate) listed
+  pub status_is : status ≡ fold listed_status first listed
+  pub written : Appends before after (flat_map listed_text listed)
+
+-- ---- their catalogue
+
+-- how the files are encoded that these words store
+abbrev pub numbers_by : PutWords → Numbers
+numbers_by words = record {
+  needed = words.needed;
+  total = words.total;
+  segment_size = words.max_segment;
+}
+
+-- the first line of the catalogue of these words and a secret
+pub record IsHeadBy (words : PutWords) (secret : List ℕ) (head : Head) : Type 0 where
+  pub is_head : IsHead head
+  pub numbers : head.numbers ≡ numbers_by words
+  pub fingerprint : head.fingerprint ≡ fingerprint_of head.numbers secret
+
+-- the cap and the name of one that was stored
+abbrev pub fate_entries : List ℕ → Fate → List Entry
+fate_entries name (stored file) = record { cap = file.cap; name = name } ∷ []
+fate_entries name (refused fault) = []
+
+abbrev pub listed_entries : Listed → List Entry
+listed_entries l = fate_entries l.name l.fate
+
+-- Files were put one after the other, all under one secret: those that are named by words, and then
+-- those that a list names. What was written is the catalogue of those that were stored, of which
+-- the first line tells the numbers and the secret. Which names a list has, and which secret a grid
+-- keeps, is what the system says.
+pub record IsPutList {F L : Type 0} (gives : Opened F → ℕ → List ℕ → Opened F → Type 0)
+    (carries : Carries L) (words : PutWords) (status : ℕ) (before after : Option (List ℕ))
+    : Type 0 where
+  pub secret : List ℕ
+  pub head : Head
+  pub is_head : IsHeadBy words secret head
+  pub names : List (List ℕ)
+  pub listed : List Listed
+  pub names_are : map (λ l. l.name) listed ≡ map (λ f. f.now) words.files.items ++ names
+  pub fates : AllByRecursion (λ l. IsFate gives carries words (Some secret) l.name l.fate) listed
+  pub status_is : status ≡ fold listed_status 0 listed
+  pub text : List ℕ
+  pub catalogue : IsCatalogue text head (flat_map listed_entries listed)
+  pub written : Appends before after text
+
+-- ---- one file or many
+
+abbrev pub is_unsaid : ListWords → Bool
+is_unsaid lists.Unsaid = true
+is_unsaid (lists.Lines path) = false
+is_unsaid (lists.Nuls path) = false
+
+-- One file is named, and no list: what it came to is written.
+pub record IsPutOne {F L : Type 0} (gives : Opened F → ℕ → List ℕ → Opened F → Type 0)
+    (carries : Carries L) (words : PutWords) (status : ℕ) (before after : Option (List ℕ))
+    : Type 0 where
+  pub outcome : Outcome
+  pub put : IsPutAlone gives carries words outcome
+  pub written : Appends before after outcome.text.items
+  pub status_is : status ≡ outcome.status
+
+abbrev pub is_one : PutWords → Bool
+is_one words = length words.files.items == 1 && is_unsaid words.list
+
+-- What a put writes by its words.
+pub data IsPutDone {F L : Type 0} (gives : Opened F → ℕ → List ℕ → Opened F → Type 0)
+    (carries : Carries L) (words : PutWords) (status : ℕ) (before after : Option (List ℕ))
+    : Type 0 where
+  one : is_one words ≡ true → IsPutOne gives carries words status before after
+      → IsPutDone gives carries words status before after
+  many : is_one words ≡ false → IsPutList gives carries words status before after
+      → IsPutDone gives carries words status before after
+
+-- Where it has no result, nothing was written of one file, unless it was `out` that failed; of many
+-- their catalogue may have been begun.
+abbrev pub IsPutUndone : Bool → Failure → Option (List ℕ) → Option (List ℕ) → Type 0
+IsPutUndone false failure before after = ⊤
+IsPutUndone true failures.Writer before after = ⊤
+IsPutUndone true (failures.Fault fault) before after = after ≡ before

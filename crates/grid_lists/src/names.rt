@@ -1,0 +1,81 @@
+//! The names of a list of files.
+
+ghost use Rattle.std.specs.Prelude.{◌≡◌, ◌==◌, IfOk, map};
+ghost use Rattle.std.specs.List.{slice_split};
+ghost use Rattle.grid_lists.specs.Names.{names_in};
+
+use grid_faults::Fault;
+use grid_words::ListWords;
+use std::alloc::{AllocError, Global};
+use std::io;
+use std::random::RandomSource;
+use std::rt::Files;
+use user_files::{Input, open_input};
+
+/// The greatest list, in bytes.
+const MOST_LIST: u64 = 64 << 20;
+
+/// How many names it may have: each takes 16 bytes more as they are told apart.
+const MOST_NAMES: usize = 2 << 20;
+
+const LINE_FEED: u8 = b'\n';
+
+const NUL: u8 = 0;
+
+/// The text of the list that these words name, which is held; an empty one where they name none. A
+/// fault of its file where that cannot be read, and `TooLarge` where it has more than 64 MiB or
+/// 2,097,152 names.
+pub(crate) fn read_list<R>(rt: &R, list: &ListWords<'_>, temporary: &str) -> Result<Vec<u8>, Fault>
+where
+    R: Files + io::Input + RandomSource + AllocGlobal,
+{
+    let path = match list {
+        ListWords::Unsaid => return Ok(Vec::new(rt.alloc())),
+        ListWords::Lines(path) => *path,
+        ListWords::Nuls(path) => *path,
+    };
+    match open_input(rt, path, temporary, MOST_LIST)? {
+        Input::Held(text) => bounded(text, end_of(list)),
+        Input::Opened(_, _) => Err(Fault::TooLarge),
+    }
+}
+
+// The text of a list whose names end with this byte, where they are not too many.
+fn bounded(text: Vec<u8>, end: u8) -> Result<Vec<u8>, Fault> {
+    if text.iter().filter(|byte| **byte == end).count() > MOST_NAMES {
+        return Err(Fault::TooLarge);
+    }
+    Ok(text)
+}
+
+/// The byte that ends each name of such a list.
+pub(crate) fn end_of(list: &ListWords<'_>) -> u8 {
+    match list {
+        ListWords::Nuls(_) => NUL,
+        ListWords::Lines(_) | ListWords::Unsaid => LINE_FEED,
+    }
+}
+
+/// The names of a list, each of which ends with this byte; the last may lack it.
+pub(crate) fn names_in(alloc: Global, text: &[u8], end: u8) -> Result<Vec<&[u8]>, AllocError>
+    ensures { IfOk result (λ names. map (λ n. n.now) names.items ≡ names_in end text.now) }
+{
+    match text.split_last() {
+        None => Ok(Vec::new(alloc)),
+        Some((last, before)) => {
+            if *last == end {
+                pieces(alloc, before, end)
+            } else {
+                pieces(alloc, text, end)
+            }
+        }
+    }
+}
+
+// What stands between such bytes.
+fn pieces(alloc: Global, text: &[u8], end: u8) -> Result<Vec<&[u8]>, AllocError>
+    ensures { IfOk result
+        (λ pieces. map (λ p. p.now) pieces.items ≡ slice_split (λ c. c == end) text.now) }
+{
+    text.split(|byte| *byte == end).collect(alloc)
+}

@@ -1,0 +1,4 @@
+-- what public contracts rest on
+pub mod Checks
+pub mod Remaking
+pub mod Repairs

@@ -1,0 +1,18 @@
+//! The commands that look at the shares of a file which are stored: `check` reads them, and
+//! `repair` makes the missing ones again.
+//!
+//! A `check` is a check, and a `repair` a check and an upload, which `carried_operations` carries
+//! to their ends. What is told of them is told by what the servers answered.
+#![tactic(auto)]
+
+mod checking;
+mod choosing;
+mod made_shares;
+mod remaking;
+mod repairing;
+
+pub use checking::check;
+pub use repairing::repair;
+
+// The exit status of what is done.
+const DONE: u8 = 0;

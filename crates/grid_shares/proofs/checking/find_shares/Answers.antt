@@ -1,8 +1,0 @@
-use Rattle.grid_shares.proofs.Told.{checked, told_ok}
-use Rattle.grid_shares.proofs.checking.find_shares.Goals as goal
-
-pub returns : goal.returns
-returns g c = told_ok c.in_ok-report.field-0 _ c.ok_or.result _ _ c.ok_or.ensures.value
-    (λ r report. checked _ c.args.words.now.grid.now c.args.cap c.args.servers.now c.in_ok-check.check c.in_ok-check-2.check c.in_ok-nodes.nodes _ c.clock-now.result c.in_ok-nodes.ensures c.clock-now.ensures
-    c.in_ok-check.ensures.begins c.in_ok-check-2.ensures r report)
-    c.in_ok-report.ensures.report

@@ -1,6 +1,0 @@
-use Rattle.std.proofs.Common.{take}
-use Rattle.grid_shares.proofs.Chosen.{Chosen}
-use Rattle.grid_shares.proofs.choosing.candidate_places.Given as goal
-
-abbrev pub invariant-verdicts : goal.invariant-verdicts
-invariant-verdicts l = Chosen (take l.found-index l.verdicts) l.places.items

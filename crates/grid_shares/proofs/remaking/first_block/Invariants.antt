@@ -1,5 +1,0 @@
-use Rattle.share_leaves.specs.Reads.{WasRead}
-use Rattle.grid_shares.proofs.remaking.first_block.Given as goal
-
-abbrev pub invariant-loop-position : goal.invariant-loop-position
-invariant-loop-position g l = WasRead g.B.ShareBytes.gives g.B.ShareBytes.fails l.initial.bytes l.bytes

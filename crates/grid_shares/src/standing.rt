@@ -1,0 +1,98 @@
+//! The servers of a grid that stay open from one upload to the next.
+
+ghost use Rattle.std.specs.Prelude.{◌≡◌, IfOk, IfSome, true};
+ghost use Rattle.grid_servers.specs.Opened.{AreOpened};
+
+use crate::mending::Clearance;
+use crate::placing::Placing;
+use grid_faults::Fault;
+use grid_servers::{FIRST_SESSION, FolderGrid, Purpose, is_silent, open_servers};
+use std::marker::Model;
+use std::net::Net;
+use std::random::RandomSource;
+use std::rt::Files;
+use wire::message::NodeId;
+
+/// Servers of a grid that were opened for writing, over which uploads may have been carried since.
+#[derive(Drop)]
+pub struct OpenGrid<R>
+where
+    R: Files + Net + AllocGlobal + Clone + Drop,
+{
+    pub(crate) nodes: FolderGrid<R>,
+    // The servers whose folders were listed as they were opened.
+    clear: Vec<NodeId>,
+    // That of the next upload.
+    session: u64,
+}
+
+impl<R> Model for OpenGrid<R>
+where
+    R: Files + Net + AllocGlobal + Clone + Drop,
+{
+    ghost use Rattle.socket_links.specs.declared.ends.SocketPair.{SocketPair};
+    ghost use Rattle.socket_links.specs.declared.link.GridLink.{GridLink};
+    ghost use Rattle.grid_shares.specs.Standing.{Standing};
+
+    ghost Value = { Standing (GridLink (SocketPair R.Stream)) };
+
+    ghost view = { λ g. record { grid = g.nodes; session = g.session } };
+}
+
+impl<R> OpenGrid<R>
+where
+    R: Files + Net + RandomSource + AllocGlobal + Clone + Drop,
+{
+    /// Opens these servers of a grid, of which those are clear.
+    pub(crate) fn open(
+        rt: &R,
+        placing: &Placing<'_>,
+        servers: &[NodeId],
+        clear: Vec<NodeId>,
+    ) -> Result<OpenGrid<R>, Fault>
+        ensures { IfOk result (λ g. AreOpened placing.now.grid.now g.grid) }
+    {
+        let purpose = Purpose::Writing(placing.durability);
+        let nodes = open_servers(rt, placing.grid, servers, purpose, placing.net)?;
+        Ok(OpenGrid {
+            nodes,
+            clear,
+            session: FIRST_SESSION,
+        })
+    }
+
+    /// The session of an upload that is begun.
+    pub(crate) fn next_session(&mut self) -> u64
+        ensures session { result ≡ self.old.session }
+        ensures grid { self.new.grid ≡ self.old.grid }
+    {
+        let session = self.session;
+        self.session = session.saturating_add(1);
+        session
+    }
+
+    /// These servers for another upload, where no file was touched on its way and those are clear
+    /// that were.
+    pub(crate) fn after(self, clearance: &Clearance) -> Option<OpenGrid<R>>
+        ensures { IfSome result (λ g. (g ≡ self) × (clearance.now.is_still ≡ true)) }
+    {
+        if clearance.is_still && self.clear.as_slice() == clearance.clear.as_slice() {
+            Some(self)
+        } else {
+            None
+        }
+    }
+
+    // These servers, where each that was listed still speaks.
+    pub(crate) fn speaking(self) -> Option<OpenGrid<R>>
+        ensures { IfSome result (λ g. g ≡ self) }
+    {
+        if self.all_speak() { Some(self) } else { None }
+    }
+
+    fn all_speak(&self) -> bool {
+        self.clear
+            .iter()
+            .all(|server| !is_silent(&self.nodes, *server))
+    }
+}
