@@ -1,0 +1,137 @@
+//! Runs of commands over files of a folder that is this process's own.
+
+use grid_commands::{DiskFiles, Environment, grid};
+use std::alloc::AllocError;
+use std::fs;
+use std::io::Write;
+use test_writers::Told;
+
+// The environment of these commands: no variable is set.
+const HERE: Environment<'static> = Environment {
+    known: false,
+    temporary: "/tmp",
+};
+
+/// One share of one, at one server.
+pub(crate) const ONES: [&str; 8] = ["--k", "1", "--happy", "1", "--n", "1", "--servers", "1"];
+
+// The status where memory is out before a command began.
+const NO_MEMORY: u8 = 255;
+
+/// What a command wrote and told, and its status.
+#[derive(Drop)]
+pub(crate) struct Came {
+    pub(crate) status: u8,
+    pub(crate) out: Vec<u8>,
+    pub(crate) told: Vec<u8>,
+}
+
+impl Came {
+    // Where the first line ends.
+    fn first_end(&self) -> usize {
+        let out = self.out.as_slice();
+        out.iter()
+            .position(|byte| *byte == b'\n')
+            .unwrap_or(out.len())
+    }
+
+    /// What was written behind the first line.
+    pub(crate) fn lines(&self) -> &[u8] {
+        let out = self.out.as_slice();
+        out.get(self.first_end() + 1..).unwrap_or(&[])
+    }
+
+    /// What tells secrets apart: the last letters of the first line.
+    pub(crate) fn under(&self) -> &[u8] {
+        let end = self.first_end();
+        let out = self.out.as_slice();
+        out.get(end.saturating_sub(26)..end).unwrap_or(&[])
+    }
+
+    /// Whether a line with this text was told.
+    pub(crate) fn tells(&self, line: &[u8]) -> bool {
+        self.told
+            .split(|byte| *byte == b'\n')
+            .any(|told| told == line)
+    }
+}
+
+/// A path in a folder that is this process's own.
+pub(crate) fn path(rt: &HostRuntime, rest: &str) -> Result<String, AllocError> {
+    let process = std::process::id(rt.process());
+    format!(in rt.alloc(); "/tmp/grid-lists-{process}{rest}")
+}
+
+/// Makes that folder anew, with nothing in it.
+pub(crate) fn begins(rt: &HostRuntime) -> bool {
+    match path(rt, "") {
+        Ok(root) => removes_all(rt) && fs::create_dir_all(rt, root.as_str()).is_ok(),
+        Err(_) => false,
+    }
+}
+
+/// Removes it with all that it holds, where it is there.
+pub(crate) fn removes_all(rt: &HostRuntime) -> bool {
+    let Ok(root) = path(rt, "") else {
+        return false;
+    };
+    match fs::exists(rt, root.as_str()) {
+        Ok(true) => fs::remove_dir_all(rt, root.as_str()).is_ok(),
+        Ok(false) => true,
+        Err(_) => false,
+    }
+}
+
+/// Runs a command over these files and this grid, with these words behind them.
+pub(crate) fn run(
+    rt: &HostRuntime,
+    command: &str,
+    files: &[&str],
+    folder: &str,
+    more: &[&str],
+) -> Came {
+    let mut out = Vec::new(rt.alloc());
+    let mut came = run_into(rt, command, files, folder, more, &mut out);
+    came.out = out;
+    came
+}
+
+/// The same with a standard output of its own.
+pub(crate) fn run_into<O: Write>(
+    rt: &HostRuntime,
+    command: &str,
+    files: &[&str],
+    folder: &str,
+    more: &[&str],
+    out: &mut O,
+) -> Came {
+    let mut err = Told::new(rt.alloc(), false);
+    let status = match words_of(rt, command, files, folder, more) {
+        Ok(words) => {
+            let mut disk = DiskFiles::new(rt);
+            grid(rt, words.as_slice(), &HERE, &mut disk, out, &mut err)
+        }
+        Err(_) => NO_MEMORY,
+    };
+    let told = Vec::from_slice(rt.alloc(), err.rest()).unwrap_or(Vec::new(rt.alloc()));
+    Came {
+        status,
+        out: Vec::new(rt.alloc()),
+        told,
+    }
+}
+
+// The words of a command line.
+fn words_of<'a>(
+    rt: &HostRuntime,
+    command: &'a str,
+    files: &[&'a str],
+    folder: &'a str,
+    more: &[&'a str],
+) -> Result<Vec<&'a str>, AllocError> {
+    let mut words = Vec::from_slice(rt.alloc(), &["grid", command])?;
+    words.extend_from_slice(files)?;
+    words.extend_from_slice(&["--grid", folder])?;
+    words.extend_from_slice(more)?;
+    Ok(words)
+}
