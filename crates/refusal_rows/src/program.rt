@@ -3,6 +3,7 @@
 use crate::rows::Rows;
 use cap_text::CapError;
 use grid_faults::Fault;
+use grid_serve::ServeFault;
 use std::alloc::{AllocError, Global};
 use std::io::{self, ErrorKind};
 
@@ -10,7 +11,8 @@ pub(crate) fn tell_all(alloc: Global, rows: &mut Rows) -> Result<(), AllocError>
     tell_caps(rows)?;
     tell_plain(rows)?;
     tell_paths(alloc, rows)?;
-    tell_others(alloc, rows)
+    tell_others(alloc, rows)?;
+    tell_serving(alloc, rows)
 }
 
 fn tell_fault(rows: &mut Rows, fault: &Fault) -> Result<(), AllocError> {
@@ -87,4 +89,18 @@ fn tell_others(alloc: Global, rows: &mut Rows) -> Result<(), AllocError> {
 
 fn failed() -> io::Error {
     io::Error::from(ErrorKind::NotFound)
+}
+
+// Those of a folder that is served.
+fn tell_serving(alloc: Global, rows: &mut Rows) -> Result<(), AllocError> {
+    for fault in [
+        ServeFault::Socket(String::new(alloc), failed()),
+        ServeFault::BadAddress(String::new(alloc)),
+        ServeFault::NotLocal(String::new(alloc)),
+        ServeFault::InUse(String::new(alloc)),
+    ] {
+        let (number, status) = (fault.number(), fault.status());
+        rows.tell_with_status("grid_serve::ServeFault", number, &fault, status)?;
+    }
+    Ok(())
 }
