@@ -38,7 +38,7 @@ impl Came {
     /// What was written behind the first line.
     pub(crate) fn lines(&self) -> &[u8] {
         let out = self.out.as_slice();
-        out.get(self.first_end() + 1..).unwrap_or(&[])
+        out.get(self.first_end().saturating_add(1)..).unwrap_or(&[])
     }
 
     /// What tells secrets apart: the last letters of the first line.
