@@ -11,7 +11,6 @@ use Rattle.request_record.specs.Asking.{asks_of, fresh}
 use Rattle.request_record.specs.Follow.{Follows, Nothing, WasAnswered}
 use Rattle.request_record.specs.Record.{RequestsState}
 use Rattle.request_record.proofs.FollowLaws.{follows_asks}
-use Rattle.share_store.specs.Calls.{Calls}
 use Rattle.download_segments.specs.Pieces.{AreConsecutive}
 use Rattle.download_segments.specs.declared.piece.Piece.{Piece}
 use Rattle.download_file.specs.Whole.{joined}
@@ -20,8 +19,9 @@ use Rattle.download_core.specs.Moves.{asked_servers}
 use Rattle.download_core.specs.Right.{IsRight}
 use Rattle.download_core.specs.State.{DownloadState, Found, handed, handed_in, ready_in}
 use Rattle.local_grid.specs.declared.error.LoopError.TheVariants.{TurnLimit}
-use Rattle.local_grid.specs.Nodes.{Carries}
-use Rattle.local_grid.specs.Turns.{Course, GridState, LoopState, Turns}
+use Rattle.local_grid.specs.Turns.{Course}
+use Rattle.operation_loop.specs.Outside.{OutsideCalls}
+use Rattle.operation_loop.specs.Turns.{LoopState, Turns}
 use Rattle.local_grid.proofs.CourseLaws.{course_more}
 use Rattle.carried_operations.specs.Came.{Came}
 use Rattle.carried_operations.proofs.Runs.{course_goes, follows_both, follows_wider}
@@ -61,25 +61,25 @@ none_before session now position r said w = none position w.at where
   none : (i : ℕ) → slice_get [] i ≡ Some w.request → ⊥
   none i e = cc
 
-module _ {S L : Type 0} (calls : Calls S) (carries : Carries L) where
-  came : (first last : LoopState DownloadState S L) (states : List (LoopState DownloadState S L)) → HasBegun first.operation → Course (Turns handing_calls calls carries) first states last
+module _ {G : Type 0} (calls : OutsideCalls G) where
+  came : (first last : LoopState DownloadState G) (states : List (LoopState DownloadState G)) → HasBegun first.operation → Course (Turns handing_calls calls) first states last
       → (position : ℕ) (r : Request) (said : Body) → slice_get last.operation.requests.entries position ≡ Some r → r.outcome ≡ Answered said
-      → Came handing_calls calls carries first.operation.requests.session first states position r.server r.asked said
+      → Came handing_calls calls first.operation.requests.session first states position r.server r.asked said
   came first last states b c position r said at o =
       let session : ℕ = first.operation.requests.session in
-      let New = Came handing_calls calls carries session first states in
+      let New = Came handing_calls calls session first states in
       let was : RequestsState = fresh b.session b.now in
       let goes = follows_both New was first.operation.requests last.operation.requests
       (follows_wider Nothing New was first.operation.requests (λ position server asked said n. absurd n) (begun_follows first.operation b))
-      (course_goes handing_calls Continues downloads_go_on calls carries session first last states refl c).follows in
+      (course_goes handing_calls Continues downloads_go_on calls session first last states refl c).follows in
       elim (goes.answers position r said at o) [
         | inl w ↦ absurd (none_before b.session b.now position r said w)
         | inr n ↦ n
       ]
 
   -- nothing yet
-  pub carried_first : (d : DownloadState) (grid : GridState S L) → HasBegun d → IsRight d → IsCarried calls carries d grid [] d grid
-  carried_first d grid b right = record {
+  pub carried_first : (d : DownloadState) (outside : G) → HasBegun d → IsRight d → IsCarried calls d outside [] d outside
+  carried_first d outside b right = record {
     states = [];
     turns = refl;
     cap = refl;
@@ -87,19 +87,19 @@ module _ {S L : Type 0} (calls : Calls S) (carries : Carries L) where
     right = right;
     given = All-nil (IsGivenBy d);
     consecutive = ap (λ (f : Option Found). handed_in d.from f) (sym b.begins.nothing.0);
-    came = came (record { operation = d; grid = grid }) (record { operation = d; grid = grid }) [] b refl;
+    came = came (record { operation = d; outside = outside }) (record { operation = d; outside = outside }) [] b refl;
   }
 
   -- one turn more
-  pub carried_more : (begun : DownloadState) (old : GridState S L) (pieces : List Piece) (now : DownloadState) (grid : GridState S L) (new : DownloadState) (after : GridState S L) (before held : Option (List ℕ))
-      → HasBegun begun → IsCarried calls carries begun old pieces now grid → (t : TurnsAndWrites calls carries (record { operation = now; grid = grid }) before (record { operation = new; grid = after }) held)
-      → IsCarried calls carries begun old (pieces ++ t.pieces) new after
-  carried_more begun old pieces now grid new after before held b c t =
-      let first : LoopState DownloadState S L = record { operation = begun; grid = old } in
-      let mid : LoopState DownloadState S L = record { operation = now; grid = grid } in
-      let last : LoopState DownloadState S L = record { operation = new; grid = after } in
-      let turns = course_more (Turns handing_calls calls carries) first mid last c.states c.turns t.turn in
-      let one = course_goes handing_calls Continues downloads_go_on calls carries now.requests.session mid last (last ∷ []) refl (t.turn, refl) in
+  pub carried_more : (begun : DownloadState) (old : G) (pieces : List Piece) (now : DownloadState) (outside : G) (new : DownloadState) (after : G) (before held : Option (List ℕ))
+      → HasBegun begun → IsCarried calls begun old pieces now outside → (t : TurnsAndWrites calls (record { operation = now; outside = outside }) before (record { operation = new; outside = after }) held)
+      → IsCarried calls begun old (pieces ++ t.pieces) new after
+  carried_more begun old pieces now outside new after before held b c t =
+      let first : LoopState DownloadState G = record { operation = begun; outside = old } in
+      let mid : LoopState DownloadState G = record { operation = now; outside = outside } in
+      let last : LoopState DownloadState G = record { operation = new; outside = after } in
+      let turns = course_more (Turns handing_calls calls) first mid last c.states c.turns t.turn in
+      let one = course_goes handing_calls Continues downloads_go_on calls now.requests.session mid last (last ∷ []) refl (t.turn, refl) in
       record {
         states = c.states ++ last ∷ [];
         turns = turns;
@@ -112,17 +112,17 @@ module _ {S L : Type 0} (calls : Calls S) (carries : Carries L) where
       }
 
   -- before the first turn
-  pub written_first : (d : DownloadState) (old : GridState S L) (held : Option (List ℕ)) (from : ℕ) → HasBegun d → IsRight d → from < 2 ^ 64 → from ≡ d.from
-      → IsWritten calls carries d old held (record { download = d; offset = from; ended = Ok tt }) old held
+  pub written_first : (d : DownloadState) (old : G) (held : Option (List ℕ)) (from : ℕ) → HasBegun d → IsRight d → from < 2 ^ 64 → from ≡ d.from
+      → IsWritten calls d old held (record { download = d; offset = from; ended = Ok tt }) old held
   written_first d old held from b right fits same = record {
     reached = d;
-    grid = old;
+    outside = old;
     pieces = [];
     carried = carried_first d old b right;
     written = Appends-nil held;
     done = λ ok. record {
       download_is = refl;
-      grid_is = refl;
+      outside_is = refl;
       all = ap ready_in b.begins.nothing.0;
       offset_is = (let whole : from ≡ capped from = omega (arith, fits) in whole) ∙ ap capped (same ∙ sym (ap (λ (f : Option Found). handed_in d.from f) b.begins.nothing.0));
     };
@@ -134,53 +134,53 @@ module _ {S L : Type 0} (calls : Calls S) (carries : Carries L) where
   kept_by (Loop error) before held last bytes known kept = appended_kept before held last bytes known kept
 
   -- after one turn more
-  module _ (begun : DownloadState) (old : GridState S L) (before : Option (List ℕ)) (b : HasBegun begun) (c : Carried) (grid after : GridState S L) (held last : Option (List ℕ)) (w : IsWritten calls carries begun old before c grid held)
+  module _ (begun : DownloadState) (old : G) (before : Option (List ℕ)) (b : HasBegun begun) (c : Carried) (outside after : G) (held last : Option (List ℕ)) (w : IsWritten calls begun old before c outside held)
       (on : c.ended ≡ Ok tt) where
     known : Appends before held (joined w.pieces)
     known = subst (λ (r : Result (Unit {0}) CutShort). UnlessWriterFailed r (Appends before held (joined w.pieces))) on w.written
 
-    was : IsCarried calls carries begun old w.pieces c.download grid
+    was : IsCarried calls begun old w.pieces c.download outside
     was = let done = w.done on in
-        subst (λ (g : GridState S L). IsCarried calls carries begun old w.pieces c.download g) done.grid_is
-        (subst (λ (d : DownloadState). IsCarried calls carries begun old w.pieces d w.grid) done.download_is w.carried)
+        subst (λ (g : G). IsCarried calls begun old w.pieces c.download g) done.outside_is
+        (subst (λ (d : DownloadState). IsCarried calls begun old w.pieces d w.outside) done.download_is w.carried)
 
-    on_err : (next : Carried) (cut : CutShort) → next.ended ≡ Err cut → UnlessWriter cut (Keeps held last) → IsWritten calls carries begun old before next after last
+    on_err : (next : Carried) (cut : CutShort) → next.ended ≡ Err cut → UnlessWriter cut (Keeps held last) → IsWritten calls begun old before next after last
     on_err next cut e kept = record {
       reached = w.reached;
-      grid = w.grid;
+      outside = w.outside;
       pieces = w.pieces;
       carried = w.carried;
       written = subst (λ (r : Result (Unit {0}) CutShort). UnlessWriterFailed r (Appends before last (joined w.pieces))) (sym e) (kept_by cut before held last (joined w.pieces) known kept);
       done = λ ok. absurd (let no : Err cut ≡ Ok tt = sym e ∙ ok in cc);
     }
 
-    on_ok : (next : Carried) → next.ended ≡ Ok tt → TurnsAndWrites calls carries (record { operation = c.download; grid = grid }) held (record { operation = next.download; grid = after }) last
-        → next.offset ≡ capped (handed next.download) → IsWritten calls carries begun old before next after last
+    on_ok : (next : Carried) → next.ended ≡ Ok tt → TurnsAndWrites calls (record { operation = c.download; outside = outside }) held (record { operation = next.download; outside = after }) last
+        → next.offset ≡ capped (handed next.download) → IsWritten calls begun old before next after last
     on_ok next e t offset = record {
       reached = next.download;
-      grid = after;
+      outside = after;
       pieces = w.pieces ++ t.pieces;
-      carried = carried_more begun old w.pieces c.download grid next.download after held last b was t;
+      carried = carried_more begun old w.pieces c.download outside next.download after held last b was t;
       written = subst (λ (r : Result (Unit {0}) CutShort). UnlessWriterFailed r (Appends before last (joined (w.pieces ++ t.pieces)))) (sym e)
           (subst (λ (l : List ℕ). Appends before last l) (sym (joined_more w.pieces t.pieces)) (Appends-trans before held last (joined w.pieces) (joined t.pieces) known t.added));
-      done = λ ok. record { download_is = refl; grid_is = refl; all = t.all; offset_is = offset };
+      done = λ ok. record { download_is = refl; outside_is = refl; all = t.all; offset_is = offset };
     }
 
-    pub written_on : (next : Carried) → OnOk next.ended (TurnsAndWrites calls carries (record { operation = c.download; grid = grid }) held (record { operation = next.download; grid = after }) last)
-        → OnOk next.ended (next.offset ≡ capped (handed next.download)) → IfErr next.ended (λ cut. UnlessWriter cut (Keeps held last)) → IsWritten calls carries begun old before next after last
+    pub written_on : (next : Carried) → OnOk next.ended (TurnsAndWrites calls (record { operation = c.download; outside = outside }) held (record { operation = next.download; outside = after }) last)
+        → OnOk next.ended (next.offset ≡ capped (handed next.download)) → IfErr next.ended (λ cut. UnlessWriter cut (Keeps held last)) → IsWritten calls begun old before next after last
     written_on next = by next.ended refl
       where
-        by : (r : Result (Unit {0}) CutShort) → next.ended ≡ r → OnOk r (TurnsAndWrites calls carries (record { operation = c.download; grid = grid }) held (record { operation = next.download; grid = after }) last)
-            → OnOk r (next.offset ≡ capped (handed next.download)) → IfErr r (λ cut. UnlessWriter cut (Keeps held last)) → IsWritten calls carries begun old before next after last
+        by : (r : Result (Unit {0}) CutShort) → next.ended ≡ r → OnOk r (TurnsAndWrites calls (record { operation = c.download; outside = outside }) held (record { operation = next.download; outside = after }) last)
+            → OnOk r (next.offset ≡ capped (handed next.download)) → IfErr r (λ cut. UnlessWriter cut (Keeps held last)) → IsWritten calls begun old before next after last
         by (Ok tt) e t offset kept = on_ok next e t offset
         by (Err cut) e t offset kept = on_err next cut e kept
 
   -- a download that took too many turns
-  pub written_past : (begun : DownloadState) (old : GridState S L) (before : Option (List ℕ)) (c : Carried) (grid : GridState S L) (held : Option (List ℕ)) → IsWritten calls carries begun old before c grid held → c.ended ≡ Ok tt
-      → IsWritten calls carries begun old before (record { download = c.download; offset = c.offset; ended = Err (Loop TurnLimit) }) grid held
-  written_past begun old before c grid held w on = record {
+  pub written_past : (begun : DownloadState) (old : G) (before : Option (List ℕ)) (c : Carried) (outside : G) (held : Option (List ℕ)) → IsWritten calls begun old before c outside held → c.ended ≡ Ok tt
+      → IsWritten calls begun old before (record { download = c.download; offset = c.offset; ended = Err (Loop TurnLimit) }) outside held
+  written_past begun old before c outside held w on = record {
     reached = w.reached;
-    grid = w.grid;
+    outside = w.outside;
     pieces = w.pieces;
     carried = w.carried;
     written = subst (λ (r : Result (Unit {0}) CutShort). UnlessWriterFailed r (Appends before held (joined w.pieces))) on w.written;

@@ -248,11 +248,11 @@ module _ {P S L : Type 0} (gives : P → ℕ → ℕ → List ℕ → P → Type
       let found = from_flat (acknowledged.acked_by aim) last.operation.course.requests.entries pair counted in
       let r : Request = found.0 in
       let at = position_of last.operation.course.requests.entries r found.1 in
-      let said = answered_by gives fails calls carries aim r r.outcome pair found.2 in
+      let said = answered_by aim r r.outcome pair found.2 in
       elim (course_kept first last states aim sound refl c at.0 r said.0 pair at.1 said.1 said.2) [
         | inr kept ↦ kept
-        | inl w ↦ elim ((begun_follows gives fails calls carries first.operation.course b).answers at.0 w.request said.0 w.at w.answered) [
-          | inl v ↦ absurd (none_before gives fails calls carries b.session b.now at.0 w.request said.0 v)
+        | inl w ↦ elim ((begun_follows first.operation.course b).answers at.0 w.request said.0 w.at w.answered) [
+          | inl v ↦ absurd (none_before b.session b.now at.0 w.request said.0 v)
           | inr n ↦ absurd n
         ]
       ]

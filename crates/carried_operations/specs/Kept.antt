@@ -19,6 +19,10 @@ use Rattle.local_grid.specs.Turns.{GridState}
 abbrev pub memory_carries : Carries (Unit {0})
 memory_carries link way sent came after = came ≡ Some sent
 
+-- where memory is refused a link in memory is as good as before
+abbrev pub memory_gives_up : Unit {0} → Unit {0} → Type 0
+memory_gives_up link after = Unit {0}
+
 -- the server of this number is there
 abbrev pub IsNode : {S L : Type 0} → GridState S L → ℕ → NodeState S L → Type 0
 IsNode grid number n = slice_get grid.nodes number ≡ Some (Some n)

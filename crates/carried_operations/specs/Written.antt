@@ -1,4 +1,4 @@
--- What it says that a download was carried over the servers of a process, and its bytes written.
+-- What it says that a download was carried, and its bytes written.
 use Rattle.std.specs.Prelude.{◌≡◌, ℕ, ◌-◌, ◌^◌, min, All, List, [], Option, Some, Ok, Err, Result}
 use Rattle.std.specs.Prelude.{⊤, slice_get}
 use Rattle.std.specs.Io.KnownBytes.{Appends}
@@ -6,7 +6,6 @@ use Rattle.cap_text.specs.Cap.{ReadCapValue}
 use Rattle.wire.specs.declared.message.Body.{Body}
 use Rattle.request_record.specs.declared.requests.Outcome.TheVariants.{Answered}
 use Rattle.request_record.specs.declared.requests.Request.{Request}
-use Rattle.share_store.specs.Calls.{Calls}
 use Rattle.download_segments.specs.Pieces.{AreConsecutive}
 use Rattle.download_segments.specs.declared.piece.Piece.{Piece}
 use Rattle.download_file.specs.Whole.{joined}
@@ -14,8 +13,9 @@ use Rattle.download_core.specs.Hashed.{IsGivenBy}
 use Rattle.download_core.specs.Moves.{Begins}
 use Rattle.download_core.specs.Right.{IsRight}
 use Rattle.download_core.specs.State.{DownloadState, handed, ready}
-use Rattle.local_grid.specs.Nodes.{Carries}
-use Rattle.local_grid.specs.Turns.{Course, GridState, LoopState, Turns}
+use Rattle.local_grid.specs.Turns.{Course}
+use Rattle.operation_loop.specs.Outside.{OutsideCalls}
+use Rattle.operation_loop.specs.Turns.{LoopState, Turns}
 use Rattle.carried_operations.specs.Came.{Came}
 use Rattle.carried_operations.specs.Handing.{Hands, handing_calls}
 use Rattle.carried_operations.specs.declared.downloads.Carried.{Carried}
@@ -34,13 +34,12 @@ pub record HasBegun (d : DownloadState) : Type 0 where
 
 -- A download was carried, turn after turn, and handed out these pieces, one behind another from its
 -- first byte on. Each of them was given by the download, which is right and is for the same cap.
--- Each answer that it has came in one of the turns, over the link of the server that was asked.
-pub record IsCarried {S L : Type 0} (calls : Calls S) (carries : Carries L)
-    (begun : DownloadState) (old : GridState S L) (pieces : List Piece) (ended : DownloadState)
-    (new : GridState S L) : Type 0 where
-  pub states : List (LoopState DownloadState S L)
-  pub turns : Course (Turns handing_calls calls carries)
-      (record { operation = begun; grid = old }) states (record { operation = ended; grid = new })
+-- Each answer that it has came in one of the turns, from the server that was asked.
+pub record IsCarried {G : Type 0} (calls : OutsideCalls G) (begun : DownloadState) (old : G)
+    (pieces : List Piece) (ended : DownloadState) (new : G) : Type 0 where
+  pub states : List (LoopState DownloadState G)
+  pub turns : Course (Turns handing_calls calls) (record { operation = begun; outside = old })
+      states (record { operation = ended; outside = new })
   pub cap : ended.cap ≡ begun.cap
   pub to : ended.to ≡ begun.to
   pub right : IsRight ended
@@ -48,8 +47,8 @@ pub record IsCarried {S L : Type 0} (calls : Calls S) (carries : Carries L)
   pub consecutive : AreConsecutive begun.from pieces (handed ended)
   pub came : (position : ℕ) (r : Request) (said : Body)
       → slice_get ended.requests.entries position ≡ Some r → r.outcome ≡ Answered said
-      → Came handing_calls calls carries begun.requests.session
-      (record { operation = begun; grid = old }) states position r.server r.asked said
+      → Came handing_calls calls begun.requests.session
+      (record { operation = begun; outside = old }) states position r.server r.asked said
 
 -- Where it was the writer that failed, nothing is known of what it holds.
 abbrev pub UnlessWriter : CutShort → Type 0 → Type 0
@@ -66,24 +65,23 @@ capped offset = min offset (2 ^ 64 - 1)
 
 -- A download that was carried as far as it goes: nothing that it made is left, and its bytes were
 -- written up to this offset.
-pub record IsDone {S L : Type 0} (reached : DownloadState) (grid : GridState S L)
-    (c : Carried) (new : GridState S L) : Type 0 where
+pub record IsDone {G : Type 0} (reached : DownloadState) (outside : G) (c : Carried) (new : G)
+    : Type 0 where
   pub download_is : reached ≡ c.download
-  pub grid_is : grid ≡ new
+  pub outside_is : outside ≡ new
   pub all : ready reached ≡ []
   pub offset_is : c.offset ≡ capped (handed reached)
 
 -- A download was carried and its pieces were written, up to where memory was refused or the writer
 -- failed. The last state that it reached is its own where it was carried as far as it goes.
-pub record IsWritten {S L : Type 0} (calls : Calls S) (carries : Carries L)
-    (begun : DownloadState) (old : GridState S L) (before : Option (List ℕ)) (c : Carried)
-    (new : GridState S L) (after : Option (List ℕ)) : Type 0 where
+pub record IsWritten {G : Type 0} (calls : OutsideCalls G) (begun : DownloadState) (old : G)
+    (before : Option (List ℕ)) (c : Carried) (new : G) (after : Option (List ℕ)) : Type 0 where
   pub reached : DownloadState
-  pub grid : GridState S L
+  pub outside : G
   pub pieces : List Piece
-  pub carried : IsCarried calls carries begun old pieces reached grid
+  pub carried : IsCarried calls begun old pieces reached outside
   pub written : UnlessWriterFailed c.ended (Appends before after (joined pieces))
-  pub done : c.ended ≡ Ok tt → IsDone reached grid c new
+  pub done : c.ended ≡ Ok tt → IsDone reached outside c new
 
 -- ---- words of private clauses
 
@@ -99,10 +97,10 @@ pub record Writes (old : DownloadState) (before : Option (List ℕ)) (new : Down
   pub added : Appends before after (joined pieces)
 
 -- One turn, after which all that is ready is taken and written.
-pub record TurnsAndWrites {S L : Type 0} (calls : Calls S) (carries : Carries L)
-    (old : LoopState DownloadState S L) (before : Option (List ℕ))
-    (new : LoopState DownloadState S L) (after : Option (List ℕ)) : Type 0 where
-  pub turn : Turns handing_calls calls carries old new
+pub record TurnsAndWrites {G : Type 0} (calls : OutsideCalls G) (old : LoopState DownloadState G)
+    (before : Option (List ℕ)) (new : LoopState DownloadState G) (after : Option (List ℕ))
+    : Type 0 where
+  pub turn : Turns handing_calls calls old new
   pub pieces : List Piece
   pub all : ready new.operation ≡ []
   pub right : IsRight new.operation

@@ -11,11 +11,10 @@ ghost use Rattle.carried_operations.specs.declared.downloads.CutShort.TheVariant
 
 use download_core::{Download, taken_follow};
 use local_grid::error::LoopError;
-use local_grid::grid::LocalGrid;
-use local_grid::link::Link;
 use local_grid::watched::{Watch, Watched};
+use operation_loop::{Outside, carry_on};
 use request_record::operation::Operation;
-use share_store::store::Store;
+use std::alloc::Global;
 use std::io::{self, Write};
 
 /// The most turns of the loop for one download.
@@ -62,24 +61,24 @@ impl Carried {
     }
 }
 
-/// Carries a download that has just begun over these servers, as far as it goes. What a turn makes
-/// ready is written at once, so that memory never holds the file twice, as answers and as bytes.
-pub fn carry_download<S, L, O, W>(
-    nodes: &mut LocalGrid<S, L>,
+/// Carries a download that has just begun, as far as it goes. What a turn makes ready is written at
+/// once, so that memory never holds the file twice, as answers and as bytes.
+pub fn carry_download<G, O, W>(
+    alloc: Global,
+    outside: &mut G,
     download: Download,
     from: u64,
     out: &mut O,
     watch: &mut W,
 ) -> Carried
 where
-    S: Store,
-    L: Link,
+    G: Outside,
     O: Write,
     W: WriteWatch + Drop,
     requires begun { HasBegun download }
     requires from_is { from ≡ download.from }
-    ensures written { IsWritten S.calls L.carries download nodes.old (O.contents out.old) result
-        nodes.new (O.contents out.new) }
+    ensures written { IsWritten G.calls download outside.old (O.contents out.old) result
+        outside.new (O.contents out.new) }
     ensures ends { result.ended ≡ Ok tt → is_running result.download.status ≡ false }
 {
     // No effect at run time. The proof reads from it that the download is right.
@@ -93,7 +92,7 @@ where
         if !carried.goes_on() {
             return carried;
         }
-        carried = turn(nodes, carried.download, carried.offset, out, watch);
+        carried = turn(alloc, outside, carried.download, carried.offset, out, watch);
     }
     within_limit(carried)
 }
@@ -118,30 +117,30 @@ fn within_limit(carried: Carried) -> Carried
 }
 
 // One turn of a download that runs. What it makes ready is written.
-fn turn<S, L, O, W>(
-    nodes: &mut LocalGrid<S, L>,
+fn turn<G, O, W>(
+    alloc: Global,
+    outside: &mut G,
     download: Download,
     offset: u64,
     out: &mut O,
     watch: &mut W,
 ) -> Carried
 where
-    S: Store,
-    L: Link,
+    G: Outside,
     O: Write,
     W: WriteWatch + Drop,
     requires runs { is_running download.status ≡ true }
     requires none { ready download ≡ [] }
     requires offset_is { offset ≡ capped (handed download) }
-    ensures ok { OnOk result.ended (TurnsAndWrites S.calls L.carries
-        (record { operation = download; grid = nodes.old }) (O.contents out.old)
-        (record { operation = result.download; grid = nodes.new }) (O.contents out.new)) }
+    ensures ok { OnOk result.ended (TurnsAndWrites G.calls
+        (record { operation = download; outside = outside.old }) (O.contents out.old)
+        (record { operation = result.download; outside = outside.new }) (O.contents out.new)) }
     ensures offset { OnOk result.ended (result.offset ≡ capped (handed result.download)) }
     ensures unwritten { IfErr result.ended (λ cut. UnlessWriter cut
         (Keeps (O.contents out.old) (O.contents out.new))) }
 {
     let mut watched = Watched::new(download, &mut *watch);
-    let turned = nodes.run_within(&mut watched, 1);
+    let turned = carry_on(alloc, outside, &mut watched, 1);
     let download = watched.into_operation();
     match turned {
         Ok(()) => write_ready(download, offset, out, watch),

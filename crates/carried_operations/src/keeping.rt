@@ -3,8 +3,9 @@
 ghost use Rattle.std.specs.Prelude.{◌≡◌, IfOk};
 ghost use Rattle.upload_core.specs.Calls.{upload_calls};
 ghost use Rattle.carried_operations.specs.Kept.{AcknowledgedAreKept, AllStay, AreSound};
-ghost use Rattle.carried_operations.specs.Kept.{memory_carries};
+ghost use Rattle.carried_operations.specs.Kept.{memory_carries, memory_gives_up};
 ghost use Rattle.carried_operations.specs.Stored.{HasBegun, IsCarried};
+ghost use Rattle.operation_loop.specs.Local.{local_calls};
 
 use local_grid::error::LoopError;
 use local_grid::grid::LocalGrid;
@@ -29,8 +30,8 @@ where
     P: Pieces + Drop,
     W: Watch + Drop,
     requires { HasBegun upload.course }
-    ensures carried { IfOk result (λ ended. IsCarried (upload_calls P.gives P.fails) S.calls
-        memory_carries upload nodes.old ended nodes.new) }
+    ensures carried { IfOk result (λ ended. IsCarried (upload_calls P.gives P.fails)
+        (local_calls S.calls memory_carries memory_gives_up) upload nodes.old ended nodes.new) }
     ensures stay { AllStay S.shelf nodes.old nodes.new }
     ensures kept { AreSound S.shelf nodes.old → IfOk result (λ ended. AcknowledgedAreKept S.shelf
         upload.course.goal ended.course.requests.entries nodes.new) }
