@@ -9,9 +9,9 @@ use Rattle.request_record.specs.Asking.{SendsFirst, fresh, one_sent}
 use Rattle.request_record.specs.Record.{RequestsState}
 use Rattle.request_record.specs.Follow.{Follows, IsSaid, Nothing, Said, WasAnswered}
 use Rattle.request_record.proofs.FollowLaws.{follows_asks, follows_itself, follows_message, follows_same, follows_tick}
-use Rattle.share_store.specs.Calls.{Calls}
-use Rattle.local_grid.specs.Nodes.{Carries}
-use Rattle.local_grid.specs.Turns.{Course, Finishes, GridState, LoopState, Turns}
+use Rattle.local_grid.specs.Turns.{Course}
+use Rattle.operation_loop.specs.Outside.{OutsideCalls}
+use Rattle.operation_loop.specs.Turns.{Finishes, LoopState, Turns}
 use Rattle.carried_operations.specs.Came.{Came}
 use Rattle.carried_operations.proofs.Runs.{IsLaw, course_goes, follows_both, follows_wider}
 use Rattle.share_fetching.specs.Fetches.{Begins, FetchState, fetch_calls, with_record}
@@ -53,25 +53,25 @@ none_before session now position r said w = none position w.at where
   none : (i : ℕ) → slice_get [] i ≡ Some w.request → ⊥
   none i e = cc
 
-module _ {S L : Type 0} (calls : Calls S) (carries : Carries L) (index : List ℕ) (range : ShareRange) (session now : ℕ) where
-  came : (first last : LoopState FetchState S L) (states : List (LoopState FetchState S L)) → Begins index range session now first.operation → Course (Turns fetch_calls calls carries) first states last
+module _ {G : Type 0} (calls : OutsideCalls G) (index : List ℕ) (range : ShareRange) (session now : ℕ) where
+  came : (first last : LoopState FetchState G) (states : List (LoopState FetchState G)) → Begins index range session now first.operation → Course (Turns fetch_calls calls) first states last
       → (position : ℕ) (r : Request) (said : Body) → slice_get last.operation.requests.entries position ≡ Some r → r.outcome ≡ Answered said
-      → Came fetch_calls calls carries first.operation.requests.session first states position r.server r.asked said
+      → Came fetch_calls calls first.operation.requests.session first states position r.server r.asked said
   came first last states b c position r said at o =
       let own : ℕ = first.operation.requests.session in
-      let New = Came fetch_calls calls carries own first states in
+      let New = Came fetch_calls calls own first states in
       let was : RequestsState = fresh session now in
       let begun : Follows Nothing was first.operation.requests = subst (Follows Nothing was) (sym b.asks) (follows_asks (reads_of range) was) in
       let goes = follows_both New was first.operation.requests last.operation.requests
       (follows_wider Nothing New was first.operation.requests (λ position server asked said n. absurd n) begun)
-      (course_goes fetch_calls Continues fetches_go_on calls carries own first last states refl c).follows in
+      (course_goes fetch_calls Continues fetches_go_on calls own first last states refl c).follows in
       elim (goes.answers position r said at o) [
         | inl w ↦ absurd (none_before session now position r said w)
         | inr n ↦ n
       ]
 
-  pub carried : (most : ℕ) (first last : LoopState FetchState S L) → Begins index range session now first.operation → Finishes fetch_calls calls carries most first last
-      → IsCarried calls carries first.operation first.grid last.operation last.grid
+  pub carried : (most : ℕ) (first last : LoopState FetchState G) → Begins index range session now first.operation → Finishes fetch_calls calls most first last
+      → IsCarried calls first.operation first.outside last.operation last.outside
   carried most first last b f =
-      let goes = course_goes fetch_calls Continues fetches_go_on calls carries first.operation.requests.session first last f.2.0 refl f.2.2 in
+      let goes = course_goes fetch_calls Continues fetches_go_on calls first.operation.requests.session first last f.2.0 refl f.2.2 in
       record { states = f.2.0; turns = f.2.2; ends = f.3; range = goes.range; came = came first last f.2.0 b f.2.2 }

@@ -4,35 +4,36 @@ ghost use Rattle.std.specs.Prelude.{◌≡◌, ◌+◌, ◌<◌, ◌^◌, IfOk, 
 ghost use Rattle.fetched_shares.specs.Fetched.{IsReadOver, IsUnanswered, IsUnread, StayOtherwise};
 
 use local_grid::error::LoopError;
-use local_grid::grid::LocalGrid;
-use local_grid::link::Link;
+use operation_loop::{Outside, carry_on};
 use share_fetching::{Fetch, SharePlace, ShareRange};
 use share_leaves::ShareBytes;
-use share_store::store::Store;
 use sources::SourceFault;
 use std::alloc::{AllocError, Global};
 use std::marker::Model;
 use wire::message::StorageIndex;
 
+/// The most turns of the loop for one read.
+const MOST_TURNS: u64 = 100_000_000;
+
 /// Shares of one file at the servers of a grid, each at a position. Each read is an operation of
 /// its own, in a session of its own, which holds as many bytes as it asks for.
 #[derive(Drop)]
-pub struct FetchedShares<S: Store, L: Link> {
+pub struct FetchedShares<G: Outside> {
     alloc: Global,
-    grid: LocalGrid<S, L>,
+    outside: G,
     index: StorageIndex,
     places: Vec<SharePlace>,
     session: u64,
     lacks_memory: bool,
 }
 
-impl<S: Store, L: Link> Model for FetchedShares<S, L> {
+impl<G: Outside> Model for FetchedShares<G> {
     ghost use Rattle.fetched_shares.specs.Fetched.{FetchedState};
 
-    ghost Value = { FetchedState S L };
+    ghost Value = { FetchedState G };
 
     ghost view = { λ f. record {
-      grid = f.grid;
+      outside = f.outside;
       index = f.index;
       places = f.places.items;
       session = f.session;
@@ -40,18 +41,18 @@ impl<S: Store, L: Link> Model for FetchedShares<S, L> {
     } };
 }
 
-impl<S: Store, L: Link> FetchedShares<S, L> {
+impl<G: Outside> FetchedShares<G> {
     /// The shares at these places, by their positions, of the file of this storage index. The first
     /// read has this session.
     pub fn new(
         alloc: Global,
-        grid: LocalGrid<S, L>,
+        outside: G,
         index: StorageIndex,
         places: Vec<SharePlace>,
         session: u64,
-    ) -> FetchedShares<S, L>
+    ) -> FetchedShares<G>
         ensures { result ≡ record {
-          grid = grid;
+          outside = outside;
           index = index;
           places = places.items;
           session = session;
@@ -60,7 +61,7 @@ impl<S: Store, L: Link> FetchedShares<S, L> {
     {
         FetchedShares {
             alloc,
-            grid,
+            outside,
             index,
             places,
             session,
@@ -76,10 +77,10 @@ impl<S: Store, L: Link> FetchedShares<S, L> {
     }
 
     /// The servers.
-    pub fn grid(&self) -> &LocalGrid<S, L>
-        ensures { result.now ≡ self.now.grid }
+    pub fn outside(&self) -> &G
+        ensures { result.now ≡ self.now.outside }
     {
-        &self.grid
+        &self.outside
     }
 
     /// Whether memory was refused to a read, which failed.
@@ -92,8 +93,8 @@ impl<S: Store, L: Link> FetchedShares<S, L> {
     // Reads a range of the share at a position, and says whether its bytes came.
     fn fetch(&mut self, position: usize, offset: u64, out: &mut [u8]) -> Result<bool, AllocError>
         ensures read { IfOk result (λ came. came ≡ true
-            → IsReadOver S.calls L.carries self.old position offset out.new self.new) }
-        ensures unread { IfOk result (λ came. came ≡ false → IsUnanswered S.calls L.carries
+            → IsReadOver G.calls self.old position offset out.new self.new) }
+        ensures unread { IfOk result (λ came. came ≡ false → IsUnanswered G.calls
             self.old position offset (length out.old) self.new) }
         ensures stays { StayOtherwise self.old self.new }
     {
@@ -108,8 +109,8 @@ impl<S: Store, L: Link> FetchedShares<S, L> {
         };
         let session = self.session;
         self.session = session.saturating_add(1);
-        let mut fetch = Fetch::start(self.alloc, self.index, range, session, self.grid.clock())?;
-        match self.grid.run(&mut fetch) {
+        let mut fetch = Fetch::start(self.alloc, self.index, range, session, self.outside.clock())?;
+        match carry_on(self.alloc, &mut self.outside, &mut fetch, MOST_TURNS) {
             Ok(()) => Ok(fetch.copy_to(out)),
             Err(LoopError::TurnLimit) => Ok(false),
             Err(LoopError::OutOfMemory) => Err(AllocError),
@@ -117,12 +118,12 @@ impl<S: Store, L: Link> FetchedShares<S, L> {
     }
 }
 
-impl<S: Store, L: Link> ShareBytes for FetchedShares<S, L> {
+impl<G: Outside> ShareBytes for FetchedShares<G> {
     ghost gives = { λ s position offset bytes after.
-        IsReadOver S.calls L.carries s position offset bytes after };
+        IsReadOver G.calls s position offset bytes after };
 
     ghost fails = { λ s position offset length after.
-        IsUnread S.calls L.carries s position offset length after };
+        IsUnread G.calls s position offset length after };
 
     fn read(&mut self, position: usize, offset: u64, out: &mut [u8]) -> Result<(), SourceFault> {
         match self.fetch(position, offset, out) {
