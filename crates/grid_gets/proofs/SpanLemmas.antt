@@ -7,11 +7,9 @@ use Rattle.std.specs.List.{IsDistinct}
 use Rattle.grid_servers.specs.Servers.{is_left, servers_without}
 use Rattle.std.specs.Io.KnownBytes.{Appends}
 use Rattle.cap_text.specs.Cap.{ReadCapValue}
-use Rattle.share_folders.specs.Folder.{FolderState}
 use Rattle.download_core.specs.State.{DownloadState}
 use Rattle.download_file.specs.Whole.{joined}
-use Rattle.local_grid.specs.Nodes.{Carries}
-use Rattle.local_grid.specs.Turns.{GridState}
+use Rattle.operation_loop.specs.Outside.{OutsideCalls}
 use Rattle.grid_rules.specs.declared.range.ByteRange.{ByteRange}
 use Rattle.grid_telling.specs.declared.outcome.Failure.{Failure}
 use Rattle.grid_telling.specs.declared.outcome.Failure.TheVariants.{Fault, Writer}
@@ -77,34 +75,34 @@ still_accepts None None d stays none = none
 still_accepts None (Some block) d stays none = inl none
 still_accepts (Some block) b d stays accepts = subst (λ (x : Option (List ℕ)). AcceptsOnly x d) (sym stays) accepts
 
-all_still : {L : Type 0} (a b : Option (List ℕ)) (runs : List (Run L)) → StaysBlock a b → AllAccept a runs → AllAccept b runs
-all_still {L = L} a b runs stays all = All-weaker (λ (r : Run L). AcceptsOnly a r.ended) (λ (r : Run L). AcceptsOnly b r.ended) (λ (r : Run L). still_accepts a b r.ended stays) runs all
+all_still : {G : Type 0} (a b : Option (List ℕ)) (runs : List (Run G)) → StaysBlock a b → AllAccept a runs → AllAccept b runs
+all_still {G = G} a b runs stays all = All-weaker (λ (r : Run G). AcceptsOnly a r.ended) (λ (r : Run G). AcceptsOnly b r.ended) (λ (r : Run G). still_accepts a b r.ended stays) runs all
 
 -- ---- spans
 
 -- before the first span
-abbrev pub first_of : {L : Type 0} → GridState FolderState L → Spanning L
+abbrev pub first_of : {G : Type 0} → G → Spanning G
 first_of grid = record { session = 1; grid = grid; block = None }
 
-module _ {L : Type 0} (carries : Carries L) (cap : ReadCapValue) (servers : List ℕ) where
-  pub leads_none : (s : Spanning L) (from : ℕ) (held : Option (List ℕ)) → Leads carries cap servers s from held s from held
+module _ {G : Type 0} (calls : OutsideCalls G) (cap : ReadCapValue) (servers : List ℕ) where
+  pub leads_none : (s : Spanning G) (from : ℕ) (held : Option (List ℕ)) → Leads calls cap servers s from held s from held
   leads_none s from held = record {
     runs = [];
-    written = written_nil carries cap servers (point_at s from) held;
-    one = All-nil (λ (r : Run L). AcceptsOnly s.block r.ended);
+    written = written_nil calls cap servers (point_at s from) held;
+    one = All-nil (λ (r : Run G). AcceptsOnly s.block r.ended);
     stays = stays_refl s.block;
   }
 
-  pub leads_trans : (a b c : Spanning L) (from mid to : ℕ) (held middle holds : Option (List ℕ)) → Leads carries cap servers a from held b mid middle → Leads carries cap servers b mid middle c to holds → Leads carries cap servers a from held c to holds
+  pub leads_trans : (a b c : Spanning G) (from mid to : ℕ) (held middle holds : Option (List ℕ)) → Leads calls cap servers a from held b mid middle → Leads calls cap servers b mid middle c to holds → Leads calls cap servers a from held c to holds
   leads_trans a b c from mid to held middle holds first second = record {
     runs = first.runs ++ second.runs;
-    written = written_trans carries cap servers (point_at a from) (point_at b mid) (point_at c to) first.runs second.runs held middle holds first.written second.written;
-    one = All-append (λ (r : Run L). AcceptsOnly c.block r.ended) first.runs second.runs (all_still b.block c.block first.runs second.stays first.one) second.one;
+    written = written_trans calls cap servers (point_at a from) (point_at b mid) (point_at c to) first.runs second.runs held middle holds first.written second.written;
+    one = All-append (λ (r : Run G). AcceptsOnly c.block r.ended) first.runs second.runs (all_still b.block c.block first.runs second.stays first.one) second.one;
     stays = stays_trans a.block b.block c.block first.stays second.stays;
   }
 
   -- after some that led on, it stops
-  pub stops_after : (a b : Spanning L) (from mid to : ℕ) (held middle holds : Option (List ℕ)) → Leads carries cap servers a from held b mid middle → Stops carries cap servers b mid to middle holds → Stops carries cap servers a from to held holds
+  pub stops_after : (a b : Spanning G) (from mid to : ℕ) (held middle holds : Option (List ℕ)) → Leads calls cap servers a from held b mid middle → Stops calls cap servers b mid to middle holds → Stops calls cap servers a from to held holds
   stops_after a b from mid to held middle holds first s = record {
     mid = s.mid;
     at = s.at;
@@ -118,7 +116,7 @@ module _ {L : Type 0} (carries : Carries L) (cap : ReadCapValue) (servers : List
   }
 
   -- what was written was sent on
-  pub leads_flushed : (a b : Spanning L) (from to : ℕ) (held holds last : Option (List ℕ)) → Leads carries cap servers a from held b to holds → Appends holds last [] → Leads carries cap servers a from held b to last
+  pub leads_flushed : (a b : Spanning G) (from to : ℕ) (held holds last : Option (List ℕ)) → Leads calls cap servers a from held b to holds → Appends holds last [] → Leads calls cap servers a from held b to last
   leads_flushed a b from to held holds last l more = record {
     runs = l.runs;
     written = record {
@@ -131,7 +129,7 @@ module _ {L : Type 0} (carries : Carries L) (cap : ReadCapValue) (servers : List
   }
 
   -- it stops where it was led to
-  pub stops_there : (a b : Spanning L) (from at to : ℕ) (held holds : Option (List ℕ)) → Leads carries cap servers a from held b at holds → at ≤ to → Stops carries cap servers a from to held holds
+  pub stops_there : (a b : Spanning G) (from at to : ℕ) (held holds : Option (List ℕ)) → Leads calls cap servers a from held b at holds → at ≤ to → Stops calls cap servers a from to held holds
   stops_there a b from at to held holds first within = record {
     mid = b;
     at = at;
@@ -140,16 +138,16 @@ module _ {L : Type 0} (carries : Carries L) (cap : ReadCapValue) (servers : List
     last = [];
     few = omega arith;
     after = point_at b at;
-    written = written_nil carries cap servers (point_at b at) holds;
+    written = written_nil calls cap servers (point_at b at) holds;
     within = within;
   }
 
   -- where it begins
-  pub stops_first : (a : Spanning L) (from to : ℕ) (held : Option (List ℕ)) → from ≤ to → Stops carries cap servers a from to held held
+  pub stops_first : (a : Spanning G) (from to : ℕ) (held : Option (List ℕ)) → from ≤ to → Stops calls cap servers a from to held held
   stops_first a from to held within = stops_there a a from from to held held (leads_none a from held) within
 
   -- not behind a greater offset either
-  pub stops_wider : (a : Spanning L) (from to end : ℕ) (held holds : Option (List ℕ)) → to ≤ end → Stops carries cap servers a from to held holds → Stops carries cap servers a from end held holds
+  pub stops_wider : (a : Spanning G) (from to end : ℕ) (held holds : Option (List ℕ)) → to ≤ end → Stops calls cap servers a from to held holds → Stops calls cap servers a from end held holds
   stops_wider a from to end held holds wider s = record {
     mid = s.mid;
     at = s.at;
@@ -164,48 +162,48 @@ module _ {L : Type 0} (carries : Carries L) (cap : ReadCapValue) (servers : List
 
   -- ---- a second try
 
-  pub done_to : (a b : Spanning L) (from to : ℕ) (held holds : Option (List ℕ)) (t : Tried) → t ≡ Done → Leads carries cap servers a from held b (reached_by t to) holds → Leads carries cap servers a from held b to holds
-  done_to a b from to held holds t is first = subst (λ (x : Tried). Leads carries cap servers a from held b (reached_by x to) holds) is first
+  pub done_to : (a b : Spanning G) (from to : ℕ) (held holds : Option (List ℕ)) (t : Tried) → t ≡ Done → Leads calls cap servers a from held b (reached_by t to) holds → Leads calls cap servers a from held b to holds
+  done_to a b from to held holds t is first = subst (λ (x : Tried). Leads calls cap servers a from held b (reached_by x to) holds) is first
 
-  module _ (a b c : Spanning L) (from to at : ℕ) (held middle holds : Option (List ℕ)) (t : Tried) (is : t ≡ TooFew at) (first : Leads carries cap servers a from held b (reached_by t to) middle) where
-    first_to : Leads carries cap servers a from held b at middle
-    first_to = subst (λ (x : Tried). Leads carries cap servers a from held b (reached_by x to) middle) is first
+  module _ (a b c : Spanning G) (from to at : ℕ) (held middle holds : Option (List ℕ)) (t : Tried) (is : t ≡ TooFew at) (first : Leads calls cap servers a from held b (reached_by t to) middle) where
+    first_to : Leads calls cap servers a from held b at middle
+    first_to = subst (λ (x : Tried). Leads calls cap servers a from held b (reached_by x to) middle) is first
 
-    pub then_ok : (r : Result (Unit {0}) Failure) → OnOk r (Leads carries cap servers b at middle c to holds) → OnOk r (Leads carries cap servers a from held c to holds)
+    pub then_ok : (r : Result (Unit {0}) Failure) → OnOk r (Leads calls cap servers b at middle c to holds) → OnOk r (Leads calls cap servers a from held c to holds)
     then_ok (Ok tt) second = leads_trans a b c from at to held middle holds first_to second
     then_ok (Err f) second = tt
 
-    pub then_err : (r : Result (Unit {0}) Failure) → IfErr r (λ f. UnlessWriter f (Stops carries cap servers b at to middle holds)) → IfErr r (λ f. UnlessWriter f (Stops carries cap servers a from to held holds))
-    then_err r known = if_err_weaker r (Stops carries cap servers b at to middle holds) (Stops carries cap servers a from to held holds) (λ s. stops_after a b from at to held middle holds first_to s) known
+    pub then_err : (r : Result (Unit {0}) Failure) → IfErr r (λ f. UnlessWriter f (Stops calls cap servers b at to middle holds)) → IfErr r (λ f. UnlessWriter f (Stops calls cap servers a from to held holds))
+    then_err r known = if_err_weaker r (Stops calls cap servers b at to middle holds) (Stops calls cap servers a from to held holds) (λ s. stops_after a b from at to held middle holds first_to s) known
 
   -- ---- of a range
 
-  pub got_of : (range : ByteRange) (grid : GridState FolderState L) (new : Spanning L) (held holds : Option (List ℕ)) → Leads carries cap servers (first_of grid) range.from held new range.to holds → IsGot carries cap servers range grid held holds
+  pub got_of : (range : ByteRange) (grid : G) (new : Spanning G) (held holds : Option (List ℕ)) → Leads calls cap servers (first_of grid) range.from held new range.to holds → IsGot calls cap servers range grid held holds
   got_of range grid new held holds l = record { runs = l.runs; after = point_at new range.to; written = l.written; whole = refl; block = new.block; one = l.one }
 
-  pub begun_of : (range : ByteRange) (grid : GridState FolderState L) (held holds : Option (List ℕ)) → Stops carries cap servers (first_of grid) range.from range.to held holds → IsBegun carries cap servers range grid held holds
+  pub begun_of : (range : ByteRange) (grid : G) (held holds : Option (List ℕ)) → Stops calls cap servers (first_of grid) range.from range.to held holds → IsBegun calls cap servers range grid held holds
   begun_of range grid held holds s = record {
     runs = s.leads.runs;
     last = s.last;
     few = s.few;
     after = s.after;
-    written = written_trans carries cap servers (point_at (first_of grid) range.from) (point_at s.mid s.at) s.after s.leads.runs s.last held s.middle holds s.leads.written s.written;
+    written = written_trans calls cap servers (point_at (first_of grid) range.from) (point_at s.mid s.at) s.after s.leads.runs s.last held s.middle holds s.leads.written s.written;
     within = s.within;
     block = s.mid.block;
     one = s.leads.one;
   }
 
 -- from some servers, and so from all
-module _ {L : Type 0} (carries : Carries L) (cap : ReadCapValue) (some all : List ℕ) (among : All (Contains all) some) (old : Spanning L) (from : ℕ) (held : Option (List ℕ)) where
-  pub leads_among : (new : Spanning L) (at : ℕ) (holds : Option (List ℕ)) → Leads carries cap some old from held new at holds → Leads carries cap all old from held new at holds
+module _ {G : Type 0} (calls : OutsideCalls G) (cap : ReadCapValue) (some all : List ℕ) (among : All (Contains all) some) (old : Spanning G) (from : ℕ) (held : Option (List ℕ)) where
+  pub leads_among : (new : Spanning G) (at : ℕ) (holds : Option (List ℕ)) → Leads calls cap some old from held new at holds → Leads calls cap all old from held new at holds
   leads_among new at holds l = record {
     runs = l.runs;
-    written = written_among carries cap some all among (point_at old from) (point_at new at) l.runs held holds l.written;
+    written = written_among calls cap some all among (point_at old from) (point_at new at) l.runs held holds l.written;
     one = l.one;
     stays = l.stays;
   }
 
-  pub stops_among : (to : ℕ) (holds : Option (List ℕ)) → Stops carries cap some old from to held holds → Stops carries cap all old from to held holds
+  pub stops_among : (to : ℕ) (holds : Option (List ℕ)) → Stops calls cap some old from to held holds → Stops calls cap all old from to held holds
   stops_among to holds s = record {
     mid = s.mid;
     at = s.at;
@@ -214,6 +212,6 @@ module _ {L : Type 0} (carries : Carries L) (cap : ReadCapValue) (some all : Lis
     last = s.last;
     few = s.few;
     after = s.after;
-    written = written_among carries cap some all among (point_at s.mid s.at) s.after s.last s.middle holds s.written;
+    written = written_among calls cap some all among (point_at s.mid s.at) s.after s.last s.middle holds s.written;
     within = s.within;
   }

@@ -5,7 +5,6 @@ use Rattle.std.specs.Io.KnownBytes.{Appends}
 use Rattle.std.specs.List.{IsDistinct}
 use Rattle.std.proofs.lemmas.List.Elements.{All-contains_itself, All-nil, All-push}
 use Rattle.cap_text.specs.Cap.{ReadCapValue}
-use Rattle.share_folders.specs.Folder.{FolderState, folder_calls}
 use Rattle.download_segments.specs.Pieces.{AreConsecutive}
 use Rattle.download_segments.specs.declared.piece.Piece.{Piece}
 use Rattle.download_file.specs.Whole.{joined}
@@ -13,8 +12,7 @@ use Rattle.download_core.specs.Moves.{Begins}
 use Rattle.download_core.specs.State.{DownloadState, handed, ready}
 use Rattle.download_core.specs.declared.status.DownloadStatus.{DownloadStatus}
 use Rattle.download_core.specs.declared.status.DownloadStatus.TheVariants as downloads
-use Rattle.local_grid.specs.Nodes.{Carries}
-use Rattle.local_grid.specs.Turns.{GridState}
+use Rattle.operation_loop.specs.Outside.{OutsideCalls}
 use Rattle.carried_operations.specs.Written.{IsCarried, IsWritten, UnlessWriterFailed, capped}
 use Rattle.carried_operations.specs.declared.downloads.Carried.{Carried}
 use Rattle.carried_operations.specs.declared.downloads.CutShort.{CutShort}
@@ -43,8 +41,8 @@ leads_up : (from : ℕ) (ps : List Piece) (end : ℕ) → AreConsecutive from ps
 leads_up from [] end c = let same : from ≡ end = c in omega (arith, same)
 leads_up from (p ∷ ps) end c = let rest : from + length p.bytes ≤ end = leads_up (from + length p.bytes) ps end c.2 in omega (arith, rest)
 
-module _ {L : Type 0} (carries : Carries L) (cap : ReadCapValue) (old : Spanning L) (servers : List ℕ) (from to : ℕ) (begun : DownloadState) (c : Carried) (grid : GridState FolderState L) (held holds : Option (List ℕ))
-    (distinct : IsDistinct nat_eq servers) (begins : Begins cap from to servers old.session old.grid.clock begun) (fits : to < 2 ^ 64) (w : IsWritten folder_calls carries begun old.grid held c grid holds) where
+module _ {G : Type 0} (calls : OutsideCalls G) (cap : ReadCapValue) (old : Spanning G) (servers : List ℕ) (from to : ℕ) (begun : DownloadState) (c : Carried) (grid : G) (held holds : Option (List ℕ))
+    (distinct : IsDistinct nat_eq servers) (begins : Begins cap from to servers old.session (calls.clock old.grid) begun) (fits : to < 2 ^ 64) (w : IsWritten calls begun old.grid held c grid holds) where
   -- it gave nothing behind the end of the span
   within : handed w.reached ≤ to
   within =
@@ -52,15 +50,15 @@ module _ {L : Type 0} (carries : Carries L) (cap : ReadCapValue) (old : Spanning
       let up : handed w.reached ≤ right.end = leads_up (handed w.reached) (ready w.reached) right.end right.consecutive in
       omega (arith, up, right.within, w.carried.to, begins.range.1)
 
-  abbrev pub run_to : Point L → Run L
+  abbrev pub run_to : Point G → Run G
   run_to after = record { servers = servers; to = to; begun = begun; ended = w.reached; pieces = w.pieces; after = after }
 
-  is_run : (after : Point L) → after.grid ≡ w.grid → after.offset ≡ handed w.reached → after.session ≡ capped (old.session + 1) → IsRun carries cap servers (point_at old from) (run_to after)
+  is_run : (after : Point G) → after.grid ≡ w.outside → after.offset ≡ handed w.reached → after.session ≡ capped (old.session + 1) → IsRun calls cap servers (point_at old from) (run_to after)
   is_run after same offset session = record {
     asked = All-contains_itself servers;
     distinct = distinct;
     begins = begins;
-    carried = subst (λ (g : GridState FolderState L). IsCarried folder_calls carries begun old.grid w.pieces w.reached g) (sym same) w.carried;
+    carried = subst (λ (g : G). IsCarried calls begun old.grid w.pieces w.reached g) (sym same) w.carried;
     offset = offset;
     session = session;
   }
@@ -83,33 +81,33 @@ module _ {L : Type 0} (carries : Carries L) (cap : ReadCapValue) (old : Spanning
   tried_within tried ok e = let at = came_to tried ok e in let fit : handed w.reached ≤ to = within in omega (arith, at, fit)
 
   -- one that was carried as far as it goes
-  pub tried_leads : (tried : Tried) (new : Spanning L) → c.ended ≡ Ok tt → EndsWith c tried → new.session ≡ capped (old.session + 1) → new.grid ≡ grid → StaysBlock old.block new.block → AcceptsOnly new.block c.download
-      → Leads carries cap servers old from held new (reached_by tried to) holds
+  pub tried_leads : (tried : Tried) (new : Spanning G) → c.ended ≡ Ok tt → EndsWith c tried → new.session ≡ capped (old.session + 1) → new.grid ≡ grid → StaysBlock old.block new.block → AcceptsOnly new.block c.download
+      → Leads calls cap servers old from held new (reached_by tried to) holds
   tried_leads tried new ok e session same stays accepts =
       let done = w.done ok in
-      let after : Point L = point_at new (reached_by tried to) in
+      let after : Point G = point_at new (reached_by tried to) in
       let added : Appends held holds (joined w.pieces) = subst (λ (r : Result (Unit {0}) CutShort). UnlessWriterFailed r (Appends held holds (joined w.pieces))) ok w.written in
       record {
         runs = run_to after ∷ [];
-        written = written_one carries cap servers (point_at old from) (run_to after) held holds (is_run after (same ∙ sym done.grid_is) (came_to tried ok e) session) added;
-        one = All-push (λ (r : Run L). AcceptsOnly new.block r.ended) [] (run_to after) (All-nil (λ (r : Run L). AcceptsOnly new.block r.ended))
+        written = written_one calls cap servers (point_at old from) (run_to after) held holds (is_run after (same ∙ sym done.outside_is) (came_to tried ok e) session) added;
+        one = All-push (λ (r : Run G). AcceptsOnly new.block r.ended) [] (run_to after) (All-nil (λ (r : Run G). AcceptsOnly new.block r.ended))
             (subst (λ (d : DownloadState). AcceptsOnly new.block d) (sym done.download_is) accepts);
         stays = stays;
       }
 
   -- one that may have been cut short, but not by its writer
-  stops_by : UnlessWriterFailed c.ended (Appends held holds (joined w.pieces)) → (c.ended ≡ Err cuts.Writer → ⊥) → Stops carries cap servers old from to held holds
+  stops_by : UnlessWriterFailed c.ended (Appends held holds (joined w.pieces)) → (c.ended ≡ Err cuts.Writer → ⊥) → Stops calls cap servers old from to held holds
   stops_by known not_writer =
-      let after : Point L = record { offset = handed w.reached; session = capped (old.session + 1); grid = w.grid } in
+      let after : Point G = record { offset = handed w.reached; session = capped (old.session + 1); grid = w.outside } in
       record {
         mid = old;
         at = from;
         middle = held;
-        leads = leads_none carries cap servers old from held;
+        leads = leads_none calls cap servers old from held;
         last = run_to after ∷ [];
         few = omega arith;
         after = after;
-        written = written_one carries cap servers (point_at old from) (run_to after) held holds (is_run after refl refl refl) (added c.ended refl known);
+        written = written_one calls cap servers (point_at old from) (run_to after) held holds (is_run after refl refl refl) (added c.ended refl known);
         within = within;
       }
     where
@@ -119,16 +117,16 @@ module _ {L : Type 0} (carries : Carries L) (cap : ReadCapValue) (old : Spanning
       added (Err cuts.Writer) is known = absurd (not_writer is)
 
   -- how it ended
-  pub tried_err : (r : Result Tried Failure) → (c.ended ≡ Err cuts.Writer → r ≡ Err failures.Writer) → IfErr r (λ f. UnlessWriter f (Stops carries cap servers old from to held holds))
+  pub tried_err : (r : Result Tried Failure) → (c.ended ≡ Err cuts.Writer → r ≡ Err failures.Writer) → IfErr r (λ f. UnlessWriter f (Stops calls cap servers old from to held holds))
   tried_err (Ok tried) writer = tt
   tried_err (Err failures.Writer) writer = tt
   tried_err (Err (failures.Fault fault)) writer = stops_by w.written (λ is. let no : Err (failures.Fault fault) ≡ Err failures.Writer = writer is in cc)
 
-  pub tried_ok : (r : Result Tried Failure) (mid new : Spanning L) → mid.session ≡ capped (old.session + 1) → mid.grid ≡ grid → mid.block ≡ old.block
+  pub tried_ok : (r : Result Tried Failure) (mid new : Spanning G) → mid.session ≡ capped (old.session + 1) → mid.grid ≡ grid → mid.block ≡ old.block
       → IfOk r (λ tried. (c.ended ≡ Ok tt) × EndsWith c tried) → IfOk r (λ _. new ≡ record mid { block = new.block }) → IfOk r (λ _. StaysBlock mid.block new.block)
-      → IfOk r (λ _. AcceptsOnly new.block c.download) → IfOk r (λ tried. Leads carries cap servers old from held new (reached_by tried to) holds)
+      → IfOk r (λ _. AcceptsOnly new.block c.download) → IfOk r (λ tried. Leads calls cap servers old from held new (reached_by tried to) holds)
   tried_ok (Ok tried) mid new session same block ended others stays accepts =
-      tried_leads tried new ended.0 ended.1 (ap (λ (s : Spanning L). s.session) others ∙ session) (ap (λ (s : Spanning L). s.grid) others ∙ same) (subst (λ (b : Option (List ℕ)). StaysBlock b new.block) block stays) accepts
+      tried_leads tried new ended.0 ended.1 (ap (λ (s : Spanning G). s.session) others ∙ session) (ap (λ (s : Spanning G). s.grid) others ∙ same) (subst (λ (b : Option (List ℕ)). StaysBlock b new.block) block stays) accepts
   tried_ok (Err f) mid new session same block ended others stays accepts = tt
 
   pub tried_ok_within : (r : Result Tried Failure) → IfOk r (λ tried. (c.ended ≡ Ok tt) × EndsWith c tried) → IfOk r (λ tried. reached_by tried to ≤ to)

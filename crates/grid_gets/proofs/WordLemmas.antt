@@ -5,9 +5,9 @@ use Rattle.cap_text.specs.CapText.{Spells}
 use Rattle.cap_text.specs.declared.cap.Cap.{Cap}
 use Rattle.cap_text.specs.declared.cap.Cap.TheVariants.{Verify}
 use Rattle.grid_faults.specs.declared.fault.Fault.{Fault}
-use Rattle.local_grid.specs.Nodes.{Carries}
 use Rattle.grid_rules.specs.Range.{IsWithin}
 use Rattle.grid_rules.specs.declared.range.ByteRange.{ByteRange}
+use Rattle.grid_servers.specs.Grids.{GridCalls}
 use Rattle.grid_telling.specs.declared.outcome.Failure.{Failure}
 use Rattle.grid_words.specs.declared.words.GetWords.{GetWords}
 use Rattle.grid_gets.specs.Files.{FileAct, IsFileBy, IsFileOf, MayBeFileBy, MayBeFileOf}
@@ -34,45 +34,45 @@ module _ (text : List ℕ) (r : Result Cap Fault) (said : (cap : Cap) → (r ≡
 
 -- ---- what is written
 
-module _ {L : Type 0} (carries : Carries L) (words : GetWords) (cap : Cap) (range : ByteRange) (spelled : Spells words.cap.now cap) (is : range ≡ range_by words cap) (within : IsWithin (file_size cap) range) where
+module _ {S : Type 0} (calls : GridCalls S) (words : GetWords) (cap : Cap) (range : ByteRange) (spelled : Spells words.cap.now cap) (is : range ≡ range_by words cap) (within : IsWithin (file_size cap) range) where
   fits : IsWithin (file_size cap) (range_by words cap)
   fits = subst (λ (r : ByteRange). IsWithin (file_size cap) r) is within
 
-  by_words : (held holds : Option (List ℕ)) → IsGotOf carries words cap range held holds → IsGotBy carries words held holds
-  by_words held holds g = record { cap = cap; spelled = spelled; within = fits; got = subst (λ (r : ByteRange). IsGotOf carries words cap r held holds) is g }
+  by_words : (held holds : Option (List ℕ)) → IsGotOf calls words cap range held holds → IsGotBy calls words held holds
+  by_words held holds g = record { cap = cap; spelled = spelled; within = fits; got = subst (λ (r : ByteRange). IsGotOf calls words cap r held holds) is g }
 
   -- to a writer
-  pub got_by : (r : Result (Unit {0}) Failure) (held holds : Option (List ℕ)) → OnOk r (IsGotOf carries words cap range held holds) → OnOk r (IsGotBy carries words held holds)
+  pub got_by : (r : Result (Unit {0}) Failure) (held holds : Option (List ℕ)) → OnOk r (IsGotOf calls words cap range held holds) → OnOk r (IsGotBy calls words held holds)
   got_by (Ok tt) held holds g = by_words held holds g
   got_by (Err f) held holds g = tt
 
-  begun_words : (held holds : Option (List ℕ)) → IsBegunOf carries words range held holds cap → IsBegunBy carries words held holds
-  begun_words held holds written = read cap spelled fits (subst (λ (x : ByteRange). IsBegunOf carries words x held holds cap) is written)
+  begun_words : (held holds : Option (List ℕ)) → IsBegunOf calls words range held holds cap → IsBegunBy calls words held holds
+  begun_words held holds written = read cap spelled fits (subst (λ (x : ByteRange). IsBegunOf calls words x held holds cap) is written)
 
-  pub begun_by : (r : Result (Unit {0}) Failure) (held holds : Option (List ℕ)) → IfErr r (λ f. UnlessWriter f (IsBegunOf carries words range held holds cap))
-      → IfErr r (λ f. UnlessWriter f (IsBegunBy carries words held holds))
-  begun_by r held holds b = if_err_weaker r (IsBegunOf carries words range held holds cap) (IsBegunBy carries words held holds) (begun_words held holds) b
+  pub begun_by : (r : Result (Unit {0}) Failure) (held holds : Option (List ℕ)) → IfErr r (λ f. UnlessWriter f (IsBegunOf calls words range held holds cap))
+      → IfErr r (λ f. UnlessWriter f (IsBegunBy calls words held holds))
+  begun_by r held holds b = if_err_weaker r (IsBegunOf calls words range held holds cap) (IsBegunBy calls words held holds) (begun_words held holds) b
 
   -- ---- to a file
 
   module _ (path : List ℕ) (old new : Option (List FileAct)) where
-    file_words : (outcome : Result (Unit {0}) Failure) → IsFileOf carries words cap range path outcome old new → IsFileBy carries words path outcome old new
+    file_words : (outcome : Result (Unit {0}) Failure) → IsFileOf calls words cap range path outcome old new → IsFileBy calls words path outcome old new
     file_words outcome h = record {
       held = h.held;
       holds = h.holds;
       acts = h.acts;
       whole = got_by outcome h.held h.holds h.whole;
-      begun = if_err_weaker outcome (IsBegunOf carries words range h.held h.holds cap) (IsBegunBy carries words h.held h.holds) (begun_words h.held h.holds) h.begun;
+      begun = if_err_weaker outcome (IsBegunOf calls words range h.held h.holds cap) (IsBegunBy calls words h.held h.holds) (begun_words h.held h.holds) h.begun;
     }
 
-    pub file_by : (r : Result (Unit {0}) Failure) → OnOk r (IsFileOf carries words cap range path (Ok tt) old new) → OnOk r (IsFileBy carries words path (Ok tt) old new)
+    pub file_by : (r : Result (Unit {0}) Failure) → OnOk r (IsFileOf calls words cap range path (Ok tt) old new) → OnOk r (IsFileBy calls words path (Ok tt) old new)
     file_by (Ok tt) h = file_words (Ok tt) h
     file_by (Err f) h = tt
 
-    may_be : MayBeFileOf carries words cap range path old new → MayBeFileBy carries words path old new
+    may_be : MayBeFileOf calls words cap range path old new → MayBeFileBy calls words path old new
     may_be (inl same) = inl same
     may_be (inr handed) = inr (handed.0, file_words handed.0 handed.1)
 
-    pub part_by : (r : Result (Unit {0}) Failure) → OnErr r (MayBeFileOf carries words cap range path old new) → OnErr r (MayBeFileBy carries words path old new)
+    pub part_by : (r : Result (Unit {0}) Failure) → OnErr r (MayBeFileOf calls words cap range path old new) → OnErr r (MayBeFileBy calls words path old new)
     part_by (Ok tt) h = tt
     part_by (Err f) h = may_be h

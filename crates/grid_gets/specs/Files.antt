@@ -2,8 +2,8 @@
 use Rattle.std.specs.Prelude.{◌≡◌, ◌⊎◌, ℕ, List, [], ◌∷◌, ◌++◌, Option, Some, None, Result, OnOk}
 use Rattle.std.specs.Prelude.{IfErr, ⊤}
 use Rattle.cap_text.specs.declared.cap.Cap.{Cap}
-use Rattle.local_grid.specs.Nodes.{Carries}
 use Rattle.grid_rules.specs.declared.range.ByteRange.{ByteRange}
+use Rattle.grid_servers.specs.Grids.{GridCalls}
 use Rattle.grid_telling.specs.declared.outcome.Failure.{Failure}
 use Rattle.grid_words.specs.declared.words.GetWords.{GetWords}
 use Rattle.grid_gets.specs.Gets.{IsBegunBy, IsBegunOf, IsGotBy, IsGotOf, UnlessWriter}
@@ -40,23 +40,23 @@ MayBeHanded IsWhole IsBegun path old new = (new ≡ old)
 -- ---- by the words of a get
 
 -- The bytes that its words ask for were handed to a file of a path.
-abbrev pub IsFileBy : {L : Type 0} → Carries L → GetWords → List ℕ → Result (Unit {0}) Failure
+abbrev pub IsFileBy : {S : Type 0} → GridCalls S → GetWords → List ℕ → Result (Unit {0}) Failure
     → Option (List FileAct) → Option (List FileAct) → Type 0
-IsFileBy carries words = IsHanded (IsGotBy carries words) (IsBegunBy carries words)
+IsFileBy calls words = IsHanded (IsGotBy calls words) (IsBegunBy calls words)
 
-abbrev pub MayBeFileBy : {L : Type 0} → Carries L → GetWords → List ℕ → Option (List FileAct)
+abbrev pub MayBeFileBy : {S : Type 0} → GridCalls S → GetWords → List ℕ → Option (List FileAct)
     → Option (List FileAct) → Type 0
-MayBeFileBy carries words = MayBeHanded (IsGotBy carries words) (IsBegunBy carries words)
+MayBeFileBy calls words = MayBeHanded (IsGotBy calls words) (IsBegunBy calls words)
 
 -- ---- words of private clauses
 
 -- The same of a range of a cap's file.
-abbrev pub IsFileOf : {L : Type 0} → Carries L → GetWords → Cap → ByteRange → List ℕ
+abbrev pub IsFileOf : {S : Type 0} → GridCalls S → GetWords → Cap → ByteRange → List ℕ
     → Result (Unit {0}) Failure → Option (List FileAct) → Option (List FileAct) → Type 0
-IsFileOf carries words cap range = IsHanded (IsGotOf carries words cap range)
-    (λ held holds. IsBegunOf carries words range held holds cap)
+IsFileOf calls words cap range = IsHanded (IsGotOf calls words cap range)
+    (λ held holds. IsBegunOf calls words range held holds cap)
 
-abbrev pub MayBeFileOf : {L : Type 0} → Carries L → GetWords → Cap → ByteRange → List ℕ
+abbrev pub MayBeFileOf : {S : Type 0} → GridCalls S → GetWords → Cap → ByteRange → List ℕ
     → Option (List FileAct) → Option (List FileAct) → Type 0
-MayBeFileOf carries words cap range = MayBeHanded (IsGotOf carries words cap range)
-    (λ held holds. IsBegunOf carries words range held holds cap)
+MayBeFileOf calls words cap range = MayBeHanded (IsGotOf calls words cap range)
+    (λ held holds. IsBegunOf calls words range held holds cap)

@@ -6,9 +6,8 @@ ghost use Rattle.cap_text.specs.Cap.{VerifyCapValue};
 ghost use Rattle.cap_text.specs.CapText.{Spells};
 ghost use Rattle.cap_text.specs.declared.cap.Cap.TheVariants.{Chk, Verify, Lit};
 ghost use Rattle.grid_faults.specs.declared.fault.Fault.TheVariants as faults;
-ghost use Rattle.socket_links.specs.Ends.{pair_calls};
-ghost use Rattle.socket_links.specs.Links.{IsCarriedOver};
 ghost use Rattle.grid_rules.specs.Range.{IsWithin};
+ghost use Rattle.grid_servers.specs.Grids.{grid_calls};
 ghost use Rattle.grid_telling.specs.declared.outcome.Failure.TheVariants as failures;
 ghost use Rattle.grid_gets.specs.Files.{IsFileBy, IsFileOf, MayBeFileBy, MayBeFileOf};
 ghost use Rattle.grid_gets.specs.Gets.{IsBegunBy, IsBegunOf, IsGotBy, IsGotOf, UnlessWriter};
@@ -44,19 +43,18 @@ where
     F: NamedFiles,
     O: Write,
     E: Write + IsTerminal,
-    ensures got { words.now.output ≡ None → OnOk result (IsGotBy (IsCarriedOver (pair_calls
-        R.Stream.contents R.Stream.remaining)) words.now (O.contents out.old)
-        (O.contents out.new)) }
+    ensures got { words.now.output ≡ None → OnOk result (IsGotBy (grid_calls R.Stream.contents
+        R.Stream.remaining) words.now (O.contents out.old) (O.contents out.new)) }
     ensures begun { words.now.output ≡ None → IfErr result (λ failure. UnlessWriter failure
-        (IsBegunBy (IsCarriedOver (pair_calls R.Stream.contents R.Stream.remaining)) words.now
-        (O.contents out.old) (O.contents out.new))) }
+        (IsBegunBy (grid_calls R.Stream.contents R.Stream.remaining) words.now (O.contents out.old)
+        (O.contents out.new))) }
     // With a file of a name the bytes are handed to it, and it is ended as whole only with all.
-    ensures file { IfSome words.now.output (λ path. OnOk result (IsFileBy (IsCarriedOver
-        (pair_calls R.Stream.contents R.Stream.remaining)) words.now path.now (Ok tt)
-        (F.acts files.old) (F.acts files.new))) }
-    ensures part { IfSome words.now.output (λ path. OnErr result (MayBeFileBy (IsCarriedOver
-        (pair_calls R.Stream.contents R.Stream.remaining)) words.now path.now
-        (F.acts files.old) (F.acts files.new))) }
+    ensures file { IfSome words.now.output (λ path. OnOk result (IsFileBy (grid_calls
+        R.Stream.contents R.Stream.remaining) words.now path.now (Ok tt) (F.acts files.old)
+        (F.acts files.new))) }
+    ensures part { IfSome words.now.output (λ path. OnErr result (MayBeFileBy (grid_calls
+        R.Stream.contents R.Stream.remaining) words.now path.now (F.acts files.old)
+        (F.acts files.new))) }
     ensures kept { IfSome words.now.output (λ _. out.new ≡ out.old) }
     ensures unasked { words.now.output ≡ None → F.acts files.new ≡ F.acts files.old }
     ensures verify { (cap : VerifyCapValue) → Spells words.now.cap.now (Verify cap)
@@ -129,12 +127,10 @@ where
     F: NamedFiles,
     E: Write + IsTerminal,
     requires { IsWithin (file_size asked.now.cap) asked.now.range }
-    ensures ok { OnOk result (IsFileOf (IsCarriedOver (pair_calls R.Stream.contents
-        R.Stream.remaining)) words.now asked.now.cap asked.now.range path.now (Ok tt)
-        (F.acts files.old) (F.acts files.new)) }
-    ensures err { OnErr result (MayBeFileOf (IsCarriedOver (pair_calls R.Stream.contents
-        R.Stream.remaining)) words.now asked.now.cap asked.now.range path.now
-        (F.acts files.old) (F.acts files.new)) }
+    ensures ok { OnOk result (IsFileOf (grid_calls R.Stream.contents R.Stream.remaining) words.now
+        asked.now.cap asked.now.range path.now (Ok tt) (F.acts files.old) (F.acts files.new)) }
+    ensures err { OnErr result (MayBeFileOf (grid_calls R.Stream.contents R.Stream.remaining)
+        words.now asked.now.cap asked.now.range path.now (F.acts files.old) (F.acts files.new)) }
 {
     let mut file = files.open(path)?;
     let written = write_bytes(rt, words, &asked.cap, &asked.range, &mut file, progress);
@@ -155,12 +151,11 @@ where
     O: Write,
     E: Write + IsTerminal,
     requires { IsWithin (file_size cap.now) range.now }
-    ensures ok { OnOk result (IsGotOf (IsCarriedOver (pair_calls R.Stream.contents
-        R.Stream.remaining)) words.now cap.now range.now (O.contents out.old)
-        (O.contents out.new)) }
-    ensures err { IfErr result (λ failure. UnlessWriter failure (IsBegunOf (IsCarriedOver
-        (pair_calls R.Stream.contents R.Stream.remaining)) words.now range.now
-        (O.contents out.old) (O.contents out.new) cap.now)) }
+    ensures ok { OnOk result (IsGotOf (grid_calls R.Stream.contents R.Stream.remaining) words.now
+        cap.now range.now (O.contents out.old) (O.contents out.new)) }
+    ensures err { IfErr result (λ failure. UnlessWriter failure (IsBegunOf (grid_calls
+        R.Stream.contents R.Stream.remaining) words.now range.now (O.contents out.old)
+        (O.contents out.new) cap.now)) }
 {
     match cap {
         Cap::Chk(cap) => get_range(rt, words, cap, range, out, progress),
@@ -191,12 +186,11 @@ where
     O: Write,
     E: Write + IsTerminal,
     requires { IsWithin cap.now.size range.now }
-    ensures ok { OnOk result (IsGotOf (IsCarriedOver (pair_calls R.Stream.contents
-        R.Stream.remaining)) words.now (Chk cap.now) range.now (O.contents out.old)
-        (O.contents out.new)) }
-    ensures err { IfErr result (λ failure. UnlessWriter failure (IsBegunOf (IsCarriedOver
-        (pair_calls R.Stream.contents R.Stream.remaining)) words.now range.now
-        (O.contents out.old) (O.contents out.new) (Chk cap.now))) }
+    ensures ok { OnOk result (IsGotOf (grid_calls R.Stream.contents R.Stream.remaining) words.now
+        (Chk cap.now) range.now (O.contents out.old) (O.contents out.new)) }
+    ensures err { IfErr result (λ failure. UnlessWriter failure (IsBegunOf (grid_calls
+        R.Stream.contents R.Stream.remaining) words.now range.now (O.contents out.old)
+        (O.contents out.new) (Chk cap.now))) }
 {
     is_grid(rt, words.grid)?;
     let standing = standing_servers(rt, words.grid)?;

@@ -5,8 +5,7 @@ ghost use Rattle.std.specs.Prelude.{◌≡◌, ◌≤◌, ◌<◌, IfErr, IfOk, 
 ghost use Rattle.std.specs.List.{IsDistinct};
 ghost use Rattle.carried_operations.specs.declared.downloads.CutShort.TheVariants as cuts;
 ghost use Rattle.download_core.specs.Moves.{Begins};
-ghost use Rattle.socket_links.specs.Ends.{pair_calls};
-ghost use Rattle.socket_links.specs.Links.{IsCarriedOver};
+ghost use Rattle.grid_servers.specs.Grids.{grid_calls};
 ghost use Rattle.grid_telling.specs.declared.outcome.Failure.TheVariants as failures;
 ghost use Rattle.grid_gets.specs.Gets.{AcceptsOnly, UnlessWriter};
 ghost use Rattle.grid_gets.specs.Spans.{EndsWith, Leads, StaysBlock, Stops, reached_by};
@@ -54,11 +53,10 @@ where
     R: Files + Net + AllocGlobal + Clone + Drop,
 {
     ghost use Rattle.std.specs.Prelude.{option_map};
-    ghost use Rattle.socket_links.specs.declared.ends.SocketPair.{SocketPair};
-    ghost use Rattle.socket_links.specs.declared.link.GridLink.{GridLink};
+    ghost use Rattle.grid_servers.specs.Grids.{FolderGridState};
     ghost use Rattle.grid_gets.specs.Spans.{Spanning};
 
-    ghost Value = { Spanning (GridLink (SocketPair R.Stream)) };
+    ghost Value = { Spanning (FolderGridState R.Stream) };
 
     ghost view = { λ s. record {
       session = s.session;
@@ -104,12 +102,12 @@ where
         E: Write + IsTerminal,
         requires distinct { IsDistinct nat_eq servers.now }
         requires ordered { range.now.from ≤ range.now.to }
-        ensures ok { OnOk result (Leads (IsCarriedOver (pair_calls R.Stream.contents
-            R.Stream.remaining)) cap.now servers.now self.old range.now.from (O.contents out.old)
-            self.new range.now.to (O.contents out.new)) }
-        ensures err { IfErr result (λ failure. UnlessWriter failure (Stops (IsCarriedOver
-            (pair_calls R.Stream.contents R.Stream.remaining)) cap.now servers.now self.old
-            range.now.from range.now.to (O.contents out.old) (O.contents out.new))) }
+        ensures ok { OnOk result (Leads (grid_calls R.Stream.contents R.Stream.remaining) cap.now
+            servers.now self.old range.now.from (O.contents out.old) self.new range.now.to
+            (O.contents out.new)) }
+        ensures err { IfErr result (λ failure. UnlessWriter failure (Stops (grid_calls
+            R.Stream.contents R.Stream.remaining) cap.now servers.now self.old range.now.from
+            range.now.to (O.contents out.old) (O.contents out.new))) }
     {
         let mut from = range.from;
         'spans: while from < range.to {
@@ -136,11 +134,10 @@ where
         E: Write + IsTerminal,
         requires distinct { IsDistinct nat_eq servers.now }
         requires ordered { from ≤ to }
-        ensures ok { OnOk result (Leads (IsCarriedOver (pair_calls R.Stream.contents
-            R.Stream.remaining)) cap.now servers.now self.old from (O.contents out.old) self.new to
-            (O.contents out.new)) }
-        ensures err { IfErr result (λ failure. UnlessWriter failure (Stops (IsCarriedOver
-            (pair_calls R.Stream.contents R.Stream.remaining)) cap.now servers.now self.old from to
+        ensures ok { OnOk result (Leads (grid_calls R.Stream.contents R.Stream.remaining) cap.now
+            servers.now self.old from (O.contents out.old) self.new to (O.contents out.new)) }
+        ensures err { IfErr result (λ failure. UnlessWriter failure (Stops (grid_calls
+            R.Stream.contents R.Stream.remaining) cap.now servers.now self.old from to
             (O.contents out.old) (O.contents out.new))) }
     {
         let trusted = self.suspects.without(servers)?;
@@ -167,11 +164,10 @@ where
         E: Write + IsTerminal,
         requires distinct { IsDistinct nat_eq servers.now }
         requires ordered { from ≤ to }
-        ensures ok { OnOk result (Leads (IsCarriedOver (pair_calls R.Stream.contents
-            R.Stream.remaining)) cap.now servers.now self.old from (O.contents out.old) self.new to
-            (O.contents out.new)) }
-        ensures err { IfErr result (λ failure. UnlessWriter failure (Stops (IsCarriedOver
-            (pair_calls R.Stream.contents R.Stream.remaining)) cap.now servers.now self.old from to
+        ensures ok { OnOk result (Leads (grid_calls R.Stream.contents R.Stream.remaining) cap.now
+            servers.now self.old from (O.contents out.old) self.new to (O.contents out.new)) }
+        ensures err { IfErr result (λ failure. UnlessWriter failure (Stops (grid_calls
+            R.Stream.contents R.Stream.remaining) cap.now servers.now self.old from to
             (O.contents out.old) (O.contents out.new))) }
     {
         match self.try_span(servers, cap, from, to, out, progress)? {
@@ -195,12 +191,12 @@ where
         E: Write + IsTerminal,
         requires distinct { IsDistinct nat_eq servers.now }
         requires ordered { from ≤ to }
-        ensures ok { IfOk result (λ tried. Leads (IsCarriedOver (pair_calls R.Stream.contents
-            R.Stream.remaining)) cap.now servers.now self.old from (O.contents out.old) self.new
-            (reached_by tried to) (O.contents out.new)) }
+        ensures ok { IfOk result (λ tried. Leads (grid_calls R.Stream.contents R.Stream.remaining)
+            cap.now servers.now self.old from (O.contents out.old) self.new (reached_by tried to)
+            (O.contents out.new)) }
         ensures within { IfOk result (λ tried. reached_by tried to ≤ to) }
-        ensures err { IfErr result (λ failure. UnlessWriter failure (Stops (IsCarriedOver
-            (pair_calls R.Stream.contents R.Stream.remaining)) cap.now servers.now self.old from to
+        ensures err { IfErr result (λ failure. UnlessWriter failure (Stops (grid_calls
+            R.Stream.contents R.Stream.remaining) cap.now servers.now self.old from to
             (O.contents out.old) (O.contents out.new))) }
     {
         let session = self.session;
@@ -208,7 +204,7 @@ where
         let now = self.nodes.clock();
         let download = begin_download(self.alloc, cap, from, to, servers, session, now)?;
         let mut watch = Watching::new(&mut *progress);
-        let carried = carry_download(&mut self.nodes, download, from, out, &mut watch);
+        let carried = carry_download(self.alloc, &mut self.nodes, download, from, out, &mut watch);
         self.conclude(servers, &carried, progress)
     }
 
