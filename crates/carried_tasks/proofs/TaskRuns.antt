@@ -2,12 +2,11 @@
 use Rattle.std.proofs.Common.{◌≡◌, ℕ, List, Option, Some, None, Result, Ok, Err, refl, sym, subst, ap, ◌∙◌}
 use Rattle.wire.specs.declared.message.Message.{Message}
 use Rattle.request_record.specs.Follow.{IsSaid, Nothing, Said}
-use Rattle.share_store.specs.Calls.{Calls}
 use Rattle.upload_core.specs.Calls.{upload_calls}
 use Rattle.download_core.specs.Calls.{download_calls}
 use Rattle.checker.specs.Calls.{check_calls}
-use Rattle.local_grid.specs.Nodes.{Carries}
-use Rattle.local_grid.specs.Turns.{Finishes, GridState, LoopState}
+use Rattle.operation_loop.specs.Outside.{OutsideCalls}
+use Rattle.operation_loop.specs.Turns.{Finishes, LoopState}
 use Rattle.carried_operations.proofs.Runs.{IsLaw, IsWithin, course_goes, follows_both, follows_wider}
 use Rattle.world_operations.specs.declared.task.Task.{Task}
 use Rattle.world_operations.specs.declared.task.Task.TheVariants.{Uploading, Downloading, Checking, Gone}
@@ -79,11 +78,11 @@ tasks_go_on = record {
   ticks = λ old now new t. ticked now old new t;
 }
 
-pub carried_as : {S L : Type 0} (calls : Calls S) (carries : Carries L) (most : ℕ) (first was ended is : Task) (old new : GridState S L) → was ≡ first → ended ≡ is
-    → Finishes task_calls calls carries most (record { operation = was; grid = old }) (record { operation = is; grid = new }) → IsCarried calls carries first old ended new
-carried_as {S = S} {L = L} calls carries most first was ended is old new same last f =
-    let first_state : LoopState Task S L = record { operation = was; grid = old } in
-    let last_state : LoopState Task S L = record { operation = is; grid = new } in
-    subst (λ (u : Task). IsCarried calls carries first old u new) (sym last)
-    (subst (λ (u : Task). IsCarried calls carries u old is new) same
-    (record { states = f.2.0; turns = f.2.2; ends = f.3; goes = course_goes task_calls GoesOn tasks_go_on calls carries (requests_of was).session first_state last_state f.2.0 refl f.2.2 }))
+pub carried_as : {G : Type 0} (calls : OutsideCalls G) (most : ℕ) (first was ended is : Task) (old new : G) → was ≡ first → ended ≡ is
+    → Finishes task_calls calls most (record { operation = was; outside = old }) (record { operation = is; outside = new }) → IsCarried calls first old ended new
+carried_as {G = G} calls most first was ended is old new same last f =
+    let first_state : LoopState Task G = record { operation = was; outside = old } in
+    let last_state : LoopState Task G = record { operation = is; outside = new } in
+    subst (λ (u : Task). IsCarried calls first old u new) (sym last)
+    (subst (λ (u : Task). IsCarried calls u old is new) same
+    (record { states = f.2.0; turns = f.2.2; ends = f.3; goes = course_goes task_calls GoesOn tasks_go_on calls (requests_of was).session first_state last_state f.2.0 refl f.2.2 }))
