@@ -19,7 +19,7 @@ use wire::message::{Message, NodeId, ShareId};
 
 // Nobody looks on.
 #[derive(Drop)]
-struct Nobody;
+pub(crate) struct Nobody;
 
 impl Watch for Nobody {
     fn asked(&mut self, _server: NodeId, _message: &Message) {}
@@ -28,7 +28,7 @@ impl Watch for Nobody {
 }
 
 // Ten servers in memory, with links in memory.
-fn ten_nodes(alloc: Global) -> Option<LocalGrid<MemoryStore, MemoryLink>> {
+pub(crate) fn ten_nodes(alloc: Global) -> Option<LocalGrid<MemoryStore, MemoryLink>> {
     let mut nodes = Vec::with_capacity(alloc, 10).ok()?;
     for _ in 0..10 {
         let server = Server::start(alloc, MemoryStore::new(alloc), 1_000_000, false);
@@ -70,7 +70,7 @@ fn all_hold(
 }
 
 // Do ten servers hold ten shares of the file as the upload says?
-fn ten_hold(
+pub(crate) fn ten_hold(
     alloc: Global,
     nodes: &LocalGrid<MemoryStore, MemoryLink>,
     cap: &VerifyCap,

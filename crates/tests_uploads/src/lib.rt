@@ -3,6 +3,8 @@
 #![tactic(auto)]
 
 #[cfg(test)]
+mod carried_tests;
+#[cfg(test)]
 mod courses;
 #[cfg(test)]
 mod kept_tests;
