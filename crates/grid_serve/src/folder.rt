@@ -1,7 +1,6 @@
 //! The folder that is served.
 
 use crate::fault::ServeFault;
-use crate::locks::Locks;
 use crate::marking::{found_mark, mark_folder, refuse_other};
 use counted_store::CountedStore;
 use grid_faults::{Fault, told_path};
@@ -13,7 +12,7 @@ use std::io::ErrorKind;
 use std::random::RandomSource;
 use std::rt::Files;
 use std::{fs, io};
-use user_files::at_path;
+use user_files::{Locks, at_path};
 
 /// What is served, where and how.
 #[derive(Clone, Copy)]

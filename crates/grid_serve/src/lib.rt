@@ -5,7 +5,6 @@
 mod fault;
 mod folder;
 mod listening;
-mod locks;
 mod marking;
 mod served;
 mod telling;
@@ -13,7 +12,7 @@ mod telling;
 pub use fault::ServeFault;
 pub use folder::Serve;
 pub use grid_serving::News;
-pub use locks::Locks;
 pub use served::{ServedFolder, serve};
 pub use share_folders::folder::Durability;
 pub use telling::news_line;
+pub use user_files::Locks;

@@ -1,7 +1,6 @@
 //! The address at which a folder is served.
 
 use crate::fault::ServeFault;
-use crate::locks::Locks;
 use connections::{Address, AddressError, Socket};
 use greetings::Greeting;
 use grid_faults::{Fault, told_path};
@@ -14,7 +13,7 @@ use std::io::{self, ErrorKind};
 use std::net::Net;
 use std::os::unix::fs::FileTypeExt;
 use std::rt::{Clock, Files};
-use user_files::at_path;
+use user_files::{Locks, at_path};
 
 /// The address that a text spells. `BadAddress` where it spells none, and `NotLocal` where other
 /// machines may reach it and are not to.

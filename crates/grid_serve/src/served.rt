@@ -3,7 +3,6 @@
 use crate::fault::ServeFault;
 use crate::folder::{Serve, lock_folder, mark_to_have, open_server};
 use crate::listening::{claim_address, listen, read_address};
-use crate::locks::Locks;
 use crate::marking::mark_of_word;
 use crate::telling::news_line;
 use connections::{Address, Listener};
@@ -19,6 +18,7 @@ use std::net::Net;
 use std::random::RandomSource;
 use std::rt::{Clock, Files};
 use std::time::Duration;
+use user_files::Locks;
 
 // The longest wait of a turn, in milliseconds: time goes on for clients that are still.
 const REST: u64 = 1000;

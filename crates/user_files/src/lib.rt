@@ -6,6 +6,7 @@
 
 mod files;
 mod inputs;
+mod locks;
 mod names;
 mod paths;
 mod pieces;
@@ -14,5 +15,6 @@ mod spooling;
 
 pub use files::{at_path, if_there, read_at_most};
 pub use inputs::{Input, open_input};
+pub use locks::Locks;
 pub use paths::{folder_before, last_name};
 pub use publishing::{NewFile, OWNER_ONLY, SHARED, publish, replace, sync_folder};
