@@ -10,8 +10,9 @@ use grid_faults::{Fault, is_memory, server_name};
 use share_folders::disk::{Durability, make_folder};
 use share_folders::folder::Purpose;
 use std::alloc::{AllocError, Global};
-use std::fs::OpenOptions;
+use std::fs::{Metadata, OpenOptions};
 use std::io::{ErrorKind, Write};
+use std::os::unix::fs::FileTypeExt;
 use std::rt::Files;
 use std::{fs, io};
 use user_files::at_path;
@@ -69,6 +70,12 @@ pub fn server_folder(alloc: Global, grid: &str, server: NodeId) -> Result<String
 {
     let name = server_name(alloc, server)?;
     format!(in alloc; "{grid}/{name}")
+}
+
+/// Whether what stands under a server's name is for one that runs elsewhere: a socket that leads to
+/// it, or a file that has its address.
+pub fn is_elsewhere(found: &Metadata) -> bool {
+    found.is_file() || found.file_type().is_socket()
 }
 
 // The name of the file that is made to try a folder. No share has it.

@@ -7,7 +7,9 @@ ghost use Rattle.grid_marks.specs.Servers.{IsAlike, IsPassedOver};
 use crate::folders::server_folder;
 use crate::init::{PART, claim, replace_part};
 use crate::mark::{Kind, MAX_SERVERS, Mark};
-use crate::marking::{has_own_mark, mark_server, note_folder, note_seen, standing_folder};
+use crate::marking::{
+    has_own_mark, mark_server, note_folder, note_seen, refuse_other_mark, standing_folder,
+};
 use crate::marks::{MARK, known_mark, mark_path};
 use disks::error::DiskError;
 use disks::moving::{Unmoved, move_finished};
@@ -157,7 +159,7 @@ where
         if let Some(folder) = standing_folder(rt, grid, server)? {
             note_folder(alloc, &mut folders, &folder, server)?;
         }
-        has_own_mark(rt, grid, server, new)?;
+        refuse_other_mark(rt, grid, server, new)?;
     }
     Ok(())
 }

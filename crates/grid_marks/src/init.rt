@@ -10,7 +10,7 @@ ghost use Rattle.std.specs.Prelude.{◌≡◌, ◌↔◌, ◌<◌, length, IfErr
 use crate::folders::{can_be_grid, make_grid};
 use crate::mark::{Identity, Kind, Mark, identity_of};
 use crate::marking::{
-    Folders, has_own_mark, mark_file, mark_server, note_folder, publish_mark, standing_folder,
+    Folders, mark_file, mark_server, note_folder, publish_mark, refuse_other_mark, standing_folder,
 };
 use crate::marks::{Found, find_mark, mark_path};
 use grid_faults::Fault;
@@ -37,7 +37,8 @@ where
 }
 
 /// Has a grid know that it has so many servers. Its folder and theirs are made where they are not
-/// there, and keep what they hold; the marks are on the disk when this ends.
+/// there, and keep what they hold; the marks are on the disk when this ends. A server that runs
+/// elsewhere, by a socket or a file under its name, is counted, and has no mark from here.
 ///
 /// `SameFolder` where the folders of two servers are one, and `OtherMark` where one has a mark
 /// already, which is not that of an earlier call that came to no end. What can be found before
@@ -111,7 +112,7 @@ where
         }
     }
     for server in 0..known.number {
-        has_own_mark(rt, grid, server, known)?;
+        refuse_other_mark(rt, grid, server, known)?;
     }
     Ok(())
 }

@@ -15,7 +15,7 @@ mod marking;
 mod marks;
 
 pub use adopting::adopt_grid;
-pub use folders::{can_be_grid, folder_fault, is_grid, make_grid, server_folder};
+pub use folders::{can_be_grid, folder_fault, is_elsewhere, is_grid, make_grid, server_folder};
 pub use growing::{add_servers, replace_server};
 pub use init::{can_be_marked, mark_grid};
 pub use mark::{Identity, Kind, MAX_SERVERS, Mark, identity_of};

@@ -3,7 +3,7 @@
 ghost use Rattle.std.specs.Prelude.{IfOk};
 ghost use Rattle.grid_marks.specs.Servers.{IsOwn};
 
-use crate::folders::server_folder;
+use crate::folders::{is_elsewhere, server_folder};
 use crate::mark::{Kind, Mark};
 use crate::marks::{Likeness, find_mark, likeness_of, mark_path, server_mark};
 use grid_faults::{Fault, server_name, told_path};
@@ -68,8 +68,9 @@ where
     Ok(())
 }
 
-/// A server's folder, where it stands already. What stands there and is no folder is refused, and
-/// so is a link to nothing, as to a disk that is not mounted.
+/// A server's folder, where it stands already; one that runs elsewhere has none here. What stands
+/// there and is for no server is refused, and so is a link to nothing, as to a disk that is not
+/// mounted.
 pub(crate) fn standing_folder<R>(
     rt: &R,
     grid: &str,
@@ -81,6 +82,7 @@ where
     let folder = server_folder(rt.alloc(), grid, server)?;
     let found = match fs::metadata(rt, folder.as_str()) {
         Ok(found) if found.is_dir() => Ok(Some(found)),
+        Ok(found) if is_elsewhere(&found) => Ok(None),
         Ok(_) => Err(io::Error::from(ErrorKind::NotADirectory)),
         Err(error) if error.kind() != ErrorKind::NotFound => Err(error),
         Err(error) => match fs::symlink_metadata(rt, folder.as_str()) {
@@ -89,6 +91,34 @@ where
         },
     };
     at_path(rt.alloc(), found, folder.as_str())
+}
+
+// Whether a server of a grid runs elsewhere.
+fn runs_elsewhere<R>(rt: &R, grid: &str, server: NodeId) -> Result<bool, Fault>
+where
+    R: Files + AllocGlobal,
+{
+    let folder = server_folder(rt.alloc(), grid, server)?;
+    match if_there(fs::metadata(rt, folder.as_str()))? {
+        Some(found) => Ok(is_elsewhere(&found)),
+        None => Ok(false),
+    }
+}
+
+/// Refuses a server's folder that has another mark. One that runs elsewhere has none here.
+pub(crate) fn refuse_other_mark<R>(
+    rt: &R,
+    grid: &str,
+    server: NodeId,
+    known: &Mark,
+) -> Result<(), Fault>
+where
+    R: Files + AllocGlobal,
+{
+    if !runs_elsewhere(rt, grid, server)? {
+        has_own_mark(rt, grid, server, known)?;
+    }
+    Ok(())
 }
 
 /// Whether a server's folder has its mark already. Another mark is refused.
@@ -134,11 +164,15 @@ fn same_folder(alloc: Global, first: NodeId, second: NodeId) -> Result<Fault, Al
     Ok(Fault::SameFolder(first, server_name(alloc, second)?))
 }
 
-/// Makes a server's folder where it is not there, and marks it. The mark is on the disk then.
+/// Makes a server's folder where it is not there, and marks it. The mark is on the disk then. One
+/// that runs elsewhere has its mark from whoever serves it.
 pub(crate) fn mark_server<R>(rt: &R, grid: &str, server: NodeId, known: &Mark) -> Result<(), Fault>
 where
     R: Files + RandomSource + AllocGlobal,
 {
+    if runs_elsewhere(rt, grid, server)? {
+        return Ok(());
+    }
     let alloc = rt.alloc();
     let folder = server_folder(alloc, grid, server)?;
     let made = make_folder(rt, folder.as_str(), Durability::Synced);
