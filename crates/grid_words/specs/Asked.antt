@@ -21,6 +21,7 @@ use Rattle.grid_words.specs.declared.words.Request.TheVariants as requests
 use Rattle.grid_words.specs.declared.words.ScrubWords.{ScrubWords}
 use Rattle.grid_words.specs.declared.words.SecretWords.{SecretWords}
 use Rattle.grid_words.specs.declared.words.SecretWords.TheVariants as secrets
+use Rattle.grid_words.specs.declared.words.ServeWords.{ServeWords}
 
 -- the values that a command's own words and its defaults gave
 abbrev pub rows_in : ArgMatches → List Row
@@ -141,10 +142,19 @@ pub record AsksScrub (rows : List Row) (words : ScrubWords) : Type 0 where
   pub known : IsFlag (one_of (codes "known") rows) words.known
   pub verbose : IsFlag (one_of (codes "verbose") rows) words.verbose
 
+pub record AsksServe (rows : List Row) (words : ServeWords) : Type 0 where
+  pub folder : words.folder.now ≡ text_under (codes "FOLDER") rows
+  pub listen : words.listen.now ≡ text_under (codes "listen") rows
+  pub anyone : IsFlag (one_of (codes "anyone") rows) words.anyone
+  pub room : words.room ≡ number_under (codes "room") rows
+  pub mark : option_map (λ line. line.now) words.mark ≡ first_of (codes "mark") rows
+  pub no_sync : IsFlag (one_of (codes "no-sync") rows) words.no_sync
+  pub verbose : IsFlag (one_of (codes "verbose") rows) words.verbose
+
 -- the names of the commands that are told apart from `cap`
 abbrev pub other_names : List Text
 other_names = codes "init" ∷ codes "put" ∷ codes "get" ∷ codes "check" ∷ codes "repair"
-    ∷ codes "scrub" ∷ codes "world" ∷ []
+    ∷ codes "scrub" ∷ codes "serve" ∷ codes "world" ∷ []
 
 -- the command of this name, with these values of its arguments, asks for this
 abbrev pub Asks : Text → List Row → Request → Type 0
@@ -154,6 +164,7 @@ Asks name rows (requests.Get words) = (name ≡ codes "get") × AsksGet rows wor
 Asks name rows (requests.Check words) = (name ≡ codes "check") × AsksCheck rows words
 Asks name rows (requests.Repair words) = (name ≡ codes "repair") × AsksRepair rows words
 Asks name rows (requests.Scrub words) = (name ≡ codes "scrub") × AsksScrub rows words
+Asks name rows (requests.Serve words) = (name ≡ codes "serve") × AsksServe rows words
 Asks name rows (requests.World path) = (name ≡ codes "world")
     × (path.now ≡ text_under (codes "SCRIPT") rows)
 Asks name rows (requests.Describe cap) = All (λ other. name ≢ other) other_names
@@ -172,6 +183,7 @@ asks_notes (requests.Get words) = words.verbose
 asks_notes (requests.Check words) = words.verbose
 asks_notes (requests.Repair words) = words.verbose
 asks_notes (requests.Scrub words) = words.verbose
+asks_notes (requests.Serve words) = words.verbose
 asks_notes (requests.World path) = false
 asks_notes (requests.Describe cap) = false
 

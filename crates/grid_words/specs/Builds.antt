@@ -6,7 +6,7 @@ use Rattle.clap.specs.declared.builder.arg.Arg.{Arg}
 use Rattle.clap.specs.declared.builder.command.Command.{Command}
 use Rattle.clap.specs.declared.builder.command.Command.TheViews.{out-Command as fields_of}
 use Rattle.grid_words.specs.CommandLine.{cap_shape, check_shape, get_shape, init_shape, put_shape}
-use Rattle.grid_words.specs.CommandLine.{repair_shape, scrub_shape, world_shape}
+use Rattle.grid_words.specs.CommandLine.{repair_shape, scrub_shape, serve_shape, world_shape}
 use Rattle.grid_words.specs.declared.commands.Name.{Name}
 use Rattle.grid_words.specs.declared.commands.Name.TheVariants as names
 
@@ -36,12 +36,13 @@ shape_named names.Get = get_shape
 shape_named names.Check = check_shape
 shape_named names.Repair = repair_shape
 shape_named names.Scrub = scrub_shape
+shape_named names.Serve = serve_shape
 shape_named names.World = world_shape
 shape_named names.Cap = cap_shape
 
 abbrev pub all_names : List Name
 all_names = names.Init ∷ names.Put ∷ names.Get ∷ names.Check ∷ names.Repair ∷ names.Scrub
-    ∷ names.World ∷ names.Cap ∷ []
+    ∷ names.Serve ∷ names.World ∷ names.Cap ∷ []
 
 -- a command line with the commands of these names behind its own
 abbrev pub with_named : App → List Name → App

@@ -30,6 +30,10 @@ number_or name default = record (number name) { defaults = default ∷ [] }
 abbrev pub grid_folder : Rule
 grid_folder = record (option (codes "grid")) { required = true }
 
+-- where a folder is served
+abbrev pub listen : Rule
+listen = record (option (codes "listen")) { required = true }
+
 abbrev pub happy : Rule
 happy = number_or (codes "happy") (codes "7")
 
@@ -136,6 +140,16 @@ scrub_rules = grid_folder
     ∷ verbose
     ∷ []
 
+abbrev pub serve_rules : List Rule
+serve_rules = operand (codes "FOLDER")
+    ∷ listen
+    ∷ flag (codes "anyone")
+    ∷ number (codes "room")
+    ∷ option (codes "mark")
+    ∷ flag (codes "no-sync")
+    ∷ verbose
+    ∷ []
+
 -- a command of this name with these arguments
 abbrev pub shape : Text → List Rule → Shape
 shape name rules = record (new_shape name) { rules = rules }
@@ -157,6 +171,9 @@ repair_shape = shape (codes "repair") repair_rules
 
 abbrev pub scrub_shape : Shape
 scrub_shape = shape (codes "scrub") scrub_rules
+
+abbrev pub serve_shape : Shape
+serve_shape = shape (codes "serve") serve_rules
 
 abbrev pub world_shape : Shape
 world_shape = shape (codes "world") (operand (codes "SCRIPT") ∷ [])
@@ -180,5 +197,5 @@ abbrev pub grid_app : App
 grid_app = record {
   top = record grid_shape { is_leaf = false };
   subs = init_shape ∷ put_shape ∷ get_shape ∷ check_shape ∷ repair_shape ∷ scrub_shape
-      ∷ world_shape ∷ cap_shape ∷ [];
+      ∷ serve_shape ∷ world_shape ∷ cap_shape ∷ [];
 }

@@ -4,7 +4,7 @@ ghost use Rattle.std.specs.Prelude.{codes, IfOk};
 ghost use Rattle.clap.specs.Walk.{Rule};
 ghost use Rattle.grid_words.specs.Builds.{HasRule};
 ghost use Rattle.grid_words.specs.CommandLine.{add, excluding, files, files_from, flag};
-ghost use Rattle.grid_words.specs.CommandLine.{grid_folder, happy, number};
+ghost use Rattle.grid_words.specs.CommandLine.{grid_folder, happy, listen, number};
 ghost use Rattle.grid_words.specs.CommandLine.{number_or, operand, option, output, replace};
 ghost use Rattle.grid_words.specs.CommandLine.{secret_file, verbose};
 
@@ -306,6 +306,67 @@ pub(crate) fn known<'a>(alloc: Global) -> Arg<'a>
         alloc,
         "known",
         "Refuse a DIR that no `init` marked (also with GRID_KNOWN=1 in the environment)",
+    )
+}
+
+/// The folder that is served.
+pub(crate) fn served_folder<'a>(alloc: Global) -> Arg<'a>
+    ensures { HasRule (operand (codes "FOLDER")) result }
+{
+    operand(
+        alloc,
+        "FOLDER",
+        "The folder of the server, which has to stand",
+    )
+}
+
+/// Where it is served.
+pub(crate) fn listen<'a>(alloc: Global) -> Arg<'a>
+    ensures { HasRule listen result }
+{
+    option(
+        alloc,
+        "listen",
+        "ADDRESS",
+        "unix:PATH, or an IP address with a port, as 127.0.0.1:7003",
+    )
+    .required(true)
+}
+
+/// Whether other machines may reach the address.
+pub(crate) fn anyone<'a>(alloc: Global) -> Arg<'a>
+    ensures { HasRule (flag (codes "anyone")) result }
+{
+    flag(
+        alloc,
+        "anyone",
+        "Let other machines reach the address. Whoever reaches it may read, write and fill the \
+folder, and what goes over the network is not encrypted but for the files themselves: use it in a \
+private network or a tunnel",
+    )
+}
+
+/// How many bytes of new shares are taken.
+pub(crate) fn room<'a>(alloc: Global) -> Arg<'a>
+    ensures { HasRule (number (codes "room")) result }
+{
+    number(
+        alloc,
+        "room",
+        "BYTES",
+        "Take at most so many bytes of new shares",
+    )
+}
+
+/// The mark of the folder.
+pub(crate) fn mark<'a>(alloc: Global) -> Arg<'a>
+    ensures { HasRule (option (codes "mark")) result }
+{
+    option(
+        alloc,
+        "mark",
+        "LINE",
+        "Mark the folder with this line, where it has no mark: grid LETTERS server NUMBER",
     )
 }
 

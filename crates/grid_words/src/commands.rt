@@ -6,13 +6,14 @@ ghost use Rattle.grid_words.specs.Builds.{HasShape, HaveRules, IsApp, shape_name
 ghost use Rattle.grid_words.specs.CommandLine.{bare_app, cap_shape, check_rules, check_shape};
 ghost use Rattle.grid_words.specs.CommandLine.{get_rules, get_shape, grid_app, init_rules};
 ghost use Rattle.grid_words.specs.CommandLine.{init_shape, put_rules, put_shape, repair_rules};
-ghost use Rattle.grid_words.specs.CommandLine.{repair_shape, scrub_rules, scrub_shape, shape};
-ghost use Rattle.grid_words.specs.CommandLine.{world_shape};
+ghost use Rattle.grid_words.specs.CommandLine.{repair_shape, scrub_rules, scrub_shape};
+ghost use Rattle.grid_words.specs.CommandLine.{serve_rules, serve_shape, shape, world_shape};
 
 use crate::arguments::{
-    add, adopt, files, files_from, files0_from, flag, grid_folder, happy, json, kept_secret, known,
-    max_segment, mend, needed, net, new_grid, new_servers, no_sync, number, operand, output,
-    read_cap, replace, secret, secret_file, servers, total, verbose, verify_cap,
+    add, adopt, anyone, files, files_from, files0_from, flag, grid_folder, happy, json,
+    kept_secret, known, listen, mark, max_segment, mend, needed, net, new_grid, new_servers,
+    no_sync, number, operand, output, read_cap, replace, room, secret, secret_file, served_folder,
+    servers, total, verbose, verify_cap,
 };
 use clap::{Arg, Command};
 use std::alloc::{AllocError, Global};
@@ -34,18 +35,20 @@ enum Name {
     Check,
     Repair,
     Scrub,
+    Serve,
     World,
     Cap,
 }
 
 // In the order in which the help tells them.
-const NAMES: [Name; 8] = [
+const NAMES: [Name; 9] = [
     Name::Init,
     Name::Put,
     Name::Get,
     Name::Check,
     Name::Repair,
     Name::Scrub,
+    Name::Serve,
     Name::World,
     Name::Cap,
 ];
@@ -89,6 +92,7 @@ fn command_of<'a>(alloc: Global, name: Name) -> Result<Command<'a>, AllocError>
         Name::Check => check_command(alloc),
         Name::Repair => repair_command(alloc),
         Name::Scrub => scrub_command(alloc),
+        Name::Serve => serve_command(alloc),
         Name::World => world_command(alloc),
         Name::Cap => cap_command(alloc),
     }
@@ -291,6 +295,37 @@ fn scrub_arguments<'a>(alloc: Global) -> Result<Vec<Arg<'a>>, AllocError>
         json(alloc),
         known(alloc),
         verbose(alloc),
+    ]?)
+}
+
+fn serve_command<'a>(alloc: Global) -> Result<Command<'a>, AllocError>
+    ensures { IfOk result (HasShape serve_shape) }
+{
+    command(
+        alloc,
+        "serve",
+        "Serves a folder as one server of a grid, until it is ended. It is for any number of \
+clients.",
+        serve_arguments(alloc)?,
+    )
+}
+
+fn serve_arguments<'a>(alloc: Global) -> Result<Vec<Arg<'a>>, AllocError>
+    ensures { IfOk result (λ arguments. HaveRules serve_rules arguments.items) }
+{
+    Ok(vec![in alloc;
+        served_folder(alloc),
+        listen(alloc),
+        anyone(alloc),
+        room(alloc),
+        mark(alloc),
+        no_sync(alloc),
+        flag(
+            alloc,
+            "verbose",
+            "Tell who comes and who goes, on standard error",
+        )
+        .short('v'),
     ]?)
 }
 

@@ -9,5 +9,5 @@ mod words;
 pub use commands::VERSION;
 pub use words::{
     CheckWords, GetWords, InitWords, ListWords, Marking, PutWords, RepairWords, Request,
-    ScrubWords, SecretWords, read_words,
+    ScrubWords, SecretWords, ServeWords, read_words,
 };

@@ -3,9 +3,9 @@
 ghost use Rattle.std.specs.Prelude.{◌≡◌, IfErr, IfOk, map, option_map, true};
 ghost use Rattle.clap.specs.Words.{first_of, kind_of, one_of, subcommand_of, takes};
 ghost use Rattle.grid_words.specs.Asked.{Asks, AsksCheck, AsksGet, AsksInit, AsksPut, AsksRepair};
-ghost use Rattle.grid_words.specs.Asked.{AsksScrub, IsAsked, IsFlag, IsList, IsMarking, IsSecret};
-ghost use Rattle.grid_words.specs.Asked.{asks_notes, number_under, rows_in, text_under};
-ghost use Rattle.grid_words.specs.Asked.{texts_under, wants_known};
+ghost use Rattle.grid_words.specs.Asked.{AsksScrub, AsksServe, IsAsked, IsFlag, IsList};
+ghost use Rattle.grid_words.specs.Asked.{IsMarking, IsSecret, asks_notes, number_under, rows_in};
+ghost use Rattle.grid_words.specs.Asked.{text_under, texts_under, wants_known};
 ghost use Rattle.grid_words.specs.CommandLine.{grid_app};
 
 use crate::commands::grid_command;
@@ -23,6 +23,7 @@ pub enum Request<'a> {
     Check(CheckWords<'a>),
     Repair(RepairWords<'a>),
     Scrub(ScrubWords<'a>),
+    Serve(ServeWords<'a>),
     /// `grid world SCRIPT`, with the path of the script.
     World(&'a str),
     /// `grid cap CAP`, with the cap's text.
@@ -41,6 +42,7 @@ impl<'a> Request<'a> {
             Request::Check(words) => words.verbose,
             Request::Repair(words) => words.verbose,
             Request::Scrub(words) => words.verbose,
+            Request::Serve(words) => words.verbose,
             Request::World(_) | Request::Describe(_) => false,
         }
     }
@@ -55,7 +57,8 @@ impl<'a> Request<'a> {
             Request::Check(words) => words.known,
             Request::Repair(words) => words.known,
             Request::Scrub(words) => words.known,
-            Request::Init(_) | Request::World(_) | Request::Describe(_) => false,
+            Request::Init(_) | Request::Serve(_) => false,
+            Request::World(_) | Request::Describe(_) => false,
         }
     }
 }
@@ -177,6 +180,19 @@ pub struct ScrubWords<'a> {
     pub verbose: bool,
 }
 
+/// `grid serve FOLDER --listen ADDRESS ..`: a text and a number as the user wrote them.
+#[derive(Drop)]
+pub struct ServeWords<'a> {
+    pub folder: &'a str,
+    pub listen: &'a str,
+    pub anyone: bool,
+    pub room: Option<u64>,
+    /// The line of the mark that the folder has or gets.
+    pub mark: Option<&'a str>,
+    pub no_sync: bool,
+    pub verbose: bool,
+}
+
 /// Reads the words of a command line, of which the first is the program's name. An `Err` holds
 /// `clap`'s text, of help and of the version too. Words that `clap` takes fail only for want of
 /// memory.
@@ -209,6 +225,7 @@ fn request_of<'a>(
         "check" => Request::Check(check_words(found)),
         "repair" => Request::Repair(repair_words(found)),
         "scrub" => Request::Scrub(scrub_words(found)),
+        "serve" => Request::Serve(serve_words(found)),
         "world" => Request::World(text_of(found, "SCRIPT")),
         // There is no other.
         _ => Request::Describe(text_of(found, "CAP")),
@@ -343,6 +360,20 @@ fn scrub_words<'a>(found: &ArgMatches<'a>) -> ScrubWords<'a>
         remove_damaged: is_set(found, "remove-damaged"),
         json: is_set(found, "json"),
         known: is_set(found, "known"),
+        verbose: is_set(found, "verbose"),
+    }
+}
+
+fn serve_words<'a>(found: &ArgMatches<'a>) -> ServeWords<'a>
+    ensures { AsksServe (rows_in found.now) result }
+{
+    ServeWords {
+        folder: text_of(found, "FOLDER"),
+        listen: text_of(found, "listen"),
+        anyone: is_set(found, "anyone"),
+        room: number_of(found, "room"),
+        mark: found_text(found, "mark"),
+        no_sync: is_set(found, "no-sync"),
         verbose: is_set(found, "verbose"),
     }
 }

@@ -14,6 +14,6 @@ loop-name-preserved c =
 
 pub returns : goal.returns
 returns c =
-    let end : c.loop-name.name-index ≡ 8 = omega (arith, c.loop-name-test.false, c.loop-name.auto.name-index-end) in
+    let end : c.loop-name.name-index ≡ 9 = omega (arith, c.loop-name-test.false, c.loop-name.auto.name-index-end) in
     let all : with_named bare_app (take c.loop-name.name-index all_names) ≡ grid_app = ap (λ i. with_named bare_app (take i all_names)) end in
     subst (λ (a : App). IsApp a c.loop-name.command) all c.loop-name.invariant
