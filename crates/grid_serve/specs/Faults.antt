@@ -1,6 +1,6 @@
 -- The numbers and the exit statuses of the faults of serving.
-use Rattle.std.specs.Prelude.{ℕ}
-use Rattle.grid_faults.specs.Fault.{fault_number, fault_status}
+use Rattle.std.specs.Prelude.{ℕ, Bool, true, false}
+use Rattle.grid_faults.specs.Fault.{fault_number, fault_status, has_reason}
 use Rattle.grid_serve.specs.declared.fault.ServeFault.{ServeFault}
 use Rattle.grid_serve.specs.declared.fault.ServeFault.TheVariants.{Fault, BadAddress, NotLocal}
 use Rattle.grid_serve.specs.declared.fault.ServeFault.TheVariants.{InUse, Socket}
@@ -18,3 +18,9 @@ serve_status (Socket _ _) = 7
 serve_status (BadAddress _) = 3
 serve_status (NotLocal _) = 3
 serve_status (InUse _) = 7
+
+-- whether a line tells why the fault came
+abbrev pub serve_has_reason : ServeFault → Bool
+serve_has_reason (Fault fault) = has_reason fault
+serve_has_reason (Socket _ _) = true
+serve_has_reason _ = false

@@ -1,10 +1,10 @@
 //! Why a folder is not served, or is served no longer.
 
-ghost use Rattle.std.specs.Prelude.{◌≡◌};
+ghost use Rattle.std.specs.Prelude.{◌≡◌, IfOk, is_some};
 ghost use Rattle.std.specs.IoError.{error_kind};
-ghost use Rattle.grid_serve.specs.Faults.{serve_number, serve_status};
+ghost use Rattle.grid_serve.specs.Faults.{serve_has_reason, serve_number, serve_status};
 
-use grid_faults::{Fault, told_path};
+use grid_faults::{Fault, reason_line, told_path};
 use std::alloc::{AllocError, Global};
 use std::io::{self, ErrorKind};
 use thiserror::Error;
@@ -53,6 +53,19 @@ impl ServeFault {
             ServeFault::Fault(fault) => fault.status(),
             ServeFault::BadAddress(_) | ServeFault::NotLocal(_) => 3,
             ServeFault::InUse(_) | ServeFault::Socket(..) => 7,
+        }
+    }
+
+    /// The line that tells why the fault came, with its end. `None` for one that says all by itself.
+    pub fn reason_line(&self, alloc: Global) -> Result<Option<String>, AllocError>
+        ensures { IfOk result (λ line. is_some line ≡ serve_has_reason self.now) }
+    {
+        match self {
+            ServeFault::Fault(fault) => reason_line(alloc, fault),
+            ServeFault::Socket(address, error) => {
+                Ok(Some(format!(in alloc; "{address}: {error}\n")?))
+            }
+            _ => Ok(None),
         }
     }
 

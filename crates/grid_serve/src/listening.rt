@@ -50,7 +50,7 @@ fn in_use(alloc: Global, address: &str) -> ServeFault {
 }
 
 /// Makes sure that no other process listens at an address, or is about to. `InUse` where one does,
-/// and a fault of the file of a Unix socket where that is none.
+/// and a fault of the file of a Unix socket, or of its lock, where that is none.
 ///
 /// Of a Unix socket the lock is held of a file whose name is the socket's and `.lock`, and which
 /// stays; a socket is removed that a process left. A TCP address the system gives to one process
@@ -84,12 +84,24 @@ where
     }
 }
 
-// Takes the lock of a file, which is made where it is not there.
+// Takes the lock of a file, which is made where nothing stands. What is no file is refused: a pipe
+// would hold the program up, and a link leads elsewhere.
 fn lock_file<R: Files + Locks>(rt: &R, path: &str) -> io::Result<Option<R::Lock>> {
+    make_file(rt, path)?;
+    if fs::symlink_metadata(rt, path)?.is_file() {
+        return rt.try_lock(path);
+    }
+    Err(io::Error::from(ErrorKind::AlreadyExists))
+}
+
+// Makes an empty file where nothing stands.
+fn make_file<R: Files>(rt: &R, path: &str) -> io::Result<()> {
     let mut options = OpenOptions::new();
-    options.write(true).create(true);
-    options.open(rt, path)?;
-    rt.try_lock(path)
+    options.write(true).create_new(true);
+    match options.open(rt, path) {
+        Err(error) if error.kind() != ErrorKind::AlreadyExists => Err(error),
+        _ => Ok(()),
+    }
 }
 
 // Removes the socket at a path, where nobody listens there any more.

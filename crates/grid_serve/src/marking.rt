@@ -6,7 +6,7 @@ ghost use Rattle.grid_serve.specs.Marks.{IsServers};
 use crate::fault::ServeFault;
 use cap_text::CapError;
 use grid_faults::{Fault, told_path};
-use grid_marks::{Kind, Mark};
+use grid_marks::{Kind, MAX_SERVERS, Mark};
 use std::alloc::{AllocError, Global};
 use std::io::ErrorKind;
 use std::random::RandomSource;
@@ -29,12 +29,13 @@ pub(crate) fn mark_of_word(alloc: Global, word: &str) -> Result<Mark, ServeFault
     }
 }
 
-// The mark of a server that a text is.
+// The mark of a server that a text is. Servers have the numbers from 0 to 255.
 fn read_mark(alloc: Global, text: &[u8]) -> Result<Option<Mark>, ServeFault>
     ensures { IfOk result (λ read. IfSome read IsServers) }
 {
     match Mark::read(alloc, Kind::Server, text) {
-        Ok(read) => Ok(read),
+        Ok(Some(mark)) if mark.number < MAX_SERVERS => Ok(Some(mark)),
+        Ok(_) => Ok(None),
         Err(error) => Err(fault_of_cap(error)),
     }
 }
