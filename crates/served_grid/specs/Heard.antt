@@ -30,8 +30,12 @@ tries_after fault.NoFrame tries = 0
 
 -- the connection ended with a fault
 abbrev pub ended_with : {W : Type 0} → ConnectionFault → RemoteState W → RemoteState W
-ended_with fault r =
-    record r { connection = None; tries = tries_after fault r.tries; awaited = 0 }
+ended_with fault r = record r {
+  connection = None;
+  tries = tries_after fault r.tries;
+  awaited = 0;
+  fault = Some fault;
+}
 
 -- A message that came is awaited no longer.
 abbrev pub noted : {W : Type 0} → Came → RemoteState W → RemoteState W

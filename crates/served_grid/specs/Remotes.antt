@@ -11,18 +11,34 @@ use Rattle.connections.specs.declared.connection.Side.TheVariants.{Client}
 use Rattle.connections.specs.declared.fault.ConnectionFault.{ConnectionFault}
 
 -- The greeting that a server elsewhere is told, the connection to it where one stands, how often
--- one may still be made, how many messages await an answer, and at how many ticks in a row none
--- had come.
+-- one may still be made, how many messages await an answer, at how many ticks in a row none had
+-- come, and the fault with which the last connection to it ended, if it ended with one.
 pub record RemoteState (W : Type 0) : Type 0 where
   pub own : List ℕ
   pub connection : Option (ConnectionState W)
   pub tries : ℕ
   pub awaited : ℕ
   pub quiet : ℕ
+  pub fault : Option ConnectionFault
+
+-- it is told this greeting, and was not asked yet
+abbrev pub unasked : {W : Type 0} → List ℕ → RemoteState W
+unasked own = record {
+  own = own;
+  connection = None;
+  tries = 3;
+  awaited = 0;
+  quiet = 0;
+  fault = None;
+}
 
 -- nothing comes from it any more
 abbrev pub is_silent : {W : Type 0} → RemoteState W → Bool
 is_silent r = is_none r.connection && (r.tries == 0)
+
+-- no connection stands, though one was tried
+abbrev pub is_away : {W : Type 0} → RemoteState W → Bool
+is_away r = is_none r.connection && nat_lt r.tries 3
 
 -- something is awaited of it
 abbrev pub is_awaited : {W : Type 0} → RemoteState W → Bool
@@ -80,6 +96,7 @@ pub record Connects {W : Type 0} (old new : RemoteState W) : Type 0 where
   pub own : new.own ≡ old.own
   pub tries : new.tries ≡ old.tries - 1
   pub made : IsNew old.own new.connection
+  pub fault : new.fault ≡ old.fault
   pub spent : old.tries ≡ 0 → new ≡ old
 
 -- The connection is the one that stood, or one that is made where none stood.
@@ -124,7 +141,8 @@ patience (Some c) = if length c.greeting == 64 then 20 else 10
 
 -- no connection stands, and none will
 abbrev pub given_up : {W : Type 0} → RemoteState W → RemoteState W
-given_up r = record r { connection = None; tries = 0; awaited = 0; quiet = 0 }
+given_up r =
+    record r { connection = None; tries = 0; awaited = 0; quiet = 0; fault = None }
 
 -- A tick at which something is awaited: the last one at which it may be awaited ends it.
 abbrev pub waited : {W : Type 0} → RemoteState W → RemoteState W

@@ -3,8 +3,9 @@
 ghost use Rattle.std.specs.Prelude.{◌≡◌, ◌≤◌, [], None, IfErr, IfOk, OnOk, OnErr};
 ghost use Rattle.served_grid.specs.Heard.{Hears, HearsInVain, ended_with, messages_of, noted};
 ghost use Rattle.served_grid.specs.Remotes.{Connects, Gave, IsAsked, IsBroken, Reaches};
-ghost use Rattle.served_grid.specs.Remotes.{awaiting, given_up, is_awaited, is_silent, patience};
-ghost use Rattle.served_grid.specs.Remotes.{queued_over, ticked_remote, waiting_for};
+ghost use Rattle.served_grid.specs.Remotes.{awaiting, given_up, is_awaited, is_away, is_silent};
+ghost use Rattle.served_grid.specs.Remotes.{patience, queued_over, ticked_remote, unasked};
+ghost use Rattle.served_grid.specs.Remotes.{waiting_for};
 
 use crate::network::Network;
 use connections::{Connection, ConnectionFault, Heard, Room, Sent, Side, Wire};
@@ -49,6 +50,8 @@ pub struct RemoteServer<W: Wire> {
     tries: u8,
     awaited: u64,
     quiet: u64,
+    // That with which the last connection ended.
+    fault: Option<ConnectionFault>,
 }
 
 impl<W: Wire> Model for RemoteServer<W> {
@@ -63,6 +66,7 @@ impl<W: Wire> Model for RemoteServer<W> {
       tries = r.tries;
       awaited = r.awaited;
       quiet = r.quiet;
+      fault = r.fault;
     } };
 
     ghost invariant = { λ r. IfSome r.connection (IsClients W.calls r.own) };
@@ -71,13 +75,7 @@ impl<W: Wire> Model for RemoteServer<W> {
 impl<W: Wire + Drop> RemoteServer<W> {
     /// A server that was not asked yet, and is told this greeting.
     pub fn new(own: &Greeting) -> RemoteServer<W>
-        ensures { result ≡ record {
-          own = own.now;
-          connection = None;
-          tries = 3;
-          awaited = 0;
-          quiet = 0;
-        } }
+        ensures { result ≡ unasked own.now }
     {
         RemoteServer {
             own: *own,
@@ -85,6 +83,7 @@ impl<W: Wire + Drop> RemoteServer<W> {
             tries: MOST_TRIES,
             awaited: 0,
             quiet: 0,
+            fault: None,
         }
     }
 
@@ -93,6 +92,22 @@ impl<W: Wire + Drop> RemoteServer<W> {
         ensures { result ≡ is_silent self.now }
     {
         self.connection.is_none() && self.tries == 0
+    }
+
+    /// Does no connection to it stand, though one was tried? Nothing comes from it then, unless it
+    /// is reached when it is asked again.
+    pub fn is_away(&self) -> bool
+        ensures { result ≡ is_away self.now }
+    {
+        self.connection.is_none() && self.tries < MOST_TRIES
+    }
+
+    /// The fault with which the last connection to it ended. None where none ended with one, and of
+    /// a server that was given up since it did not answer.
+    pub fn fault(&self) -> Option<ConnectionFault>
+        ensures { result ≡ self.now.fault }
+    {
+        self.fault
     }
 
     /// How many bytes are still to be sent to it: at most 16,842,756, which is where nothing more
@@ -202,6 +217,7 @@ impl<W: Wire + Drop> RemoteServer<W> {
         self.tries = 0;
         self.awaited = 0;
         self.quiet = 0;
+        self.fault = None;
     }
 
     // At how many ticks in a row it may be waited for.
@@ -258,6 +274,7 @@ impl<W: Wire + Drop> RemoteServer<W> {
     {
         self.connection = None;
         self.awaited = 0;
+        self.fault = Some(fault);
         if matches!(
             fault,
             ConnectionFault::OtherGreeting | ConnectionFault::NoFrame

@@ -16,11 +16,19 @@ const MOST_EVENTS: usize = 256;
 /// The longest rest, in milliseconds.
 const REST: u64 = 200;
 
-/// The sockets by which servers elsewhere are reached, and the system's clock.
+/// The sockets by which servers elsewhere are reached, and the system's clock. Where no server has
+/// an address no call of the system is made, and its seconds stay 0.
 #[derive(Drop)]
 pub struct Sockets<R: Net + Clock> {
     rt: R,
     addresses: Vec<Option<Address>>,
+    // `None` where no server has an address
+    watch: Option<Watch>,
+}
+
+// What says when sockets are ready, and since when seconds are counted.
+#[derive(Drop)]
+struct Watch {
     poll: Poll,
     events: Events,
     start: Instant,
@@ -29,26 +37,40 @@ pub struct Sockets<R: Net + Clock> {
 impl<R: Net + Clock + Drop> Sockets<R> {
     /// The servers at these addresses, by number.
     pub fn new(rt: R, alloc: Global, addresses: Vec<Option<Address>>) -> io::Result<Sockets<R>> {
-        let poll = Poll::new(&rt)?;
-        let start = Instant::now(&rt)?;
+        let has_one = addresses.iter().any(|address| matches!(address, Some(_)));
+        let watch = if has_one {
+            Some(begin_watch(&rt, alloc)?)
+        } else {
+            None
+        };
         Ok(Sockets {
             rt,
             addresses,
-            poll,
-            events: Events::with_capacity(alloc, MOST_EVENTS)?,
-            start,
+            watch,
         })
     }
 
     // Begins to connect to a server that has an address.
     fn socket(&self, server: NodeId) -> io::Result<Socket> {
-        let Some(Some(address)) = self.addresses.get(usize::from(server)) else {
+        let (Some(watch), Some(Some(address))) = (
+            &self.watch,
+            self.addresses.get(usize::from(server)),
+        ) else {
             return Err(io::Error::from(ErrorKind::NotFound));
         };
         let mut socket = Socket::connect(&self.rt, address)?;
-        socket.register(self.poll.registry(), Token(usize::from(server)))?;
+        socket.register(watch.poll.registry(), Token(usize::from(server)))?;
         Ok(socket)
     }
+}
+
+// Watches no socket yet.
+fn begin_watch<R: Net + Clock>(rt: &R, alloc: Global) -> io::Result<Watch> {
+    Ok(Watch {
+        poll: Poll::new(rt)?,
+        events: Events::with_capacity(alloc, MOST_EVENTS)?,
+        start: Instant::now(rt)?,
+    })
 }
 
 impl<R: Net + Clock + Drop> Network<Nonblocking<Socket>> for Sockets<R> {
@@ -61,21 +83,24 @@ impl<R: Net + Clock + Drop> Network<Nonblocking<Socket>> for Sockets<R> {
     }
 
     fn seconds(&mut self) -> u64 {
-        match self.start.elapsed(&self.rt) {
+        let Some(watch) = &self.watch else {
+            return 0;
+        };
+        match watch.start.elapsed(&self.rt) {
             Ok(passed) => passed.as_secs(),
             Err(_) => 0,
         }
     }
 
     fn rest(&mut self, ready: &mut Vec<NodeId>) -> Result<(), AllocError> {
-        if self
-            .poll
-            .poll(&mut self.events, Some(Duration::from_millis(REST)))
-            .is_err()
-        {
+        let Some(watch) = &mut self.watch else {
+            return Ok(());
+        };
+        let pause = Duration::from_millis(REST);
+        if watch.poll.poll(&mut watch.events, Some(pause)).is_err() {
             return Ok(());
         }
-        for event in &self.events {
+        for event in &watch.events {
             if let Ok(server) = NodeId::try_from(event.token().0) {
                 ready.push(server)?;
             }

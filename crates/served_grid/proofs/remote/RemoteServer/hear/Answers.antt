@@ -11,6 +11,6 @@ invariant_of-self-in-Ok g c =
 
 pub returns-in-Ok-clause-heard : goal.returns-in-Ok-clause-heard
 returns-in-Ok-clause-heard g c =
-    let before : RemoteState g.row.W.Denot = record { own = c.self.inside.own; connection = c.self.inside.connection; tries = c.self.inside.tries; awaited = c.self.inside.awaited; quiet = c.self.inside.quiet } in
+    let before : RemoteState g.row.W.Denot = record { own = c.self.inside.own; connection = c.self.inside.connection; tries = c.self.inside.tries; awaited = c.self.inside.awaited; quiet = c.self.inside.quiet; fault = c.self.inside.fault } in
     subst (λ (r : RemoteState g.row.W.Denot). Hears g.W.Wire.calls r r.connection c.in-Ok.came c.note.new.self) c.self.view_is
     (heard_is g.W.Wire.calls before c.note.new.self c.in-Some.connection c.carry.new.connection c.in-Ok.came c.in-Some.is c.in-Ok.ensures.ok c.note.ensures)
