@@ -1,3 +1,4 @@
 mod Left
+mod Lines
 mod Rising
 pub mod Standing

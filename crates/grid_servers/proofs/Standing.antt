@@ -1,11 +1,17 @@
 -- What stands at each number of a list of nodes.
-use Rattle.std.proofs.Common.{◌≡◌, ◌≢◌, ℕ, zero, suc, ◌<◌, List, [], ◌∷◌, ◌++◌, Option, Some, None, Bool, true, false, eqb, get_or, length, set, refl, sym, ap, subst, ◌∙◌, arith}
+use Rattle.std.proofs.Common.{◌≡◌, ℕ, zero, suc, ◌<◌, List, [], ◌∷◌, ◌++◌, Option, None, IsSome, Bool, true, false, eqb, get_or, length, set, refl, sym, ap, subst, ◌∙◌, true≢false}
 use Rattle.std.proofs.lemmas.Bool.{eqb-true, eqb-false}
 use Rattle.std.proofs.lemmas.List.{get_or-set_same, get_or-set_other}
 use Rattle.share_folders.specs.Folder.{FolderState}
+use Rattle.grid_marks.specs.declared.mark.Mark.{Mark}
 use Rattle.local_grid.specs.Nodes.{NodeState}
-use Rattle.local_grid.specs.Turns.{GridState}
-use Rattle.grid_servers.specs.Opened.{AllStand, AreOpened, StandsAt}
+use Rattle.socket_links.specs.declared.ends.SocketPair.{SocketPair}
+use Rattle.socket_links.specs.declared.link.GridLink.{GridLink}
+use Rattle.connections.specs.declared.ends.Nonblocking.{Nonblocking}
+use Rattle.connections.specs.declared.socket.Socket.{Socket}
+use Rattle.served_grid.specs.Remotes.{RemoteState}
+use Rattle.grid_servers.specs.Grids.{FolderGridState}
+use Rattle.grid_servers.specs.Opened.{AllElsewhere, AllStand, AreApart, AreOpened, StandsAt, StandsElsewhere}
 
 -- one more number at which nothing stands
 pub padded : {X : Type 0} (xs : List (Option X)) (n : ℕ) → get_or (xs ++ None ∷ []) n None ≡ get_or xs n None
@@ -24,6 +30,15 @@ padded_itself xs = λ n. refl
 pub padded_more : {X : Type 0} (old new after : List (Option X)) → IsPadded old new → after ≡ new ++ None ∷ [] → IsPadded old after
 padded_more old new after same e = λ n. ap (λ l. get_or l n None) e ∙ padded new n ∙ same n
 
+-- what holds at each number, with another value at one of them
+set_each : {X : Type 0} (P : ℕ → Option X → Type 0) (xs : List (Option X)) (m : ℕ) (x : Option X) → m < length xs → P m x → ((n : ℕ) → P n (get_or xs n None)) → (n : ℕ) → P n (get_or (set xs m x) n None)
+set_each P xs m x within here others n = at (eqb n m) refl where
+  at : (b : Bool) → eqb n m ≡ b → P n (get_or (set xs m x) n None)
+  at true e = subst (λ k. P k (get_or (set xs m x) k None)) (sym (eqb-true n m e)) (subst (P m) (sym (get_or-set_same xs m x None within)) here)
+  at false e = subst (P n) (sym (get_or-set_other xs m n x None (eqb-false n m e))) (others n)
+
+-- ---- servers of this process
+
 pub none_stand : {L : Type 0} (grid : List ℕ) (nodes : List (Option (NodeState FolderState L))) → nodes ≡ [] → AllStand grid nodes
 none_stand grid nodes e = subst (AllStand grid) (sym e) (λ n. tt)
 
@@ -31,10 +46,26 @@ pub still_stand : {L : Type 0} (grid : List ℕ) (old new : List (Option (NodeSt
 still_stand grid old new same stand = λ n. subst (StandsAt grid n) (sym (same n)) (stand n)
 
 pub set_stand : {L : Type 0} (grid : List ℕ) (nodes : List (Option (NodeState FolderState L))) (m : ℕ) (node : Option (NodeState FolderState L)) → m < length nodes → StandsAt grid m node → AllStand grid nodes → AllStand grid (set nodes m node)
-set_stand grid nodes m node within here stand = λ n. at n (eqb n m) refl where
-  at : (n : ℕ) (b : Bool) → eqb n m ≡ b → StandsAt grid n (get_or (set nodes m node) n None)
-  at n true e = subst (λ k. StandsAt grid k (get_or (set nodes m node) k None)) (sym (eqb-true n m e)) (subst (StandsAt grid m) (sym (get_or-set_same nodes m node None within)) here)
-  at n false e = subst (StandsAt grid n) (sym (get_or-set_other nodes m n node None (eqb-false n m e))) (stand n)
+set_stand grid nodes m node within here stand = set_each (StandsAt grid) nodes m node within here stand
 
-pub opened : {L : Type 0} (grid : List ℕ) (nodes : List (Option (NodeState FolderState L))) (g : GridState FolderState L) → g ≡ record { nodes = nodes; clock = 0 } → AllStand grid nodes → AreOpened grid g
-opened grid nodes g e stand = subst (AreOpened grid) (sym e) (record { own = stand; second = refl })
+-- ---- servers elsewhere
+
+pub none_elsewhere : {W : Type 0} (known : Option Mark) (remotes : List (Option (RemoteState W))) → remotes ≡ [] → AllElsewhere known remotes
+none_elsewhere known remotes e = subst (AllElsewhere known) (sym e) (λ n. tt)
+
+pub set_elsewhere : {W : Type 0} (known : Option Mark) (old padded : List (Option (RemoteState W))) (m : ℕ) (remote : Option (RemoteState W)) → IsPadded old padded → m < length padded → StandsElsewhere known m remote → AllElsewhere known old → AllElsewhere known (set padded m remote)
+set_elsewhere known old padded m remote same within here stand =
+    set_each (StandsElsewhere known) padded m remote within here (λ n. subst (StandsElsewhere known n) (sym (same n)) (stand n))
+
+pub none_apart : {N M : Type 0} (here : List (Option N)) (elsewhere : List (Option M)) → elsewhere ≡ [] → AreApart here elsewhere
+none_apart here elsewhere e = subst (AreApart here) (sym e) (λ n some. absurd (true≢false (sym some)))
+
+pub set_apart : {N M : Type 0} (here : List (Option N)) (old padded : List (Option M)) (m : ℕ) (one : Option M) → IsPadded old padded → m < length padded → get_or here m None ≡ None → AreApart here old → AreApart here (set padded m one)
+set_apart {N} {M} here old padded m one same within free apart =
+    set_each (λ (n : ℕ) (o : Option M). IsSome o → get_or here n None ≡ None) padded m one within (λ _. free) (λ n some. apart n (subst (λ (o : Option M). IsSome o) (same n) some))
+
+-- ---- both
+
+pub opened : {S : Type 0} (grid : List ℕ) (known : Option Mark) (nodes : List (Option (NodeState FolderState (GridLink (SocketPair S))))) (remotes : List (Option (RemoteState (Nonblocking Socket)))) (g : FolderGridState S)
+    → g ≡ record { here = record { nodes = nodes; clock = 0 }; remotes = remotes } → AllStand grid nodes → AllElsewhere known remotes → AreApart nodes remotes → AreOpened grid g
+opened grid known nodes remotes g e own elsewhere apart = subst (AreOpened grid) (sym e) (record { own = own; known = known; elsewhere = elsewhere; apart = apart; second = refl })
