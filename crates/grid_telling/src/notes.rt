@@ -1,24 +1,35 @@
 //! What is told with `-v` of servers that serve badly, and always of numbers that may not be.
 
 use crate::progress::Progress;
+use connections::ConnectionFault;
 use grid_faults::{Fault, Limit, server_name, told_path};
 use grid_marks::{folder_fault, server_folder};
-use grid_servers::{FolderGrid, Purpose, is_silent};
+use grid_servers::{FolderGrid, Purpose, Site, find_site, is_silent};
 use std::alloc::Global;
 use std::io::{self, IsTerminal, Write};
 use std::net::Net;
 use std::rt::{Clock, Files};
 use wire::message::NodeId;
 
-// What is told of a server, and the reason where its folder shows none.
+// What is told of a server, and the reason where its folder or its connection shows none.
 type Remark = (&'static str, &'static str);
 
 const SILENT: Remark = ("silent", "it does not answer");
 
 const REFUSED: Remark = ("refused", "it takes no further shares");
 
+// Why a server is silent that is served elsewhere, or is to be.
+const OTHER_GREETING: &str = "it greets as another server, or speaks another version";
+
+const NO_FRAME: &str = "it sent what is no message";
+
+const ENDED: &str = "the connection to it ended";
+
+const NO_ADDRESS: &str = "its file tells no address";
+
 /// Tells of each of these servers that is silent, or that refused shares, with the path of its
-/// folder and the system's reason, where that is found by trying.
+/// folder and the system's reason, where that is found by trying. Of one that is served elsewhere
+/// the reason is how the connection to it ended.
 pub fn note_servers<R, E>(
     rt: &R,
     grid: &str,
@@ -35,32 +46,87 @@ where
         return Ok(());
     }
     for server in servers {
-        if is_silent(nodes, *server) {
-            note_server(rt, grid, *server, purpose, SILENT, progress)?;
-        } else if progress.is_refusal(*server) {
-            note_server(rt, grid, *server, purpose, REFUSED, progress)?;
+        if let Some(remark) = remark_of(*server, nodes, progress) {
+            let line = line_of(rt, grid, *server, nodes, purpose, remark)?;
+            progress.note(line.as_str());
         }
     }
     Ok(())
 }
 
-// Tells of one of them.
-fn note_server<R, E>(
+// What is told of a server, if it serves badly.
+fn remark_of<R, E>(
+    server: NodeId,
+    nodes: &FolderGrid<R>,
+    progress: &Progress<'_, R, E>,
+) -> Option<Remark>
+where
+    R: Files + Net + Clock + AllocGlobal + Clone + Drop,
+    E: Write + IsTerminal,
+{
+    if is_silent(nodes, server) {
+        return Some(SILENT);
+    }
+    if progress.is_refusal(server) {
+        return Some(REFUSED);
+    }
+    None
+}
+
+// The line of a server that serves badly.
+fn line_of<R>(
     rt: &R,
     grid: &str,
     server: NodeId,
+    nodes: &FolderGrid<R>,
     purpose: Purpose,
     remark: Remark,
-    progress: &mut Progress<'_, R, E>,
-) -> Result<(), Fault>
+) -> Result<String, Fault>
 where
-    R: Files + Clock + AllocGlobal + Clone + Drop,
-    E: Write + IsTerminal,
+    R: Files + Net + Clock + AllocGlobal + Clone + Drop,
 {
-    let reason = folder_fault(rt, grid, server, purpose)?;
-    let line = server_line(rt.alloc(), grid, server, remark, reason)?;
-    progress.note(line.as_str());
-    Ok(())
+    match remark_elsewhere(rt, grid, server, nodes, remark)? {
+        Some(remark) => server_line(rt.alloc(), grid, server, remark, None),
+        None => {
+            let reason = folder_fault(rt, grid, server, purpose)?;
+            server_line(rt.alloc(), grid, server, remark, reason)
+        }
+    }
+}
+
+// What is told of a server that is served elsewhere, or whose file should tell where. None of one
+// over a folder.
+fn remark_elsewhere<R>(
+    rt: &R,
+    grid: &str,
+    server: NodeId,
+    nodes: &FolderGrid<R>,
+    remark: Remark,
+) -> Result<Option<Remark>, Fault>
+where
+    R: Files + Net + Clock + AllocGlobal + Clone + Drop,
+{
+    let (what, _) = remark;
+    if let Some(Some(remote)) = nodes.remotes().get(usize::from(server)) {
+        if remote.is_away() {
+            return Ok(Some((what, cause_of(remote.fault()))));
+        }
+        return Ok(Some(remark));
+    }
+    match find_site(rt, grid, server)? {
+        Site::File(_) => Ok(Some((what, NO_ADDRESS))),
+        _ => Ok(None),
+    }
+}
+
+// Why nothing comes from a server elsewhere, by how the last connection to it ended.
+fn cause_of(fault: Option<ConnectionFault>) -> &'static str {
+    match fault {
+        Some(ConnectionFault::OtherGreeting) => OTHER_GREETING,
+        Some(ConnectionFault::NoFrame) => NO_FRAME,
+        Some(ConnectionFault::Ended) => ENDED,
+        Some(ConnectionFault::OutOfMemory) | None => SILENT.1,
+    }
 }
 
 // The line of a server, with the system's reason where there is one.
