@@ -3,7 +3,7 @@
 use crate::acts::likeness;
 use crate::folders::path_of;
 use crate::names::{no_such_row, number};
-use grid_commands::{DiskFiles, Environment, grid};
+use grid_commands::{DiskFiles, Environment, Locks, grid};
 use std::alloc::AllocError;
 use std::net::Net;
 use std::random::RandomSource;
@@ -41,7 +41,7 @@ impl Ended {
 /// Runs a command, and tells what it came to.
 pub(crate) fn play_command<R>(rt: &R, words: &[&str], told: &mut String) -> io::Result<()>
 where
-    R: Files + io::Input + Net + Clock + RandomSource + AllocGlobal + Clone + Drop,
+    R: Files + io::Input + Net + Clock + RandomSource + Locks + AllocGlobal + Clone + Drop,
 {
     let (command, wanted) = parted(words);
     tell(rt, &run(rt, command), wanted, told)
@@ -51,7 +51,7 @@ where
 /// same.
 pub(crate) fn play_both<R>(rt: &R, words: &[&str], told: &mut String) -> io::Result<()>
 where
-    R: Files + io::Input + Net + Clock + RandomSource + AllocGlobal + Clone + Drop,
+    R: Files + io::Input + Net + Clock + RandomSource + Locks + AllocGlobal + Clone + Drop,
 {
     let (command, wanted) = parted(words);
     let mut with_net = command.to_vec(rt.alloc())?;
@@ -75,7 +75,7 @@ fn parted<'a>(words: &'a [&'a str]) -> (&'a [&'a str], &'a [&'a str]) {
 /// Runs a command.
 pub(crate) fn run<R>(rt: &R, words: &[&str]) -> Ended
 where
-    R: Files + io::Input + Net + Clock + RandomSource + AllocGlobal + Clone + Drop,
+    R: Files + io::Input + Net + Clock + RandomSource + Locks + AllocGlobal + Clone + Drop,
 {
     let (mut out, mut err) = (Vec::new(rt.alloc()), Told::new(rt.alloc(), false));
     let mut files = DiskFiles::new(rt);

@@ -47,6 +47,7 @@ mod rows;
 mod scripts;
 mod trees;
 
+use grid_commands::Locks;
 use names::{Names, assignment, words_of};
 use rows::play;
 use std::io::{self, BufRead, BufReader};
@@ -63,7 +64,7 @@ fn main(rt: HostRuntime) -> io::Result<()> {
 }
 
 // Plays a line, and writes what it came to.
-fn tell<R: Runtime + RandomSource + AllocGlobal + Net>(
+fn tell<R: Runtime + RandomSource + AllocGlobal + Net + Locks>(
     rt: &R,
     names: &mut Names,
     line: &str,
@@ -79,7 +80,7 @@ fn tell<R: Runtime + RandomSource + AllocGlobal + Net>(
 }
 
 // Plays a row, and writes what it told, and behind that why it could not be done.
-fn tell_row<R: Runtime + RandomSource + AllocGlobal + Net>(
+fn tell_row<R: Runtime + RandomSource + AllocGlobal + Net + Locks>(
     rt: &R,
     names: &Names,
     line: &str,

@@ -1,5 +1,6 @@
 //! Which row it is that words make.
 
+use grid_commands::Locks;
 use crate::acts::{
     compare, copy, count, keep, link, list, make_counted, make_folders, make_readonly, make_zeros,
     remove_each, rename, write_lines, write_text,
@@ -82,7 +83,7 @@ fn verb_of(word: &str) -> Option<Verb> {
 }
 
 /// Plays the row of these words: what it tells goes to `told`.
-pub(crate) fn play<R: Runtime + RandomSource + AllocGlobal + Net>(
+pub(crate) fn play<R: Runtime + RandomSource + AllocGlobal + Net + Locks>(
     rt: &R,
     words: &[&str],
     told: &mut String,

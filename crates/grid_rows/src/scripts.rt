@@ -1,5 +1,6 @@
 //! Scripts of worlds.
 
+use grid_commands::Locks;
 use crate::commands::{play_command, run};
 use crate::names::{first, no_such_row, number};
 use std::alloc::Global;
@@ -14,7 +15,7 @@ const COMMAND: [&str; 3] = ["grid", "world", "script"];
 /// `script LINE;LINE..`: runs the script of these lines, and tells what it came to.
 pub(crate) fn play_script<R>(rt: &R, words: &[&str], told: &mut String) -> io::Result<()>
 where
-    R: Files + io::Input + Net + Clock + RandomSource + AllocGlobal + Clone + Drop,
+    R: Files + io::Input + Net + Clock + RandomSource + Locks + AllocGlobal + Clone + Drop,
 {
     let lines = words.join(rt.alloc(), " ")?;
     write_script(rt, lines.as_str())?;
@@ -27,7 +28,7 @@ where
 /// wrote has a text.
 pub(crate) fn play_scripts<R>(rt: &R, words: &[&str], told: &mut String) -> io::Result<()>
 where
-    R: Files + io::Input + Net + Clock + RandomSource + AllocGlobal + Clone + Drop,
+    R: Files + io::Input + Net + Clock + RandomSource + Locks + AllocGlobal + Clone + Drop,
 {
     let (from, rest) = first(words)?;
     let (to, rest) = first(rest)?;
@@ -55,7 +56,7 @@ fn tell_count<R>(
     told: &mut String,
 ) -> io::Result<()>
 where
-    R: Files + io::Input + Net + Clock + RandomSource + AllocGlobal + Clone + Drop,
+    R: Files + io::Input + Net + Clock + RandomSource + Locks + AllocGlobal + Clone + Drop,
 {
     let mut count: usize = 0;
     for position in from..to {

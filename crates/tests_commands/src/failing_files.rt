@@ -2,6 +2,7 @@
 //! changes.
 
 use crate::runs::path;
+use grid_commands::Locks;
 use std::alloc::{Allocator, Global};
 use std::cell::Cell;
 use std::fs::{File, Metadata, OpenFile, OpenOptions};
@@ -219,6 +220,15 @@ impl<'a> RandomSource for FailingFiles<'a> {
     fn fill_bytes(&self, buf: &mut [u8]) -> io::Result<()> {
         self.calls.count()?;
         self.rt.fill_bytes(buf)
+    }
+}
+
+// Nothing else holds a lock.
+impl<'a> Locks for FailingFiles<'a> {
+    type Lock = ();
+
+    fn try_lock(&self, _path: &str) -> io::Result<Option<()>> {
+        Ok(Some(()))
     }
 }
 

@@ -2,6 +2,7 @@
 //! at a call, and nothing is changed from then on.
 
 use crate::folders::Folders;
+use grid_commands::Locks;
 use std::alloc::{Allocator, Global};
 use std::cell::{RefCell, RefMut};
 use std::fs::{File, Metadata, OpenFile, OpenOptions};
@@ -184,6 +185,15 @@ impl<'a> io::Input for StoppingFiles<'a> {
 impl<'a> RandomSource for StoppingFiles<'a> {
     fn fill_bytes(&self, buf: &mut [u8]) -> io::Result<()> {
         self.rt.fill_bytes(buf)
+    }
+}
+
+// Nothing else holds a lock.
+impl<'a> Locks for StoppingFiles<'a> {
+    type Lock = ();
+
+    fn try_lock(&self, _path: &str) -> io::Result<Option<()>> {
+        Ok(Some(()))
     }
 }
 

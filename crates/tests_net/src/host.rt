@@ -1,5 +1,6 @@
 //! A host whose sockets and clock are the tests' own; its files are the system's.
 
+use grid_commands::Locks;
 use std::alloc::{Allocator, Global};
 use std::cell::Cell;
 use std::fs::{File, Metadata, OpenOptions};
@@ -144,6 +145,15 @@ impl<'a> io::Input for OddHost<'a> {
 impl<'a> RandomSource for OddHost<'a> {
     fn fill_bytes(&self, buf: &mut [u8]) -> io::Result<()> {
         self.rt.fill_bytes(buf)
+    }
+}
+
+// Nothing else holds a lock.
+impl<'a> Locks for OddHost<'a> {
+    type Lock = ();
+
+    fn try_lock(&self, _path: &str) -> io::Result<Option<()>> {
+        Ok(Some(()))
     }
 }
 
