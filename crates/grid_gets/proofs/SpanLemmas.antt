@@ -1,5 +1,5 @@
 -- Spans that were got, one after another.
-use Rattle.std.proofs.Common.{◌≡◌, ℕ, ◌≤◌, List, [], ◌++◌, All, Contains, Option, Some, None, Result, Ok, Err, OnOk, IfOk, IfErr, refl, sym, subst, inl, arith, nat_eq, Vec, Global}
+use Rattle.std.proofs.Common.{◌≡◌, ℕ, ◌≤◌, List, [], ◌++◌, All, Contains, Option, Some, None, Result, Ok, Err, OnOk, IfOk, IfErr, IsErrAnd, refl, sym, ap, subst, inl, arith, nat_eq, Vec, Global}
 use Rattle.std.proofs.KnownBytes.{Appends-trans}
 use Rattle.std.proofs.lemmas.List.{append-nil}
 use Rattle.std.proofs.lemmas.List.Elements.{All-append, All-contains_itself, All-filter, All-nil, All-weaker}
@@ -25,6 +25,11 @@ use Rattle.grid_gets.proofs.RunLemmas.{written_among, written_nil, written_trans
 pub unless : (f : Failure) (P : Type 0) → P → UnlessWriter f P
 unless (Fault fault) P p = p
 unless Writer P p = tt
+
+-- the error that is handed on
+pub handed_on : {A E : Type 0} (r : Result A E) (e : E) → IsErrAnd r (λ f. f ≡ e) → r ≡ Err e
+handed_on (Ok a) e is = absurd is
+handed_on (Err f) e is = ap Err is
 
 pub if_err : {A : Type 0} (r : Result A Failure) (P : Type 0) → P → IfErr r (λ f. UnlessWriter f P)
 if_err (Ok a) P p = tt

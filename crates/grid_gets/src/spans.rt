@@ -21,6 +21,7 @@ use grid_rules::ByteRange;
 use grid_rules::becoming::fault_of_download;
 use grid_servers::{FIRST_SESSION, FolderGrid};
 use grid_telling::{Failure, Progress};
+use operation_loop::Outside;
 use std::alloc::Global;
 use std::io::{IsTerminal, Write};
 use std::marker::Model;
@@ -37,7 +38,7 @@ const SPAN: u64 = 64 << 20;
 #[derive(Drop)]
 pub(crate) struct Spans<'a, R>
 where
-    R: Files + Net + AllocGlobal + Clone + Drop,
+    R: Files + Net + Clock + AllocGlobal + Clone + Drop,
 {
     alloc: Global,
     nodes: FolderGrid<R>,
@@ -50,7 +51,7 @@ where
 
 impl<'a, R> Model for Spans<'a, R>
 where
-    R: Files + Net + AllocGlobal + Clone + Drop,
+    R: Files + Net + Clock + AllocGlobal + Clone + Drop,
 {
     ghost use Rattle.std.specs.Prelude.{option_map};
     ghost use Rattle.grid_servers.specs.Grids.{FolderGridState};

@@ -1,9 +1,9 @@
-use Rattle.std.proofs.Common.{◌≡◌, Err, rules}
+use Rattle.std.proofs.Common.{◌≡◌, Err}
 use Rattle.std.proofs.KnownBytes.{Keeps-refl}
 use Rattle.cap_text.specs.declared.cap.Cap.TheVariants.{Chk}
 use Rattle.grid_gets.specs.Gets.{nothing}
 use Rattle.grid_gets.proofs.GotLemmas.{begun_after, begun_whole, got_flushed}
-use Rattle.grid_gets.proofs.SpanLemmas.{if_err, if_writer, same_distinct}
+use Rattle.grid_gets.proofs.SpanLemmas.{handed_on, if_err, if_writer, same_distinct}
 use Rattle.grid_gets.proofs.range.get_range.Goals as goal
 
 pub returns-in_err-is_grid-clause-err : goal.returns-in_err-is_grid-clause-err
@@ -17,7 +17,7 @@ returns-in_err-nodes-clause-err g c = if_err _ _ (nothing (Chk c.args.cap.now) (
 
 pub returns-in_err-written-clause-err : goal.returns-in_err-written-clause-err
 returns-in_err-written-clause-err g c =
-    let handed : c.from_residual-in_err-written.result ≡ Err c.in_err-written.field-0.0 = search (rules, c.from_residual-in_err-written.ensures, c.in_err-written.is) in
+    let handed : c.from_residual-in_err-written.result ≡ Err c.in_err-written.field-0.0 = handed_on c.from_residual-in_err-written.result c.in_err-written.field-0.0 c.from_residual-in_err-written.ensures.1 in
     begun_after _ c.args.words.now c.args.cap.now c.as_slice-servers.result.now (same_distinct _ _ c.as_slice-servers.ensures.value c.in_ok-standing.ensures) c.args.range.now c.in_ok-nodes.nodes c.in_ok-nodes.ensures c.new-spans.result c.new-spans.ensures c.from_residual-in_err-written.result c.in_err-written.field-0.0 _ _ handed c.in_err-written.ensures.err
 
 pub returns-in_err-noted-clause-err : goal.returns-in_err-noted-clause-err

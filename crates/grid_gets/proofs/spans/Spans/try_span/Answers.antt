@@ -16,7 +16,7 @@ returns-clause-ok g c =
     let carried = c.carry_download-carried in
     let was : Spanning _ = record { session = c.self.inside.session; grid = c.self.inside.nodes; block = option_map (λ block. block.items) c.self.inside.extension_block } in
     let mid : Spanning _ = record { session = c.saturating_add-self-inside.result; grid = carried.new.outside; block = was.block } in
-    let begins : Begins c.args.cap.now c.args.from c.args.to c.args.servers.now was.session was.grid.clock c.in_ok-download.download =
+    let begins : Begins c.args.cap.now c.args.from c.args.to c.args.servers.now was.session was.grid.here.clock c.in_ok-download.download =
     subst (λ (n : ℕ). Begins c.args.cap.now c.args.from c.args.to c.args.servers.now was.session n c.in_ok-download.download) c.clock-now.ensures c.in_ok-download.ensures in
     subst (λ (old : Spanning _). IfOk c.conclude.result (λ tried. Leads (grid_calls g.R.Stream.Write.contents g.R.Stream.Read.remaining) c.args.cap.now c.args.servers.now old c.args.from (g.O.Write.contents c.args.out.now) c.conclude.new.self
     (reached_by tried c.args.to) (g.O.Write.contents carried.new.out))) c.self.view_is
@@ -27,7 +27,7 @@ pub returns-clause-within : goal.returns-clause-within
 returns-clause-within g c =
     let carried = c.carry_download-carried in
     let was : Spanning _ = record { session = c.self.inside.session; grid = c.self.inside.nodes; block = option_map (λ block. block.items) c.self.inside.extension_block } in
-    let begins : Begins c.args.cap.now c.args.from c.args.to c.args.servers.now was.session was.grid.clock c.in_ok-download.download =
+    let begins : Begins c.args.cap.now c.args.from c.args.to c.args.servers.now was.session was.grid.here.clock c.in_ok-download.download =
     subst (λ (n : ℕ). Begins c.args.cap.now c.args.from c.args.to c.args.servers.now was.session n c.in_ok-download.download) c.clock-now.ensures c.in_ok-download.ensures in
     tried_ok_within (grid_calls g.R.Stream.Write.contents g.R.Stream.Read.remaining) c.args.cap.now was c.args.servers.now c.args.from c.args.to c.in_ok-download.download carried.result carried.new.outside
     (g.O.Write.contents c.args.out.now) (g.O.Write.contents carried.new.out) c.requires.distinct begins c.ranges.to.fits carried.ensures.written c.conclude.result c.conclude.ensures.ended
@@ -36,7 +36,7 @@ pub returns-clause-err : goal.returns-clause-err
 returns-clause-err g c =
     let carried = c.carry_download-carried in
     let was : Spanning _ = record { session = c.self.inside.session; grid = c.self.inside.nodes; block = option_map (λ block. block.items) c.self.inside.extension_block } in
-    let begins : Begins c.args.cap.now c.args.from c.args.to c.args.servers.now was.session was.grid.clock c.in_ok-download.download =
+    let begins : Begins c.args.cap.now c.args.from c.args.to c.args.servers.now was.session was.grid.here.clock c.in_ok-download.download =
     subst (λ (n : ℕ). Begins c.args.cap.now c.args.from c.args.to c.args.servers.now was.session n c.in_ok-download.download) c.clock-now.ensures c.in_ok-download.ensures in
     subst (λ (old : Spanning _). IfErr c.conclude.result (λ failure. UnlessWriter failure (Stops (grid_calls g.R.Stream.Write.contents g.R.Stream.Read.remaining) c.args.cap.now c.args.servers.now old c.args.from c.args.to
     (g.O.Write.contents c.args.out.now) (g.O.Write.contents carried.new.out)))) c.self.view_is
