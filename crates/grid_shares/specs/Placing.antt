@@ -5,11 +5,9 @@ use Rattle.upload_core.specs.Moves.{Begins}
 use Rattle.upload_core.specs.Ready.{Ready}
 use Rattle.upload_core.specs.Sending.{Uploading}
 use Rattle.share_fetching.specs.declared.range.SharePlace.{SharePlace}
-use Rattle.share_folders.specs.Folder.{FolderState, folder_calls}
-use Rattle.local_grid.specs.Nodes.{Carries}
-use Rattle.local_grid.specs.Turns.{GridState}
 use Rattle.carried_operations.specs.Stored.{IsStored}
 use Rattle.grid_faults.specs.Servers.{server_of}
+use Rattle.grid_servers.specs.Grids.{FolderGridState, GridCalls}
 use Rattle.grid_servers.specs.Opened.{AreOpened}
 use Rattle.grid_servers.specs.Servers.{servers_without}
 use Rattle.grid_shares.specs.declared.placing.Stored.{Stored}
@@ -18,30 +16,30 @@ use Rattle.grid_shares.specs.Ways.{AreCleared}
 
 -- Shares were uploaded to these servers, over a grid as it stood: their upload was begun in a
 -- session with all of these servers, and is stored with this happiness.
-pub record AreUploaded {P L : Type 0} (operation : OperationCalls (Uploading P))
-    (carries : Carries L) (before : GridState FolderState L) (session : ℕ) (servers : List ℕ)
+pub record AreUploaded {P S : Type 0} (operation : OperationCalls (Uploading P))
+    (calls : GridCalls S) (before : FolderGridState S) (session : ℕ) (servers : List ℕ)
     (made : Ready P) (happiness : ℕ) : Type 0 where
   pub begun : Uploading P
-  pub begins : Begins made.goal made.happy (map server_of servers) session before.clock
+  pub begins : Begins made.goal made.happy (map server_of servers) session (calls.clock before)
       begun.course
   pub pieces : begun.pieces ≡ made.pieces
-  pub after : GridState FolderState L
-  pub stored : IsStored operation folder_calls carries begun before after happiness
+  pub after : FolderGridState S
+  pub stored : IsStored operation calls begun before after happiness
 
 -- Shares were placed on servers of a grid. The way was cleared for them at each, by their digests
 -- too where they are to be mended, but for shares that are read for it; and they were uploaded to
 -- all but those at which a share was left; it is told whether there were some. Servers may have
 -- been kept open for it; they are opened anew where none were, or a file was touched on the way.
-pub record ArePlaced {P L : Type 0} (operation : OperationCalls (Uploading P))
-    (carries : Carries L) (grid : List ℕ) (kept mend : Bool) (reading : List SharePlace)
+pub record ArePlaced {P S : Type 0} (operation : OperationCalls (Uploading P))
+    (calls : GridCalls S) (grid : List ℕ) (kept mend : Bool) (reading : List SharePlace)
     (servers : List ℕ) (made : Ready P) (stored : Stored) : Type 0 where
   pub stuck : List ℕ
   pub still : Bool
   pub cleared : AreCleared made.goal mend reading servers stuck still
   pub none : stored.is_cleared ≡ (length stuck == 0)
-  pub before : GridState FolderState L
-  pub opened : WereOpened carries grid before
+  pub before : FolderGridState S
+  pub opened : WereOpened calls grid before
   pub anew : (kept && still) ≡ false → AreOpened grid before
   pub session : ℕ
-  pub uploaded : AreUploaded operation carries before session (servers_without servers stuck) made
+  pub uploaded : AreUploaded operation calls before session (servers_without servers stuck) made
       stored.happiness

@@ -19,7 +19,7 @@ use Rattle.upload_core.specs.Calls.{upload_calls}
 use Rattle.upload_core.specs.Pieces.{piece_of}
 use Rattle.upload_core.specs.Ready.{Ready}
 use Rattle.upload_core.specs.Sending.{Uploading}
-use Rattle.local_grid.specs.Nodes.{Carries}
+use Rattle.grid_servers.specs.Grids.{GridCalls}
 use Rattle.grid_words.specs.declared.words.PutWords.{PutWords}
 use Rattle.grid_shares.specs.Placing.{ArePlaced}
 use Rattle.grid_shares.specs.declared.Outcome.{Outcome}
@@ -56,12 +56,12 @@ pub record IsToldOf (cap : ReadCapValue) (stored : Stored) (put : PutFile) : Typ
 
 -- Shares that were made are placed on the first servers of a grid, so many, which may have been
 -- kept open for it; and this is told.
-pub record IsPutOf {P L : Type 0} (operation : OperationCalls (Uploading P)) (carries : Carries L)
+pub record IsPutOf {P N : Type 0} (operation : OperationCalls (Uploading P)) (calls : GridCalls N)
     (grid : List ℕ) (kept mend : Bool) (made : Ready P) (cap : ReadCapValue) (put : PutFile)
     : Type 0 where
   pub count : ℕ
   pub stored : Stored
-  pub placed : ArePlaced operation carries grid kept mend [] (range_with_len 0 count) made stored
+  pub placed : ArePlaced operation calls grid kept mend [] (range_with_len 0 count) made stored
   pub told : IsToldOf cap stored put
 
 -- the calls of an upload of whole shares
@@ -103,30 +103,30 @@ IsUnder said secret = IfSome said (λ s. secret ≡ s)
 -- What a put tells by its words, by the secret that is said, and by whether servers were kept open:
 -- the cap that holds a small file; or what became of the shares of another, by the numbers of the
 -- words and the secret. That was held, or read twice.
-pub data IsPutBy {F L : Type 0} (gives : Opened F → ℕ → List ℕ → Opened F → Type 0)
-    (carries : Carries L) (words : PutWords) (said : Option (List ℕ)) (kept : Bool)
+pub data IsPutBy {F N : Type 0} (gives : Opened F → ℕ → List ℕ → Opened F → Type 0)
+    (calls : GridCalls N) (words : PutWords) (said : Option (List ℕ)) (kept : Bool)
     (put : PutFile) : Type 0 where
   small : (file : List ℕ) → length file < min_file_size → IsLiteralOf file put
-      → IsPutBy gives carries words said kept put
+      → IsPutBy gives calls words said kept put
   held : (file secret : List ℕ) → IsUnder said secret → min_file_size ≤ length file
-      → IsPutOf whole_calls carries words.grid.now kept words.mend
+      → IsPutOf whole_calls calls words.grid.now kept words.mend
       (upload_of (prepared_of file secret (numbers_of words)))
       (prepared_of file secret (numbers_of words)).cap put
-      → IsPutBy gives carries words said kept put
+      → IsPutBy gives calls words said kept put
   opened : (source : Opened F) → (secret : List ℕ) → (stream : Streaming (Opened F))
       → IsUnder said secret → min_file_size ≤ source.size
       → IsPreparedFrom gives source.size source secret (parameters_of (numbers_of words))
       stream.kept stream.source
-      → IsPutOf (streamed_calls gives (λ s. s.failures)) carries words.grid.now kept words.mend
+      → IsPutOf (streamed_calls gives (λ s. s.failures)) calls words.grid.now kept words.mend
       (ready_stream stream words.happy) stream.kept.cap put
-      → IsPutBy gives carries words said kept put
+      → IsPutBy gives calls words said kept put
 
 -- It is told as these words ask, where it is the only file, and no server was kept open for it.
 -- Which secret they say, or the grid keeps, is not known here.
-pub record IsPutAlone {F L : Type 0} (gives : Opened F → ℕ → List ℕ → Opened F → Type 0)
-    (carries : Carries L) (words : PutWords) (outcome : Outcome) : Type 0 where
+pub record IsPutAlone {F N : Type 0} (gives : Opened F → ℕ → List ℕ → Opened F → Type 0)
+    (calls : GridCalls N) (words : PutWords) (outcome : Outcome) : Type 0 where
   pub file : PutFile
   pub said : Option (List ℕ)
-  pub put : IsPutBy gives carries words said false file
+  pub put : IsPutBy gives calls words said false file
   pub told : outcome.text.items ≡ put_text file words.quiet
   pub status_is : outcome.status ≡ put_status file

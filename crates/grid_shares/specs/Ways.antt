@@ -32,7 +32,8 @@ pub record IsClearedAs (wanted : Wanted) (way : Way) : Type 0 where
   pub is_cleared : IsCleared wanted cleared acts
   pub is : way ≡ way_by cleared.left.items (is_touched cleared)
 
--- A server's folder has not its mark, or could not be listed, or the way was cleared there.
+-- A server's folder has not its mark, or is elsewhere, or could not be listed, or the way was
+-- cleared there.
 abbrev pub IsWay : Wanted → Way → Type 0
 IsWay wanted Unmarked = Unit
 IsWay wanted Unread = (acts : List Act) × Was Unlisted acts

@@ -7,11 +7,13 @@
 
 mod mending;
 mod numbers;
+mod one_process;
 mod placing;
 mod putting;
 mod standing;
 
 pub use numbers::{Choices, read_choices};
+pub use one_process::steps_of_one_process;
 pub use placing::{Placing, Stored, durability_of, place_shares};
 pub use putting::{PutFile, may_put, put, put_file, secret_of};
 pub use standing::OpenGrid;

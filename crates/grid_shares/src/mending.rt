@@ -10,6 +10,7 @@ ghost use Rattle.grid_shares.specs.Ways.{read_at, stuck_by, way_by};
 use crate::placing::Placing;
 use grid_faults::{Fault, server_name, told_path};
 use grid_marks::{Mark, grid_mark, server_folder, try_known};
+use grid_servers::is_served_elsewhere;
 use grid_telling::Progress;
 use share_fetching::SharePlace;
 use share_files::{FolderFiles, Wanted};
@@ -41,7 +42,7 @@ fn wanted_of<'a>(goal: &'a UploadGoal, mend: bool, reading: &'a [u8], now: Syste
 /// What became of the files of a server.
 #[derive(Clone, Copy)]
 pub(crate) enum Way {
-    /// Its folder has not its mark: its server will be silent.
+    /// Its folder has not its mark, so that it will be silent, or it is served elsewhere.
     Unmarked,
     /// Its folder could not be listed: its server will be silent.
     Unread,
@@ -66,7 +67,8 @@ pub(crate) struct Clearance {
 
 /// Clears the way for shares at each of the servers. Each share that was left is told. A folder
 /// that cannot be read is passed over, and so is one without its mark in a grid that knows its
-/// servers. The files of shares that are read meanwhile stay.
+/// servers, and a server that is served elsewhere. The files of shares that are read meanwhile
+/// stay.
 pub(crate) fn clear_servers<R, E>(
     rt: &R,
     placing: &Placing<'_>,
@@ -142,7 +144,8 @@ fn note_way(clearance: &mut Clearance, server: NodeId, way: Way) -> Result<(), A
     }
 }
 
-// The same at one server. In a grid with a mark, one without its own is passed over.
+// The same at one server. In a grid with a mark, one without its own is passed over; in another,
+// one that is served elsewhere.
 fn clear_server<R, E>(
     rt: &R,
     grid: &str,
@@ -156,10 +159,12 @@ where
     E: Write + IsTerminal,
     ensures { IfOk result (IsWay wanted.entry.now) }
 {
-    if let Some(known) = known {
-        if if_there(try_known(rt, grid, server, known))?.is_none() {
-            return Ok(Way::Unmarked);
-        }
+    let is_passed_over = match known {
+        Some(known) => if_there(try_known(rt, grid, server, known))?.is_none(),
+        None => is_served_elsewhere(rt, grid, server)?,
+    };
+    if is_passed_over {
+        return Ok(Way::Unmarked);
     }
     clear_marked(rt, grid, server, wanted, progress)
 }

@@ -5,8 +5,7 @@ ghost use Rattle.std.specs.Prelude.{◌&&◌, IfSome, Some, false, if◌then◌e
 ghost use Rattle.std.specs.List.{IsDistinct};
 ghost use Rattle.grid_faults.specs.Servers.{server_of};
 ghost use Rattle.upload_core.specs.Moves.{Begins};
-ghost use Rattle.socket_links.specs.Ends.{pair_calls};
-ghost use Rattle.socket_links.specs.Links.{IsCarriedOver};
+ghost use Rattle.grid_servers.specs.Grids.{grid_calls};
 ghost use Rattle.upload_core.specs.Calls.{upload_calls};
 ghost use Rattle.grid_servers.specs.Opened.{AreOpened};
 ghost use Rattle.grid_shares.specs.Placing.{ArePlaced, AreUploaded};
@@ -21,6 +20,7 @@ use grid_rules::becoming::fault_of_loop;
 use grid_rules::{reached_happiness, turn_limit};
 use grid_servers::{Durability, Purpose, servers_without};
 use grid_telling::{Counting, Progress, Verb, note_servers};
+use operation_loop::Outside;
 use share_fetching::SharePlace;
 use std::alloc::Global;
 use std::io::{IsTerminal, Write};
@@ -97,8 +97,8 @@ where
     E: Write + IsTerminal,
     requires { IsDistinct nat_eq placing.now.servers.now }
     ensures { IfOk result (ArePlaced (upload_calls P.gives P.fails)
-        (IsCarriedOver (pair_calls R.Stream.contents R.Stream.remaining)) placing.now.grid.now
-        false placing.now.mend reading.now placing.now.servers.now ready) }
+        (grid_calls R.Stream.contents R.Stream.remaining) placing.now.grid.now false
+        placing.now.mend reading.now placing.now.servers.now ready) }
 {
     let mut kept = None;
     place_more(rt, placing, &mut kept, ready, reading, progress)
@@ -120,13 +120,13 @@ where
     P: Pieces + Drop,
     E: Write + IsTerminal,
     requires distinct { IsDistinct nat_eq placing.now.servers.now }
-    requires kept { IfSome kept.old (λ g. WereOpened (IsCarriedOver (pair_calls R.Stream.contents
-        R.Stream.remaining)) placing.now.grid.now g.grid) }
+    requires kept { IfSome kept.old (λ g. WereOpened
+        (grid_calls R.Stream.contents R.Stream.remaining) placing.now.grid.now g.grid) }
     ensures placed { IfOk result (ArePlaced (upload_calls P.gives P.fails)
-        (IsCarriedOver (pair_calls R.Stream.contents R.Stream.remaining)) placing.now.grid.now
-        (is_some kept.old) placing.now.mend reading.now placing.now.servers.now ready) }
-    ensures kept { IfSome kept.new (λ g. WereOpened (IsCarriedOver (pair_calls R.Stream.contents
-        R.Stream.remaining)) placing.now.grid.now g.grid) }
+        (grid_calls R.Stream.contents R.Stream.remaining) placing.now.grid.now (is_some kept.old)
+        placing.now.mend reading.now placing.now.servers.now ready) }
+    ensures kept { IfSome kept.new (λ g. WereOpened
+        (grid_calls R.Stream.contents R.Stream.remaining) placing.now.grid.now g.grid) }
 {
     let held = kept.take();
     let clearance = clear_servers(rt, placing, ready.goal(), reading, progress)?;
@@ -158,11 +158,11 @@ fn open_for<R>(
     clearance: Clearance,
 ) -> Result<OpenGrid<R>, Fault>
 where
-    R: Files + Net + RandomSource + AllocGlobal + Clone + Drop,
-    requires { IfSome held (λ g. WereOpened (IsCarriedOver (pair_calls R.Stream.contents
-        R.Stream.remaining)) placing.now.grid.now g.grid) }
-    ensures opened { IfOk result (λ g. WereOpened (IsCarriedOver (pair_calls R.Stream.contents
-        R.Stream.remaining)) placing.now.grid.now g.grid) }
+    R: Files + Net + Clock + RandomSource + AllocGlobal + Clone + Drop,
+    requires { IfSome held (λ g. WereOpened (grid_calls R.Stream.contents R.Stream.remaining)
+        placing.now.grid.now g.grid) }
+    ensures opened { IfOk result (λ g. WereOpened (grid_calls R.Stream.contents R.Stream.remaining)
+        placing.now.grid.now g.grid) }
     ensures anew { (is_some held && clearance.is_still) ≡ false
         → IfOk result (λ g. AreOpened placing.now.grid.now g.grid) }
 {
@@ -175,7 +175,7 @@ where
 // The servers that are held, where they may be asked for another upload.
 fn still_fitting<R>(held: Option<OpenGrid<R>>, clearance: &Clearance) -> Option<OpenGrid<R>>
 where
-    R: Files + Net + RandomSource + AllocGlobal + Clone + Drop,
+    R: Files + Net + Clock + RandomSource + AllocGlobal + Clone + Drop,
     ensures held { IfSome result (λ g. held ≡ Some g) }
     ensures still { IfSome result (λ _. clearance.now.is_still ≡ true) }
 {
@@ -200,12 +200,11 @@ where
     E: Write + IsTerminal,
     requires { IsDistinct nat_eq servers.now }
     ensures uploaded { IfOk result (AreUploaded (upload_calls P.gives P.fails)
-        (IsCarriedOver (pair_calls R.Stream.contents R.Stream.remaining)) standing.old.grid
-        standing.old.session servers.now ready) }
-    ensures opened { (grid : List ℕ) → WereOpened (IsCarriedOver (pair_calls R.Stream.contents
-        R.Stream.remaining)) grid standing.old.grid → IfOk result
-        (λ _. WereOpened (IsCarriedOver (pair_calls R.Stream.contents R.Stream.remaining)) grid
-        standing.new.grid) }
+        (grid_calls R.Stream.contents R.Stream.remaining) standing.old.grid standing.old.session
+        servers.now ready) }
+    ensures opened { (grid : List ℕ) → WereOpened (grid_calls R.Stream.contents R.Stream.remaining)
+        grid standing.old.grid → IfOk result (λ _. WereOpened
+        (grid_calls R.Stream.contents R.Stream.remaining) grid standing.new.grid) }
 {
     let session = standing.next_session();
     let (happy, turns, now) = (
@@ -214,8 +213,9 @@ where
         standing.nodes.clock(),
     );
     let upload = begin(rt.alloc(), ready, servers, session, now)?;
+    let alloc = rt.alloc();
     let nodes = &mut standing.nodes;
-    let upload = carry_upload(nodes, upload, turns, &mut *progress).map_err(fault_of_loop)?;
+    let upload = carry_upload(alloc, nodes, upload, turns, &mut *progress).map_err(fault_of_loop)?;
     let purpose = Purpose::Writing(placing.durability);
     note_servers(
         rt,

@@ -1,7 +1,7 @@
 //! `grid put`: a file becomes shares on servers, and a cap.
 
 ghost use Rattle.std.specs.Prelude.{◌≡◌, ◌≤◌, ◌<◌, ◌*◌, ◌/◌, ℕ, List, length, max, IfOk, IfSome};
-ghost use Rattle.std.specs.Prelude.{is_some, nat_eq, option_map};
+ghost use Rattle.std.specs.Prelude.{IsOk, is_some, nat_eq, option_map};
 ghost use Rattle.std.specs.List.{IsDistinct};
 ghost use Rattle.std.specs.String.{string_bytes};
 ghost use Rattle.tagged_hash.specs.ConvergentKey.{IsSecret};
@@ -11,8 +11,7 @@ ghost use Rattle.file_streaming.specs.Prepared.{IsPreparedFrom};
 ghost use Rattle.file_upload.specs.Prepared.{prepared_of, upload_of};
 ghost use Rattle.file_upload.specs.declared.prepared.FileUpload.TheVariants.{Literal, Shares};
 ghost use Rattle.sources.specs.Opened.{GivesOpened};
-ghost use Rattle.socket_links.specs.Ends.{pair_calls};
-ghost use Rattle.socket_links.specs.Links.{IsCarriedOver};
+ghost use Rattle.grid_servers.specs.Grids.{grid_calls};
 ghost use Rattle.streamed_upload.specs.Ready.{ready_stream};
 ghost use Rattle.streamed_upload.specs.Streamed.{Streaming};
 ghost use Rattle.upload_core.specs.Calls.{upload_calls};
@@ -97,8 +96,7 @@ where
     R: Files + io::Input + Net + Clock + RandomSource + AllocGlobal + Clone + Drop,
     E: Write + IsTerminal,
     ensures { IfOk result (IsPutAlone (GivesOpened R.File.stream_position R.File.stream_bytes
-        R.File.remaining) (IsCarriedOver (pair_calls R.Stream.contents R.Stream.remaining))
-        words.now) }
+        R.File.remaining) (grid_calls R.Stream.contents R.Stream.remaining) words.now) }
 {
     let choices = read_choices(rt, words, progress)?;
     let mut kept = None;
@@ -126,13 +124,13 @@ where
     R: Files + io::Input + Net + Clock + RandomSource + AllocGlobal + Clone + Drop,
     E: Write + IsTerminal,
     requires choices { AreChoicesBy words.now choices.now }
-    requires kept { IfSome kept.old (λ g. WereOpened (IsCarriedOver (pair_calls R.Stream.contents
-        R.Stream.remaining)) words.now.grid.now g.grid) }
+    requires kept { IfSome kept.old (λ g. WereOpened
+        (grid_calls R.Stream.contents R.Stream.remaining) words.now.grid.now g.grid) }
     ensures put { IfOk result (IsPutBy (GivesOpened R.File.stream_position R.File.stream_bytes
-        R.File.remaining) (IsCarriedOver (pair_calls R.Stream.contents R.Stream.remaining))
-        words.now (said_by choices.now) (is_some kept.old)) }
-    ensures kept { IfSome kept.new (λ g. WereOpened (IsCarriedOver (pair_calls R.Stream.contents
-        R.Stream.remaining)) words.now.grid.now g.grid) }
+        R.File.remaining) (grid_calls R.Stream.contents R.Stream.remaining) words.now
+        (said_by choices.now) (is_some kept.old)) }
+    ensures kept { IfSome kept.new (λ g. WereOpened
+        (grid_calls R.Stream.contents R.Stream.remaining) words.now.grid.now g.grid) }
 {
     let putting = Putting {
         words,
@@ -180,17 +178,17 @@ where
     R: Files + Net + Clock + RandomSource + AllocGlobal + Clone + Drop,
     E: Write + IsTerminal,
     requires said { IfSome putting.now.said (λ secret. IsSecret secret.now) }
-    requires kept { IfSome kept.old (λ g. WereOpened (IsCarriedOver (pair_calls R.Stream.contents
-        R.Stream.remaining)) putting.now.words.now.grid.now g.grid) }
+    requires kept { IfSome kept.old (λ g. WereOpened
+        (grid_calls R.Stream.contents R.Stream.remaining) putting.now.words.now.grid.now g.grid) }
     ensures small { length file.items < min_file_size → IfOk result (IsLiteralOf file.items) }
     ensures stored { min_file_size ≤ length file.items → IfOk result (λ put.
         (secret : List ℕ) × IfSome putting.now.said (λ said. secret ≡ said.now)
-        × IsPutOf whole_calls (IsCarriedOver (pair_calls R.Stream.contents R.Stream.remaining))
+        × IsPutOf whole_calls (grid_calls R.Stream.contents R.Stream.remaining)
         putting.now.words.now.grid.now (is_some kept.old) putting.now.words.now.mend
         (upload_of (prepared_of file.items secret putting.now.params.now))
         (prepared_of file.items secret putting.now.params.now).cap put) }
-    ensures kept { IfSome kept.new (λ g. WereOpened (IsCarriedOver (pair_calls R.Stream.contents
-        R.Stream.remaining)) putting.now.words.now.grid.now g.grid) }
+    ensures kept { IfSome kept.new (λ g. WereOpened
+        (grid_calls R.Stream.contents R.Stream.remaining) putting.now.words.now.grid.now g.grid) }
 {
     let size = file.as_slice().len();
     let secret = secret_for(rt, putting, size)?;
@@ -219,13 +217,13 @@ where
     requires said { IfSome putting.now.said (λ secret. IsSecret secret.now) }
     requires not_small { min_file_size ≤ size }
     requires numbers { putting.now.params.now ≡ numbers_of putting.now.words.now }
-    requires kept { IfSome kept.old (λ g. WereOpened (IsCarriedOver (pair_calls R.Stream.contents
-        R.Stream.remaining)) putting.now.words.now.grid.now g.grid) }
+    requires kept { IfSome kept.old (λ g. WereOpened
+        (grid_calls R.Stream.contents R.Stream.remaining) putting.now.words.now.grid.now g.grid) }
     ensures put { IfOk result (IsPutBy (GivesOpened R.File.stream_position R.File.stream_bytes
-        R.File.remaining) (IsCarriedOver (pair_calls R.Stream.contents R.Stream.remaining))
-        putting.now.words.now (option_map (λ s. s.now) putting.now.said) (is_some kept.old)) }
-    ensures kept { IfSome kept.new (λ g. WereOpened (IsCarriedOver (pair_calls R.Stream.contents
-        R.Stream.remaining)) putting.now.words.now.grid.now g.grid) }
+        R.File.remaining) (grid_calls R.Stream.contents R.Stream.remaining) putting.now.words.now
+        (option_map (λ s. s.now) putting.now.said) (is_some kept.old)) }
+    ensures kept { IfSome kept.new (λ g. WereOpened
+        (grid_calls R.Stream.contents R.Stream.remaining) putting.now.words.now.grid.now g.grid) }
 {
     may_put(rt, putting.words.grid, putting.is_known)?;
     let secret = secret_of(rt, putting.words.grid, putting.said)?;
@@ -249,17 +247,17 @@ where
     E: Write + IsTerminal,
     requires secret { IsSecret secret.now }
     requires not_small { min_file_size ≤ S.size source }
-    requires kept { IfSome kept.old (λ g. WereOpened (IsCarriedOver (pair_calls R.Stream.contents
-        R.Stream.remaining)) putting.now.words.now.grid.now g.grid) }
+    requires kept { IfSome kept.old (λ g. WereOpened
+        (grid_calls R.Stream.contents R.Stream.remaining) putting.now.words.now.grid.now g.grid) }
     ensures put { IfOk result (λ put. (stream : Streaming S)
         × IsPreparedFrom S.gives (S.size source) source secret.now
         (parameters_of putting.now.params.now) stream.kept stream.source
         × IsPutOf (streamed_calls S.gives S.failures)
-        (IsCarriedOver (pair_calls R.Stream.contents R.Stream.remaining))
-        putting.now.words.now.grid.now (is_some kept.old) putting.now.words.now.mend
+        (grid_calls R.Stream.contents R.Stream.remaining) putting.now.words.now.grid.now
+        (is_some kept.old) putting.now.words.now.mend
         (ready_stream stream putting.now.params.now.happy) stream.kept.cap put) }
-    ensures kept { IfSome kept.new (λ g. WereOpened (IsCarriedOver (pair_calls R.Stream.contents
-        R.Stream.remaining)) putting.now.words.now.grid.now g.grid) }
+    ensures kept { IfSome kept.new (λ g. WereOpened
+        (grid_calls R.Stream.contents R.Stream.remaining) putting.now.words.now.grid.now g.grid) }
 {
     let ready = prepare_stream(rt.alloc(), source, secret, putting.params);
     let ready = ready.map_err(fault_of_preparing)?;
@@ -268,10 +266,11 @@ where
 }
 
 /// Refuses what can be no grid's folder, and where only a grid that is marked is wanted, one that
-/// is not.
+/// is not. A path with no name is always refused.
 pub fn may_put<R>(rt: &R, grid: &str, is_known: bool) -> Result<(), Fault>
 where
     R: Files + AllocGlobal,
+    ensures { IsOk result → 0 < length grid.now }
 {
     can_be_grid(rt, grid)?;
     if is_known {
@@ -356,14 +355,13 @@ where
     R: Files + Net + Clock + RandomSource + AllocGlobal + Clone + Drop,
     P: Pieces + Drop,
     E: Write + IsTerminal,
-    requires { IfSome kept.old (λ g. WereOpened (IsCarriedOver (pair_calls R.Stream.contents
-        R.Stream.remaining)) putting.now.words.now.grid.now g.grid) }
+    requires { IfSome kept.old (λ g. WereOpened (grid_calls R.Stream.contents R.Stream.remaining)
+        putting.now.words.now.grid.now g.grid) }
     ensures put { IfOk result (IsPutOf (upload_calls P.gives P.fails)
-        (IsCarriedOver (pair_calls R.Stream.contents R.Stream.remaining))
-        putting.now.words.now.grid.now (is_some kept.old) putting.now.words.now.mend ready
-        cap.now) }
-    ensures kept { IfSome kept.new (λ g. WereOpened (IsCarriedOver (pair_calls R.Stream.contents
-        R.Stream.remaining)) putting.now.words.now.grid.now g.grid) }
+        (grid_calls R.Stream.contents R.Stream.remaining) putting.now.words.now.grid.now
+        (is_some kept.old) putting.now.words.now.mend ready cap.now) }
+    ensures kept { IfSome kept.new (λ g. WereOpened
+        (grid_calls R.Stream.contents R.Stream.remaining) putting.now.words.now.grid.now g.grid) }
 {
     let words = putting.words;
     let servers = first_servers(rt.alloc(), servers_for(rt, putting)?)?;

@@ -10,14 +10,14 @@ use grid_servers::{FIRST_SESSION, FolderGrid, Purpose, is_silent, open_servers};
 use std::marker::Model;
 use std::net::Net;
 use std::random::RandomSource;
-use std::rt::Files;
+use std::rt::{Clock, Files};
 use wire::message::NodeId;
 
 /// Servers of a grid that were opened for writing, over which uploads may have been carried since.
 #[derive(Drop)]
 pub struct OpenGrid<R>
 where
-    R: Files + Net + AllocGlobal + Clone + Drop,
+    R: Files + Net + Clock + AllocGlobal + Clone + Drop,
 {
     pub(crate) nodes: FolderGrid<R>,
     // The servers whose folders were listed as they were opened.
@@ -28,20 +28,19 @@ where
 
 impl<R> Model for OpenGrid<R>
 where
-    R: Files + Net + AllocGlobal + Clone + Drop,
+    R: Files + Net + Clock + AllocGlobal + Clone + Drop,
 {
-    ghost use Rattle.socket_links.specs.declared.ends.SocketPair.{SocketPair};
-    ghost use Rattle.socket_links.specs.declared.link.GridLink.{GridLink};
+    ghost use Rattle.grid_servers.specs.Grids.{FolderGridState};
     ghost use Rattle.grid_shares.specs.Standing.{Standing};
 
-    ghost Value = { Standing (GridLink (SocketPair R.Stream)) };
+    ghost Value = { Standing (FolderGridState R.Stream) };
 
     ghost view = { λ g. record { grid = g.nodes; session = g.session } };
 }
 
 impl<R> OpenGrid<R>
 where
-    R: Files + Net + RandomSource + AllocGlobal + Clone + Drop,
+    R: Files + Net + Clock + RandomSource + AllocGlobal + Clone + Drop,
 {
     /// Opens these servers of a grid, of which those are clear.
     pub(crate) fn open(

@@ -1,8 +1,9 @@
-use Rattle.std.proofs.Common.{◌==◌, ◌&&◌, Option, List, ℕ, length, ◌∙◌, ap, subst}
+use Rattle.std.proofs.Common.{◌==◌, ◌&&◌, IfSome, Option, List, ℕ, length, ◌∙◌, ap, subst, sym}
 use Rattle.std.specs.Prelude.{is_some}
 use Rattle.upload_core.specs.State.{Goal}
+use Rattle.grid_servers.specs.Grids.{grid_calls}
 use Rattle.grid_servers.specs.Servers.{servers_without}
-use Rattle.grid_shares.specs.Standing.{Standing}
+use Rattle.grid_shares.specs.Standing.{Standing, WereOpened}
 use Rattle.grid_shares.specs.Ways.{AreCleared}
 use Rattle.grid_shares.proofs.Placed.{used_as}
 use Rattle.grid_shares.proofs.StandingLemmas.{kept_open}
@@ -24,3 +25,8 @@ returns-clause-placed g c = record {
 
 pub returns-clause-kept : goal.returns-clause-kept
 returns-clause-kept g c = kept_open _ c.speaking.result c.args.placing.now.grid.now _ c.speaking.ensures (c.in_ok-happiness.ensures.opened c.args.placing.now.grid.now c.in_ok-standing.ensures.opened)
+
+-- none are held
+pub returns-in_err-happiness-clause-kept : goal.returns-in_err-happiness-clause-kept
+returns-in_err-happiness-clause-kept g c =
+    subst (λ (o : Option (Standing _)). IfSome o (λ s. WereOpened (grid_calls g.R.Stream.Write.contents g.R.Stream.Read.remaining) c.args.placing.now.grid.now s.grid)) (sym c.take-held.ensures.after) tt
