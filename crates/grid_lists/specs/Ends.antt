@@ -2,16 +2,16 @@
 use Rattle.std.specs.Prelude.{◌≡◌, ℕ, List, Option}
 use Rattle.std.specs.Io.KnownBytes.{Appends}
 use Rattle.sources.specs.Opened.{Opened}
-use Rattle.local_grid.specs.Nodes.{Carries}
 use Rattle.grid_lists.specs.Puts.{Fate, IsFate, fate_status, fate_text}
+use Rattle.grid_servers.specs.Grids.{GridCalls}
 use Rattle.grid_words.specs.declared.words.PutWords.{PutWords}
 
 -- a file of this name was stored or refused, with this status; the line of one that is stored was
 -- written
-pub record IsListed {F L : Type 0} (gives : Opened F → ℕ → List ℕ → Opened F → Type 0)
-    (carries : Carries L) (words : PutWords) (said : Option (List ℕ)) (name : List ℕ) (status : ℕ)
+pub record IsListed {F S : Type 0} (gives : Opened F → ℕ → List ℕ → Opened F → Type 0)
+    (calls : GridCalls S) (words : PutWords) (said : Option (List ℕ)) (name : List ℕ) (status : ℕ)
     (before after : Option (List ℕ)) : Type 0 where
   pub fate : Fate
-  pub is : IsFate gives carries words said name fate
+  pub is : IsFate gives calls words said name fate
   pub status_is : status ≡ fate_status fate
   pub written : Appends before after (fate_text name fate)

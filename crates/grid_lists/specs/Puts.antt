@@ -9,12 +9,12 @@ use Rattle.catalogues.specs.Heads.{IsHead, fingerprint_of}
 use Rattle.catalogues.specs.Lines.{line_text}
 use Rattle.catalogues.specs.declared.head.Head.{Head}
 use Rattle.catalogues.specs.declared.head.Numbers.{Numbers}
-use Rattle.local_grid.specs.Nodes.{Carries}
 use Rattle.grid_faults.specs.Fault.{fault_status}
 use Rattle.grid_faults.specs.declared.fault.Fault.{Fault}
 use Rattle.grid_shares.specs.Puts.{IsPutAlone, IsPutBy, put_status}
 use Rattle.grid_shares.specs.declared.Outcome.{Outcome}
 use Rattle.grid_shares.specs.declared.putting.PutFile.{PutFile}
+use Rattle.grid_servers.specs.Grids.{GridCalls}
 use Rattle.grid_telling.specs.declared.outcome.Failure.{Failure}
 use Rattle.grid_telling.specs.declared.outcome.Failure.TheVariants as failures
 use Rattle.grid_words.specs.declared.words.ListWords.{ListWords}
@@ -33,14 +33,14 @@ pub record Listed : Type 0 where
   pub name : List ℕ
   pub fate : Fate
 
--- it was stored by these words and the secret that is said, by servers that may have been kept open,
--- and its line may stand in a catalogue; of a refusal nothing is known
-abbrev pub IsFate : {F L : Type 0} → (Opened F → ℕ → List ℕ → Opened F → Type 0) → Carries L
+-- it was stored by these words and the secret that is said, at servers that may have been kept
+-- open, and its line may stand in a catalogue; of a refusal nothing is known
+abbrev pub IsFate : {F S : Type 0} → (Opened F → ℕ → List ℕ → Opened F → Type 0) → GridCalls S
     → PutWords → Option (List ℕ) → List ℕ → Fate → Type 0
-IsFate gives carries words said name (stored file) =
-    ((kept : Bool) × IsPutBy gives carries words said kept file)
+IsFate gives calls words said name (stored file) =
+    ((kept : Bool) × IsPutBy gives calls words said kept file)
     × IsEntry (record { cap = file.cap; name = name })
-IsFate gives carries words said name (refused fault) = ⊤
+IsFate gives calls words said name (refused fault) = ⊤
 
 -- the line of one that was stored
 abbrev pub fate_text : List ℕ → Fate → List ℕ
@@ -63,12 +63,12 @@ listed_status first l = status_after first (fate_status l.fate)
 
 -- Files with these names were put one after the other: those that were stored have their lines, and
 -- the status is the first that is not 0.
-pub record AreListed {F L : Type 0} (gives : Opened F → ℕ → List ℕ → Opened F → Type 0)
-    (carries : Carries L) (words : PutWords) (said : Option (List ℕ)) (names : List (List ℕ))
+pub record AreListed {F S : Type 0} (gives : Opened F → ℕ → List ℕ → Opened F → Type 0)
+    (calls : GridCalls S) (words : PutWords) (said : Option (List ℕ)) (names : List (List ℕ))
     (first status : ℕ) (before after : Option (List ℕ)) : Type 0 where
   pub listed : List Listed
   pub names_are : map (λ l. l.name) listed ≡ names
-  pub fates : AllByRecursion (λ l. IsFate gives carries words said l.name l.fate) listed
+  pub fates : AllByRecursion (λ l. IsFate gives calls words said l.name l.fate) listed
   pub status_is : status ≡ fold listed_status first listed
   pub written : Appends before after (flat_map listed_text listed)
 
@@ -100,8 +100,8 @@ listed_entries l = fate_entries l.name l.fate
 -- those that a list names. What was written is the catalogue of those that were stored, of which
 -- the first line tells the numbers and the secret. Which names a list has, and which secret a grid
 -- keeps, is what the system says.
-pub record IsPutList {F L : Type 0} (gives : Opened F → ℕ → List ℕ → Opened F → Type 0)
-    (carries : Carries L) (words : PutWords) (status : ℕ) (before after : Option (List ℕ))
+pub record IsPutList {F S : Type 0} (gives : Opened F → ℕ → List ℕ → Opened F → Type 0)
+    (calls : GridCalls S) (words : PutWords) (status : ℕ) (before after : Option (List ℕ))
     : Type 0 where
   pub secret : List ℕ
   pub head : Head
@@ -109,7 +109,7 @@ pub record IsPutList {F L : Type 0} (gives : Opened F → ℕ → List ℕ → O
   pub names : List (List ℕ)
   pub listed : List Listed
   pub names_are : map (λ l. l.name) listed ≡ map (λ f. f.now) words.files.items ++ names
-  pub fates : AllByRecursion (λ l. IsFate gives carries words (Some secret) l.name l.fate) listed
+  pub fates : AllByRecursion (λ l. IsFate gives calls words (Some secret) l.name l.fate) listed
   pub status_is : status ≡ fold listed_status 0 listed
   pub text : List ℕ
   pub catalogue : IsCatalogue text head (flat_map listed_entries listed)
@@ -123,11 +123,11 @@ is_unsaid (lists.Lines path) = false
 is_unsaid (lists.Nuls path) = false
 
 -- One file is named, and no list: what it came to is written.
-pub record IsPutOne {F L : Type 0} (gives : Opened F → ℕ → List ℕ → Opened F → Type 0)
-    (carries : Carries L) (words : PutWords) (status : ℕ) (before after : Option (List ℕ))
+pub record IsPutOne {F S : Type 0} (gives : Opened F → ℕ → List ℕ → Opened F → Type 0)
+    (calls : GridCalls S) (words : PutWords) (status : ℕ) (before after : Option (List ℕ))
     : Type 0 where
   pub outcome : Outcome
-  pub put : IsPutAlone gives carries words outcome
+  pub put : IsPutAlone gives calls words outcome
   pub written : Appends before after outcome.text.items
   pub status_is : status ≡ outcome.status
 
@@ -135,13 +135,13 @@ abbrev pub is_one : PutWords → Bool
 is_one words = length words.files.items == 1 && is_unsaid words.list
 
 -- What a put writes by its words.
-pub data IsPutDone {F L : Type 0} (gives : Opened F → ℕ → List ℕ → Opened F → Type 0)
-    (carries : Carries L) (words : PutWords) (status : ℕ) (before after : Option (List ℕ))
+pub data IsPutDone {F S : Type 0} (gives : Opened F → ℕ → List ℕ → Opened F → Type 0)
+    (calls : GridCalls S) (words : PutWords) (status : ℕ) (before after : Option (List ℕ))
     : Type 0 where
-  one : is_one words ≡ true → IsPutOne gives carries words status before after
-      → IsPutDone gives carries words status before after
-  many : is_one words ≡ false → IsPutList gives carries words status before after
-      → IsPutDone gives carries words status before after
+  one : is_one words ≡ true → IsPutOne gives calls words status before after
+      → IsPutDone gives calls words status before after
+  many : is_one words ≡ false → IsPutList gives calls words status before after
+      → IsPutDone gives calls words status before after
 
 -- Where it has no result, nothing was written of one file, unless it was `out` that failed; of many
 -- their catalogue may have been begun.

@@ -8,8 +8,7 @@ ghost use Rattle.catalogues.specs.Heads.{IsInRange, fingerprint_of, first_text};
 ghost use Rattle.catalogues.specs.Names.{IsName};
 ghost use Rattle.catalogues.specs.declared.head.Head.{Head};
 ghost use Rattle.sources.specs.Opened.{GivesOpened};
-ghost use Rattle.socket_links.specs.Ends.{pair_calls};
-ghost use Rattle.socket_links.specs.Links.{IsCarriedOver};
+ghost use Rattle.grid_servers.specs.Grids.{grid_calls};
 ghost use Rattle.grid_shares.specs.Puts.{AreChoicesBy, IsPutBy, said_by};
 ghost use Rattle.grid_shares.specs.Standing.{WereOpened};
 ghost use Rattle.grid_lists.specs.Ends.{IsListed};
@@ -60,8 +59,8 @@ where
     O: Write,
     E: Write + IsTerminal,
     ensures done { IfOk result (λ status. IsPutDone (GivesOpened R.File.stream_position
-        R.File.stream_bytes R.File.remaining) (IsCarriedOver (pair_calls R.Stream.contents
-        R.Stream.remaining)) words.now status (O.contents out.old) (O.contents out.new)) }
+        R.File.stream_bytes R.File.remaining) (grid_calls R.Stream.contents R.Stream.remaining)
+        words.now status (O.contents out.old) (O.contents out.new)) }
     ensures undone { IfErr result (λ failure. IsPutUndone (is_one words.now) failure
         (O.contents out.old) (O.contents out.new)) }
 {
@@ -103,8 +102,8 @@ where
     O: Write,
     E: Write + IsTerminal,
     ensures done { IfOk result (λ status. IsPutOne (GivesOpened R.File.stream_position
-        R.File.stream_bytes R.File.remaining) (IsCarriedOver (pair_calls R.Stream.contents
-        R.Stream.remaining)) words.now status (O.contents out.old) (O.contents out.new)) }
+        R.File.stream_bytes R.File.remaining) (grid_calls R.Stream.contents R.Stream.remaining)
+        words.now status (O.contents out.old) (O.contents out.new)) }
     ensures undone { IfErr result
         (λ failure. IsPutUndone true failure (O.contents out.old) (O.contents out.new)) }
 {
@@ -129,8 +128,8 @@ where
     O: Write,
     E: Write + IsTerminal,
     ensures { IfOk result (λ status. IsPutList (GivesOpened R.File.stream_position
-        R.File.stream_bytes R.File.remaining) (IsCarriedOver (pair_calls R.Stream.contents
-        R.Stream.remaining)) words.now status (O.contents out.old) (O.contents out.new)) }
+        R.File.stream_bytes R.File.remaining) (grid_calls R.Stream.contents R.Stream.remaining)
+        words.now status (O.contents out.old) (O.contents out.new)) }
 {
     let choices = read_choices(rt, words, progress)?;
     if is_input_twice(words) {
@@ -177,9 +176,8 @@ where
         × (said_by storing.now.choices.now ≡ Some secret)
         × IsHeadBy storing.now.words.now secret head × (line.now ≡ first_text head) }
     ensures { IfOk result (λ status. IsPutList (GivesOpened R.File.stream_position
-        R.File.stream_bytes R.File.remaining) (IsCarriedOver (pair_calls R.Stream.contents
-        R.Stream.remaining)) storing.now.words.now status (O.contents out.old)
-        (O.contents out.new)) }
+        R.File.stream_bytes R.File.remaining) (grid_calls R.Stream.contents R.Stream.remaining)
+        storing.now.words.now status (O.contents out.old) (O.contents out.new)) }
 {
     let words = storing.words;
     let files = bytes_of(rt.alloc(), words.files.as_slice())?;
@@ -210,8 +208,8 @@ where
     E: Write + IsTerminal,
     requires { AreChoicesBy storing.now.words.now storing.now.choices.now }
     ensures { IfOk result (λ status. AreListed (GivesOpened R.File.stream_position
-        R.File.stream_bytes R.File.remaining) (IsCarriedOver (pair_calls R.Stream.contents
-        R.Stream.remaining)) storing.now.words.now (said_by storing.now.choices.now)
+        R.File.stream_bytes R.File.remaining) (grid_calls R.Stream.contents R.Stream.remaining)
+        storing.now.words.now (said_by storing.now.choices.now)
         (map (λ f. f.now) files.now ++ map (λ n. n.now) names.now) 0 status (O.contents out.old)
         (O.contents out.new)) }
 {
@@ -237,14 +235,14 @@ where
     O: Write,
     E: Write + IsTerminal,
     requires choices { AreChoicesBy storing.now.words.now storing.now.choices.now }
-    requires kept { IfSome kept.old (λ g. WereOpened (IsCarriedOver (pair_calls R.Stream.contents
-        R.Stream.remaining)) storing.now.words.now.grid.now g.grid) }
+    requires kept { IfSome kept.old (λ g. WereOpened
+        (grid_calls R.Stream.contents R.Stream.remaining) storing.now.words.now.grid.now g.grid) }
     ensures listed { IfOk result (λ status. AreListed (GivesOpened R.File.stream_position
-        R.File.stream_bytes R.File.remaining) (IsCarriedOver (pair_calls R.Stream.contents
-        R.Stream.remaining)) storing.now.words.now (said_by storing.now.choices.now)
-        (map (λ n. n.now) names.now) first status (O.contents out.old) (O.contents out.new)) }
-    ensures kept { IfSome kept.new (λ g. WereOpened (IsCarriedOver (pair_calls R.Stream.contents
-        R.Stream.remaining)) storing.now.words.now.grid.now g.grid) }
+        R.File.stream_bytes R.File.remaining) (grid_calls R.Stream.contents R.Stream.remaining)
+        storing.now.words.now (said_by storing.now.choices.now) (map (λ n. n.now) names.now) first
+        status (O.contents out.old) (O.contents out.new)) }
+    ensures kept { IfSome kept.new (λ g. WereOpened
+        (grid_calls R.Stream.contents R.Stream.remaining) storing.now.words.now.grid.now g.grid) }
 {
     let mut status = first;
     for name in names {
@@ -276,14 +274,14 @@ where
     O: Write,
     E: Write + IsTerminal,
     requires choices { AreChoicesBy storing.now.words.now storing.now.choices.now }
-    requires kept { IfSome kept.old (λ g. WereOpened (IsCarriedOver (pair_calls R.Stream.contents
-        R.Stream.remaining)) storing.now.words.now.grid.now g.grid) }
+    requires kept { IfSome kept.old (λ g. WereOpened
+        (grid_calls R.Stream.contents R.Stream.remaining) storing.now.words.now.grid.now g.grid) }
     ensures listed { IfOk result (λ status. IsListed (GivesOpened R.File.stream_position
-        R.File.stream_bytes R.File.remaining) (IsCarriedOver (pair_calls R.Stream.contents
-        R.Stream.remaining)) storing.now.words.now (said_by storing.now.choices.now) name.now
-        status (O.contents out.old) (O.contents out.new)) }
-    ensures kept { IfSome kept.new (λ g. WereOpened (IsCarriedOver (pair_calls R.Stream.contents
-        R.Stream.remaining)) storing.now.words.now.grid.now g.grid) }
+        R.File.stream_bytes R.File.remaining) (grid_calls R.Stream.contents R.Stream.remaining)
+        storing.now.words.now (said_by storing.now.choices.now) name.now status (O.contents out.old)
+        (O.contents out.new)) }
+    ensures kept { IfSome kept.new (λ g. WereOpened
+        (grid_calls R.Stream.contents R.Stream.remaining) storing.now.words.now.grid.now g.grid) }
 {
     match put_named(rt, storing, name, has_input, kept, progress) {
         Ok(file) => write_line(rt.alloc(), &file, name, out),
@@ -307,15 +305,15 @@ where
     R: Files + io::Input + Net + Clock + RandomSource + AllocGlobal + Clone + Drop,
     E: Write + IsTerminal,
     requires choices { AreChoicesBy storing.now.words.now storing.now.choices.now }
-    requires kept { IfSome kept.old (λ g. WereOpened (IsCarriedOver (pair_calls R.Stream.contents
-        R.Stream.remaining)) storing.now.words.now.grid.now g.grid) }
+    requires kept { IfSome kept.old (λ g. WereOpened
+        (grid_calls R.Stream.contents R.Stream.remaining) storing.now.words.now.grid.now g.grid) }
     ensures put { IfOk result (λ file. (was_open : Bool) × IsPutBy (GivesOpened
-        R.File.stream_position R.File.stream_bytes R.File.remaining) (IsCarriedOver (pair_calls
-        R.Stream.contents R.Stream.remaining)) storing.now.words.now
+        R.File.stream_position R.File.stream_bytes R.File.remaining)
+        (grid_calls R.Stream.contents R.Stream.remaining) storing.now.words.now
         (said_by storing.now.choices.now) was_open file) }
     ensures name { IfOk result (λ _. IsName name.now) }
-    ensures kept { IfSome kept.new (λ g. WereOpened (IsCarriedOver (pair_calls R.Stream.contents
-        R.Stream.remaining)) storing.now.words.now.grid.now g.grid) }
+    ensures kept { IfSome kept.new (λ g. WereOpened
+        (grid_calls R.Stream.contents R.Stream.remaining) storing.now.words.now.grid.now g.grid) }
 {
     let path = path_of(rt.alloc(), name, has_input)?;
     if !has_input {
