@@ -2,14 +2,12 @@
 use Rattle.std.proofs.Common.{◌≡◌, ℕ, List, Option, Some, None, Result, Ok, Err, IfOk, IfSome, sym, subst, ◌∙◌}
 use Rattle.std.specs.Option.{ok_or}
 use Rattle.cap_text.specs.Cap.{VerifyCapValue}
-use Rattle.share_folders.specs.Folder.{FolderState, folder_calls}
 use Rattle.checker.specs.Moves.{Begins}
 use Rattle.checker.specs.Report.{IsReport}
 use Rattle.checker.specs.State.{CheckState}
 use Rattle.checker.specs.declared.status.Report.{Report}
-use Rattle.local_grid.specs.Nodes.{Carries}
-use Rattle.local_grid.specs.Turns.{GridState}
 use Rattle.carried_operations.specs.Checked.{IsCarried}
+use Rattle.grid_servers.specs.Grids.{FolderGridState, GridCalls}
 use Rattle.grid_servers.specs.Opened.{AreOpened}
 use Rattle.grid_repairs.specs.Checks.{IsChecked}
 use Rattle.grid_repairs.specs.Repairs.{IsRepairBy, IsRepairFor, IsRepairOf}
@@ -32,10 +30,10 @@ told_ok None e r P Q is weaker p = subst (λ (x : Result _ _). IfOk x Q) (sym is
 pub told_value : {A E : Type 0} (o : Option A) (e : E) (r : Result A E) (a : A) (P Q : A → Type 0) → r ≡ ok_or o e → r ≡ Ok a → ((b : A) → P b → Q b) → IfSome o P → Q a
 told_value o e r a P Q is was weaker p = subst (λ (x : Result _ _). IfOk x Q) was (told_ok o e r P Q is weaker p)
 
-module _ {L : Type 0} (carries : Carries L) (grid : List ℕ) (cap : VerifyCapValue) (servers : List ℕ) where
+module _ {S : Type 0} (calls : GridCalls S) (grid : List ℕ) (cap : VerifyCapValue) (servers : List ℕ) where
   -- a check that was carried, and its report
-  pub checked : (begun ended : CheckState) (before after : GridState FolderState L) (now : ℕ) → AreOpened grid before → now ≡ before.clock → Begins cap servers 1 now begun
-      → IsCarried folder_calls carries begun before ended after → (r : Report) → IsReport ended.cap ended.requests.entries r → IsChecked carries grid cap servers r
+  pub checked : (begun ended : CheckState) (before after : FolderGridState S) (now : ℕ) → AreOpened grid before → now ≡ calls.clock before → Begins cap servers 1 now begun
+      → IsCarried calls begun before ended after → (r : Report) → IsReport ended.cap ended.requests.entries r → IsChecked calls grid cap servers r
   checked begun ended before after now opened clock begins carried r report = record {
     before = before;
     opened = opened;
@@ -48,14 +46,14 @@ module _ {L : Type 0} (carries : Carries L) (grid : List ℕ) (cap : VerifyCapVa
   }
 
 -- what a repair tells by its words
-pub repair_told : {L : Type 0} (carries : Carries L) (words : RepairWords) (read : Cap) (of : Option VerifyCapValue) (cap : VerifyCapValue) (happy : ℕ) (servers used : List ℕ) → Spells words.cap.now read
+pub repair_told : {S : Type 0} (calls : GridCalls S) (words : RepairWords) (read : Cap) (of : Option VerifyCapValue) (cap : VerifyCapValue) (happy : ℕ) (servers used : List ℕ) → Spells words.cap.now read
     → of ≡ verify_of read → of ≡ Some cap → happy ≡ words.happy → servers ≡ used → IsDistinct nat_eq servers
-    → (r : Result Outcome Fault) → IfOk r (IsRepairOf carries words.grid.now words.mend cap happy used) → IfOk r (IsRepairBy carries words)
-repair_told carries words read of cap happy servers used spelled is some wanted same distinct r told = IfOk-weaker r _ _
+    → (r : Result Outcome Fault) → IfOk r (IsRepairOf calls words.grid.now words.mend cap happy used) → IfOk r (IsRepairBy calls words)
+repair_told calls words read of cap happy servers used spelled is some wanted same distinct r told = IfOk-weaker r _ _
     (λ outcome t. record {
       cap = read;
       spelled = spelled;
-      told = subst (λ (x : Option VerifyCapValue). IsRepairFor carries words x outcome) (sym some ∙ is)
-          (servers, distinct, subst (λ (s : List ℕ). IsRepairOf carries words.grid.now words.mend cap words.happy s outcome) (sym same) (subst (λ (h : ℕ). IsRepairOf carries words.grid.now words.mend cap h used outcome) wanted t));
+      told = subst (λ (x : Option VerifyCapValue). IsRepairFor calls words x outcome) (sym some ∙ is)
+          (servers, distinct, subst (λ (s : List ℕ). IsRepairOf calls words.grid.now words.mend cap words.happy s outcome) (sym same) (subst (λ (h : ℕ). IsRepairOf calls words.grid.now words.mend cap h used outcome) wanted t));
     })
     told

@@ -57,7 +57,7 @@ pub record AreMadeAnew {B : Type 0} (gives : Gives B) (fails : Fails B) (cap : V
 
 -- memory was refused: for leaves or a decoder, which the last read wanted that failed, or for a
 -- read of a share
-abbrev pub lacks_memory : {S L : Type 0} → Decoding (FetchedState S L) → Bool
+abbrev pub lacks_memory : {G : Type 0} → Decoding (FetchedState G) → Bool
 lacks_memory source = source.lacks_memory || source.candidates.bytes.lacks_memory
 
 -- Why no piece was given, of shares that are made anew from a source which can lack memory: a read

@@ -11,11 +11,10 @@ use Rattle.share_source.specs.Decoded.{Decoding, GivesDecoded}
 use Rattle.fetched_shares.specs.Fetched.{FetchedState, IsReadOver, IsUnread}
 use Rattle.streamed_upload.specs.RemadeStream.{RemadeStreaming}
 use Rattle.upload_core.specs.Ready.{Ready}
-use Rattle.share_folders.specs.Folder.{FolderState, folder_calls}
 use Rattle.checker.specs.Report.{good_pairs}
 use Rattle.checker.specs.declared.status.Report.{Report}
 use Rattle.checker.specs.declared.status.ShareVerdict.{ShareVerdict}
-use Rattle.local_grid.specs.Nodes.{Carries}
+use Rattle.grid_servers.specs.Grids.{FolderGridState, GridCalls}
 use Rattle.grid_servers.specs.Opened.{AreOpened}
 use Rattle.grid_words.specs.declared.words.RepairWords.{RepairWords}
 use Rattle.grid_repairs.specs.Checks.{IsChecked, literal_text, verify_of}
@@ -26,9 +25,9 @@ use Rattle.grid_shares.specs.declared.Outcome.{Outcome}
 use Rattle.grid_shares.specs.declared.placing.Stored.{Stored}
 
 -- The servers of a grid were opened at which these shares of a cap's file stand.
-pub record AreOpenedFor {L : Type 0} (grid : List ℕ) (cap : VerifyCapValue)
-    (places : List SharePlace) (bytes : FetchedState FolderState L) : Type 0 where
-  pub opened : AreOpened grid bytes.grid
+pub record AreOpenedFor {S : Type 0} (grid : List ℕ) (cap : VerifyCapValue)
+    (places : List SharePlace) (bytes : FetchedState (FolderGridState S)) : Type 0 where
+  pub opened : AreOpened grid bytes.outside
   pub index : bytes.index ≡ cap.storage_index
   pub places_are : bytes.places ≡ places
   pub first : bytes.session ≡ 1
@@ -43,38 +42,38 @@ pub record ArePlacesOfGood (verdicts : List ShareVerdict) (places : List SharePl
 -- A check found good shares of a cap's file, of as many numbers as are needed. All shares were made
 -- anew of some of these, which were read once where they stand, and they were placed on the same
 -- servers, each piece made of what was read once more; and this is told.
-pub record IsRepairOf {L : Type 0} (carries : Carries L) (grid : List ℕ) (mend : Bool)
+pub record IsRepairOf {S : Type 0} (calls : GridCalls S) (grid : List ℕ) (mend : Bool)
     (cap : VerifyCapValue) (happy : ℕ) (servers : List ℕ) (outcome : Outcome) : Type 0 where
   pub report : Report
-  pub checked : IsChecked carries grid cap servers report
+  pub checked : IsChecked calls grid cap servers report
   pub enough : report.recoverable ≡ true
   pub places : List SharePlace
   pub of_good : ArePlacesOfGood report.verdicts places
-  pub bytes : FetchedState FolderState L
+  pub bytes : FetchedState (FolderGridState S)
   pub opened : AreOpenedFor grid cap places bytes
-  pub made : Ready (RemadeStreaming (Decoding (FetchedState FolderState L)))
+  pub made : Ready (RemadeStreaming (Decoding (FetchedState (FolderGridState S))))
   pub reading : List SharePlace
-  pub anew : AreMadeAnew (IsReadOver folder_calls carries) (IsUnread folder_calls carries) cap happy
+  pub anew : AreMadeAnew (IsReadOver calls) (IsUnread calls) cap happy
       places bytes made reading
   pub stored : Stored
   pub placed : ArePlaced (remade_calls
-      (GivesDecoded (IsReadOver folder_calls carries) (IsUnread folder_calls carries))
-      (λ s. s.failures) lacks_memory) carries grid false mend reading servers made stored
+      (GivesDecoded (IsReadOver calls) (IsUnread calls))
+      (λ s. s.failures) lacks_memory) calls grid false mend reading servers made stored
   pub told : outcome.text.items ≡ codes "happiness " ++ (decimal stored.happiness ++ codes "\n")
   pub status_is : outcome.status ≡ stored_status stored.is_cleared
 
 -- What these words tell by the verify cap of their cap: that there is none, or what became of its
 -- shares at servers of the grid, each of which stands there once.
-abbrev pub IsRepairFor : {L : Type 0} → Carries L → RepairWords → Option VerifyCapValue → Outcome
+abbrev pub IsRepairFor : {S : Type 0} → GridCalls S → RepairWords → Option VerifyCapValue → Outcome
     → Type 0
-IsRepairFor carries words None outcome =
+IsRepairFor calls words None outcome =
     (outcome.text.items ≡ literal_text false) × (outcome.status ≡ 0)
-IsRepairFor carries words (Some cap) outcome = (servers : List ℕ) × IsDistinct nat_eq servers
-    × IsRepairOf carries words.grid.now words.mend cap words.happy servers outcome
+IsRepairFor calls words (Some cap) outcome = (servers : List ℕ) × IsDistinct nat_eq servers
+    × IsRepairOf calls words.grid.now words.mend cap words.happy servers outcome
 
 -- What a repair tells by its words, whose text is that of a cap.
-pub record IsRepairBy {L : Type 0} (carries : Carries L) (words : RepairWords) (outcome : Outcome)
+pub record IsRepairBy {S : Type 0} (calls : GridCalls S) (words : RepairWords) (outcome : Outcome)
     : Type 0 where
   pub cap : Cap
   pub spelled : Spells words.cap.now cap
-  pub told : IsRepairFor carries words (verify_of cap) outcome
+  pub told : IsRepairFor calls words (verify_of cap) outcome

@@ -3,9 +3,7 @@
 ghost use Rattle.std.specs.Prelude.{◌≡◌, ◌<◌, length, nat_eq, IfOk};
 ghost use Rattle.std.specs.List.{IsDistinct};
 ghost use Rattle.std.specs.String.{string_bytes};
-ghost use Rattle.share_folders.specs.Folder.{folder_calls};
-ghost use Rattle.socket_links.specs.Ends.{pair_calls};
-ghost use Rattle.socket_links.specs.Links.{IsCarriedOver};
+ghost use Rattle.grid_servers.specs.Grids.{grid_calls};
 ghost use Rattle.carried_operations.specs.Checked.{HasBegun, IsCarried};
 ghost use Rattle.grid_repairs.specs.Checks.{IsCheckBy, IsCheckOf, IsChecked, check_text};
 ghost use Rattle.grid_repairs.specs.Checks.{literal_text, verify_of};
@@ -22,6 +20,7 @@ use grid_servers::{FIRST_SESSION, FolderGrid, Purpose, asked_servers, open_serve
 use grid_shares::{Environment, Outcome};
 use grid_telling::{Counting, Progress, Verb, note_blame, note_servers};
 use grid_words::CheckWords;
+use operation_loop::Outside;
 use share_reading::Verdict;
 use std::alloc::Global;
 use std::io::{IsTerminal, Write};
@@ -51,8 +50,7 @@ pub fn check<R, E>(
 where
     R: Files + Net + Clock + RandomSource + AllocGlobal + Clone + Drop,
     E: Write + IsTerminal,
-    ensures { IfOk result (IsCheckBy (IsCarriedOver (pair_calls R.Stream.contents
-        R.Stream.remaining)) words.now) }
+    ensures { IfOk result (IsCheckBy (grid_calls R.Stream.contents R.Stream.remaining) words.now) }
 {
     let Some(cap) = verify_cap(read_cap(words.cap)?) else {
         return literal_outcome(rt.alloc(), words.json);
@@ -85,9 +83,8 @@ where
     R: Files + Net + Clock + RandomSource + AllocGlobal + Clone + Drop,
     E: Write + IsTerminal,
     requires { IsDistinct nat_eq servers.now }
-    ensures { IfOk result (IsCheckOf (IsCarriedOver (pair_calls R.Stream.contents
-        R.Stream.remaining)) words.now.grid.now cap servers.now words.now.json
-        words.now.strict) }
+    ensures { IfOk result (IsCheckOf (grid_calls R.Stream.contents R.Stream.remaining)
+        words.now.grid.now cap servers.now words.now.json words.now.strict) }
 {
     let total = cap.total();
     let found = find_shares(rt, words, servers, cap, progress);
@@ -161,14 +158,14 @@ where
     R: Files + Net + Clock + RandomSource + AllocGlobal + Clone + Drop,
     E: Write + IsTerminal,
     requires { IsDistinct nat_eq servers.now }
-    ensures { IfOk result (IsChecked (IsCarriedOver (pair_calls R.Stream.contents
-        R.Stream.remaining)) words.now.grid.now cap servers.now) }
+    ensures { IfOk result (IsChecked (grid_calls R.Stream.contents R.Stream.remaining)
+        words.now.grid.now cap servers.now) }
 {
     let mut nodes = open_servers(rt, words.grid, servers, Purpose::Reading, words.net)?;
     progress.begin(Verb::Check, Counting::Answered(share_bytes(&cap)), 0);
     let now = nodes.clock();
     let check = Check::start(rt.alloc(), cap, servers, FIRST_SESSION, now)?;
-    let check = carry(check, servers.len(), &mut nodes, progress)?;
+    let check = carry(rt.alloc(), check, servers.len(), &mut nodes, progress)?;
     note_servers(rt, words.grid, servers, &nodes, Purpose::Reading, progress)?;
     // One without a report found no memory.
     check.report(rt.alloc())?.ok_or(Fault::OutOfMemory)
@@ -188,6 +185,7 @@ fn check_limit(cap: &VerifyCap, servers: u64) -> u64 {
 
 /// Carries a check at so many servers to its end.
 pub(crate) fn carry<R, E>(
+    alloc: Global,
     check: Check,
     servers: usize,
     nodes: &mut FolderGrid<R>,
@@ -197,10 +195,9 @@ where
     R: Files + Net + Clock + RandomSource + AllocGlobal + Clone + Drop,
     E: Write + IsTerminal,
     requires { HasBegun check }
-    ensures { IfOk result (λ ended. IsCarried folder_calls
-        (IsCarriedOver (pair_calls R.Stream.contents R.Stream.remaining)) check nodes.old ended
-        nodes.new) }
+    ensures { IfOk result (λ ended. IsCarried (grid_calls R.Stream.contents R.Stream.remaining)
+        check nodes.old ended nodes.new) }
 {
     let limit = check_limit(check.cap(), servers as u64);
-    carry_check(nodes, check, limit, progress).map_err(fault_of_loop)
+    carry_check(alloc, nodes, check, limit, progress).map_err(fault_of_loop)
 }

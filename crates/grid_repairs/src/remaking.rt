@@ -13,11 +13,10 @@ use fetched_shares::FetchedShares;
 use file_remaking::{RemakeError, prepare_remade};
 use grid_faults::Fault;
 use grid_rules::becoming::fault_of_remaking;
-use local_grid::link::Link;
+use operation_loop::Outside;
 use share_fetching::SharePlace;
 use share_leaves::{ReadBlock, ShareBytes, read_block};
 use share_source::ShareSource;
-use share_store::store::Store;
 use std::alloc::{AllocError, Global};
 use streamed_upload::remade::ready_remade;
 use ueb::Ueb;
@@ -27,8 +26,8 @@ use zfec_code::CodeError;
 /// All shares of a file, made ready for their upload, and where the shares stand that are read for
 /// them.
 #[derive(Drop)]
-pub(crate) struct Made<S: Store + Drop, L: Link + Drop> {
-    pub ready: ReadyUpload<MadeShares<S, L>>,
+pub(crate) struct Made<G: Outside + Drop> {
+    pub ready: ReadyUpload<MadeShares<G>>,
     pub reading: Vec<SharePlace>,
 }
 
@@ -37,14 +36,14 @@ pub(crate) struct Made<S: Store + Drop, L: Link + Drop> {
 ///
 /// `SourceFault` where not as many shares can be read to the end as are needed, `Inconsistent`
 /// where these are no code word of the file, and as `prepare_remade` tells it.
-pub(crate) fn remake<S: Store + Drop, L: Link + Drop>(
+pub(crate) fn remake<G: Outside + Drop>(
     alloc: Global,
     cap: &VerifyCap,
     happy: u16,
-    bytes: FetchedShares<S, L>,
-) -> Result<Made<S, L>, Fault>
-    ensures { IfOk result (λ made. AreMadeAnew (IsReadOver S.calls L.carries)
-        (IsUnread S.calls L.carries) cap.now happy bytes.places bytes made.ready
+    bytes: FetchedShares<G>,
+) -> Result<Made<G>, Fault>
+    ensures { IfOk result (λ made. AreMadeAnew (IsReadOver G.calls)
+        (IsUnread G.calls) cap.now happy bytes.places bytes made.ready
         made.reading.items) }
 {
     let places = Vec::from_slice(alloc, bytes.places())?;

@@ -3,8 +3,7 @@
 
 ghost use Rattle.std.specs.Prelude.{◌≡◌, ◌≤◌, ◌<◌, IfOk, nat_eq, true};
 ghost use Rattle.std.specs.List.{IsDistinct};
-ghost use Rattle.socket_links.specs.Ends.{pair_calls};
-ghost use Rattle.socket_links.specs.Links.{IsCarriedOver};
+ghost use Rattle.grid_servers.specs.Grids.{grid_calls};
 ghost use Rattle.grid_repairs.specs.Checks.{IsChecked};
 ghost use Rattle.grid_repairs.specs.Repairs.{AreOpenedFor, IsRepairBy, IsRepairOf};
 
@@ -17,13 +16,12 @@ use checker::status::Report;
 use fetched_shares::FetchedShares;
 use grid_faults::{Fault, Limit};
 use grid_rules::read_cap;
-use grid_servers::{FIRST_SESSION, Purpose, asked_servers, open_servers};
+use grid_servers::{FIRST_SESSION, FolderGrid, Purpose, asked_servers, open_servers};
 use grid_shares::{Environment, Outcome, Placing, durability_of, place_shares};
 use grid_telling::{Counting, Progress, Verb, note_limits};
 use grid_words::RepairWords;
+use operation_loop::Outside;
 use share_fetching::SharePlace;
-use share_folders::folder::FolderStore;
-use socket_links::{GridLink, SocketPair};
 use std::alloc::{AllocError, Global};
 use std::io::{IsTerminal, Write};
 use std::net::Net;
@@ -32,7 +30,7 @@ use std::rt::{Clock, Files};
 use wire::message::NodeId;
 
 /// Shares at the servers of a grid in this process.
-type GridShares<R> = FetchedShares<FolderStore<R>, GridLink<SocketPair<<R as Net>::Stream>>>;
+type GridShares<R> = FetchedShares<FolderGrid<R>>;
 
 /// The greatest number of shares, and so of servers that may be wanted.
 const MAX_SHARES: u64 = 256;
@@ -48,8 +46,7 @@ pub fn repair<R, E>(
 where
     R: Files + Net + Clock + RandomSource + AllocGlobal + Clone + Drop,
     E: Write + IsTerminal,
-    ensures { IfOk result (IsRepairBy (IsCarriedOver (pair_calls R.Stream.contents
-        R.Stream.remaining)) words.now) }
+    ensures { IfOk result (IsRepairBy (grid_calls R.Stream.contents R.Stream.remaining) words.now) }
 {
     happy_within(rt, words.happy, MAX_SHARES, progress)?;
     let Some(cap) = verify_cap(read_cap(words.cap)?) else {
@@ -114,9 +111,8 @@ where
     R: Files + Net + Clock + RandomSource + AllocGlobal + Clone + Drop,
     E: Write + IsTerminal,
     requires { IsDistinct nat_eq placing.now.servers.now }
-    ensures { IfOk result (IsRepairOf (IsCarriedOver (pair_calls R.Stream.contents
-        R.Stream.remaining)) placing.now.grid.now placing.now.mend cap.now happy
-        placing.now.servers.now) }
+    ensures { IfOk result (IsRepairOf (grid_calls R.Stream.contents R.Stream.remaining)
+        placing.now.grid.now placing.now.mend cap.now happy placing.now.servers.now) }
 {
     let report = find_shares(rt, placing, cap, progress)?;
     let places = candidate_places(rt.alloc(), report.verdicts.as_slice())?;
@@ -141,8 +137,8 @@ where
     R: Files + Net + Clock + RandomSource + AllocGlobal + Clone + Drop,
     E: Write + IsTerminal,
     requires { IsDistinct nat_eq placing.now.servers.now }
-    ensures checked { IfOk result (IsChecked (IsCarriedOver (pair_calls R.Stream.contents
-        R.Stream.remaining)) placing.now.grid.now cap.now placing.now.servers.now) }
+    ensures checked { IfOk result (IsChecked (grid_calls R.Stream.contents R.Stream.remaining)
+        placing.now.grid.now cap.now placing.now.servers.now) }
     ensures enough { IfOk result (λ report. report.recoverable ≡ true) }
 {
     let (grid, servers) = (placing.grid, placing.servers);
@@ -150,7 +146,7 @@ where
     progress.begin(Verb::Repair, Counting::Answered(share_bytes(cap)), 0);
     let now = nodes.clock();
     let check = Check::start(rt.alloc(), *cap, servers, FIRST_SESSION, now)?;
-    let check = carry(check, servers.len(), &mut nodes, progress)?;
+    let check = carry(rt.alloc(), check, servers.len(), &mut nodes, progress)?;
     // One without a report found no memory.
     let report = check.report(rt.alloc())?.ok_or(Fault::OutOfMemory)?;
     note_report(rt, grid, &report, cap.total(), progress)?;
@@ -168,7 +164,7 @@ fn open_shares<R>(
     places: Vec<SharePlace>,
 ) -> Result<GridShares<R>, Fault>
 where
-    R: Files + Net + RandomSource + AllocGlobal + Clone + Drop,
+    R: Files + Net + Clock + RandomSource + AllocGlobal + Clone + Drop,
     ensures { IfOk result (AreOpenedFor placing.now.grid.now cap.now places.items) }
 {
     let servers = servers_with(rt.alloc(), placing.servers, &places)?;

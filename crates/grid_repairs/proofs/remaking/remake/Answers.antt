@@ -8,8 +8,8 @@ use Rattle.grid_repairs.proofs.remaking.remake.Goals as goal
 
 pub returns-in-Ok : goal.returns-in-Ok
 returns-in-Ok g c =
-    let gives = IsReadOver g.S.Store.calls g.L.Link.carries in
-    let fails = IsUnread g.S.Store.calls g.L.Link.carries in
+    let gives = IsReadOver g.G.Outside.calls in
+    let fails = IsUnread g.G.Outside.calls in
     let found = rw c.in-Some.is at c.in_ok-block.ensures.block in
     let same : c.in_ok-places.places.items ≡ c.args.bytes.places = c.in_ok-places.ensures.items ∙ c.places.ensures in
     let numbers = c.in_ok-numbers.ensures ∙ ap (map (λ (p : SharePlace). p.share)) (c.deref.ensures.value ∙ same) in

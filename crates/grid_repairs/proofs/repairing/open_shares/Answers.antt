@@ -5,8 +5,8 @@ use Rattle.grid_repairs.proofs.repairing.open_shares.Goals as goal
 
 pub returns : goal.returns
 returns g c = record {
-  opened = subst (λ (s : FetchedState _ _). AreOpened c.args.placing.now.grid.now s.grid) (sym c.new.ensures) c.in_ok-nodes.ensures;
-  index = ap (λ (s : FetchedState _ _). s.index) c.new.ensures ∙ c.storage_index-index.ensures.value;
-  places_are = ap (λ (s : FetchedState _ _). s.places) c.new.ensures;
-  first = ap (λ (s : FetchedState _ _). s.session) c.new.ensures;
+  opened = subst (λ (s : FetchedState _). AreOpened c.args.placing.now.grid.now s.outside) (sym c.new.ensures) c.in_ok-nodes.ensures;
+  index = ap (λ (s : FetchedState _). s.index) c.new.ensures ∙ c.storage_index-index.ensures.value;
+  places_are = ap (λ (s : FetchedState _). s.places) c.new.ensures;
+  first = ap (λ (s : FetchedState _). s.session) c.new.ensures;
 }

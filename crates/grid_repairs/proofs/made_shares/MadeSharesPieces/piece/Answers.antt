@@ -10,7 +10,7 @@ use Rattle.grid_repairs.proofs.made_shares.MadeSharesPieces.piece.Goals as goal
 
 pub returns-clause-ok : goal.returns-clause-ok
 returns-clause-ok g c =
-    let gives = GivesDecoded (IsReadOver g.S.Store.calls g.L.Link.carries) (IsUnread g.S.Store.calls g.L.Link.carries) in
+    let gives = GivesDecoded (IsReadOver g.G.Outside.calls) (IsUnread g.G.Outside.calls) in
     elim c.match-piece.branch [
       | in-Ok w ↦ subst (λ r. OnOk r (GaveRemade gives c.args.self.now c.args.share c.args.offset c.piece.new.out c.piece.new.self)) (sym w.result-is)
           (subst (λ s. GaveRemade gives s c.args.share c.args.offset c.piece.new.out c.piece.new.self) c.self.view_is w.in-Ok.ensures.ok)
@@ -19,8 +19,8 @@ returns-clause-ok g c =
 
 pub returns-clause-err : goal.returns-clause-err
 returns-clause-err g c =
-    let gives = GivesDecoded (IsReadOver g.S.Store.calls g.L.Link.carries) (IsUnread g.S.Store.calls g.L.Link.carries) in
-    let failures = λ (d : Decoding (FetchedState g.row.S.Denot g.row.L.Denot)). d.failures in
+    let gives = GivesDecoded (IsReadOver g.G.Outside.calls) (IsUnread g.G.Outside.calls) in
+    let failures = λ (d : Decoding (FetchedState g.row.G.Denot)). d.failures in
     elim c.match-piece.branch [
       | in-Ok w ↦ subst (λ r. IfErr r (λ fault. GaveNonePlaced gives failures lacks_memory c.args.self.now fault c.piece.new.self)) (sym w.result-is) tt
       | in-Err w ↦
