@@ -1,6 +1,5 @@
 //! Which row it is that words make.
 
-use grid_commands::Locks;
 use crate::acts::{
     compare, copy, count, keep, link, list, make_counted, make_folders, make_readonly, make_zeros,
     remove_each, rename, write_lines, write_text,
@@ -10,6 +9,7 @@ use crate::commands::{play_both, play_command};
 use crate::names::no_such_row;
 use crate::scripts::{play_script, play_scripts};
 use crate::trees::{alike, save};
+use grid_commands::Locks;
 use std::io;
 use std::net::Net;
 use std::random::RandomSource;

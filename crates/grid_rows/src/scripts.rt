@@ -1,8 +1,8 @@
 //! Scripts of worlds.
 
-use grid_commands::Locks;
 use crate::commands::{play_command, run};
 use crate::names::{first, no_such_row, number};
+use grid_commands::Locks;
 use std::alloc::Global;
 use std::net::Net;
 use std::random::RandomSource;
