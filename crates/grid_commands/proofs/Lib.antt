@@ -1,3 +1,4 @@
 mod Faulting
 mod RunLemmas
 mod ScrubLemmas
+mod ServeLemmas

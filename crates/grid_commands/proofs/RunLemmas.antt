@@ -4,7 +4,6 @@ use Rattle.std.specs.Prelude.{IsOkAnd, ⊤}
 use Rattle.std.specs.Borrow.{Bor}
 use Rattle.std.specs.Io.KnownBytes.{Appends}
 use Rattle.std.specs.String.{string_bytes}
-use Rattle.local_grid.specs.Nodes.{Carries}
 use Rattle.sources.specs.Opened.{Opened}
 use Rattle.world_script.specs.Script.{lines_of}
 use Rattle.world_script.specs.declared.ending.Ending.{Ending}
@@ -16,6 +15,7 @@ use Rattle.grid_lists.specs.Puts.{IsPutDone, IsPutUndone, is_one}
 use Rattle.grid_repairs.specs.Checks.{IsCheckBy}
 use Rattle.grid_repairs.specs.Repairs.{IsRepairBy}
 use Rattle.grid_shares.specs.declared.Outcome.{Outcome}
+use Rattle.grid_servers.specs.Grids.{GridCalls}
 use Rattle.grid_telling.specs.declared.outcome.Failure.{Failure}
 use Rattle.grid_words.specs.declared.words.CheckWords.{CheckWords}
 use Rattle.grid_words.specs.declared.words.GetWords.{GetWords}
@@ -61,67 +61,67 @@ no_failure (Ok status) = tt
 no_failure (Err failure) = tt
 
 -- where the range that was got was written, by the words
-pub got_to : {L : Type 0} (carries : Carries L) (words : GetWords) (file : Option (Bor (List ℕ))) (before after : Option (List ℕ)) → (file ≡ None → IsGotBy carries words before after)
-    → IfSome file (λ _. after ≡ before) → IsGotTo carries words file before after
-got_to carries words None before after out kept = out refl
-got_to carries words (Some path) before after out kept = kept
+pub got_to : {S : Type 0} (calls : GridCalls S) (words : GetWords) (file : Option (Bor (List ℕ))) (before after : Option (List ℕ)) → (file ≡ None → IsGotBy calls words before after)
+    → IfSome file (λ _. after ≡ before) → IsGotTo calls words file before after
+got_to calls words None before after out kept = out refl
+got_to calls words (Some path) before after out kept = kept
 
-pub begun_to : {L : Type 0} (carries : Carries L) (words : GetWords) (file : Option (Bor (List ℕ))) (failure : Failure) (before after : Option (List ℕ))
-    → (file ≡ None → UnlessWriter failure (IsBegunBy carries words before after)) → IfSome file (λ _. after ≡ before) → IsGetBegun carries words file failure before after
-begun_to carries words None failure before after out kept = out refl
-begun_to carries words (Some path) failure before after out kept = kept
+pub begun_to : {S : Type 0} (calls : GridCalls S) (words : GetWords) (file : Option (Bor (List ℕ))) (failure : Failure) (before after : Option (List ℕ))
+    → (file ≡ None → UnlessWriter failure (IsBegunBy calls words before after)) → IfSome file (λ _. after ≡ before) → IsGetBegun calls words file failure before after
+begun_to calls words None failure before after out kept = out refl
+begun_to calls words (Some path) failure before after out kept = kept
 
 -- what was done with the file of a name, if there is one
-pub filed_ok : {L : Type 0} (carries : Carries L) (words : GetWords) (file : Option (Bor (List ℕ))) (status : ℕ) (old new : Option (List FileAct)) → (file ≡ None → new ≡ old)
-    → IfSome file (λ path. IsFileBy carries words path.now (Ok tt) old new) → IsGetFiled carries words file (Ok status) old new
-filed_ok carries words None status old new same whole = same refl
-filed_ok carries words (Some path) status old new same whole = whole
+pub filed_ok : {S : Type 0} (calls : GridCalls S) (words : GetWords) (file : Option (Bor (List ℕ))) (status : ℕ) (old new : Option (List FileAct)) → (file ≡ None → new ≡ old)
+    → IfSome file (λ path. IsFileBy calls words path.now (Ok tt) old new) → IsGetFiled calls words file (Ok status) old new
+filed_ok calls words None status old new same whole = same refl
+filed_ok calls words (Some path) status old new same whole = whole
 
-pub filed_err : {L : Type 0} (carries : Carries L) (words : GetWords) (file : Option (Bor (List ℕ))) (failure : Failure) (old new : Option (List FileAct)) → (file ≡ None → new ≡ old)
-    → IfSome file (λ path. MayBeFileBy carries words path.now old new) → IsGetFiled carries words file (Err failure) old new
-filed_err carries words None failure old new same part = same refl
-filed_err carries words (Some path) failure old new same part = part
+pub filed_err : {S : Type 0} (calls : GridCalls S) (words : GetWords) (file : Option (Bor (List ℕ))) (failure : Failure) (old new : Option (List FileAct)) → (file ≡ None → new ≡ old)
+    → IfSome file (λ path. MayBeFileBy calls words path.now old new) → IsGetFiled calls words file (Err failure) old new
+filed_err calls words None failure old new same part = same refl
+filed_err calls words (Some path) failure old new same part = part
 
 -- the same contents of the same writer
 pub same_contents : {X W : Type 0} (contents : W → Option (List ℕ)) (file : Option X) (old new : W) → IfSome file (λ _. new ≡ old) → IfSome file (λ _. contents new ≡ contents old)
 same_contents contents None old new kept = tt
 same_contents contents (Some path) old new kept = ap contents kept
 
-module _ {F L : Type 0} (gives : Opened F → ℕ → List ℕ → Opened F → Type 0) (carries : Carries L) (request : Request) (r : Result ℕ Failure) (before after : Option (List ℕ)) (old new : Option (List FileAct)) where
-  by_request : (other : Request) → request ≡ other → IfOk r (λ status. IsDone gives carries other status before after) → IfErr r (λ failure. IsUndone carries other failure before after)
-      → AreFiled carries other r old new → IsRunBy gives carries request r before after old new
-  by_request other is done undone filed = subst (λ (q : Request). IsRunBy gives carries q r before after old new) (sym is) (record { done = done; undone = undone; filed = filed })
+module _ {F S : Type 0} (gives : Opened F → ℕ → List ℕ → Opened F → Type 0) (calls : GridCalls S) (request : Request) (r : Result ℕ Failure) (before after : Option (List ℕ)) (old new : Option (List FileAct)) where
+  by_request : (other : Request) → request ≡ other → IfOk r (λ status. IsDone gives calls other status before after) → IfErr r (λ failure. IsUndone calls other failure before after)
+      → AreFiled calls other r old new → IsRunBy gives calls request r before after old new
+  by_request other is done undone filed = subst (λ (q : Request). IsRunBy gives calls q r before after old new) (sym is) (record { done = done; undone = undone; filed = filed })
 
-  pub get_run : (words : GetWords) → request ≡ Get words → IfOk r (λ status. IsGet carries words status before after) → IfErr r (λ failure. IsGetBegun carries words words.output failure before after)
-      → IsGetFiled carries words words.output r old new → IsRunBy gives carries request r before after old new
+  pub get_run : (words : GetWords) → request ≡ Get words → IfOk r (λ status. IsGet calls words status before after) → IfErr r (λ failure. IsGetBegun calls words words.output failure before after)
+      → IsGetFiled calls words words.output r old new → IsRunBy gives calls request r before after old new
   get_run words is done undone filed = by_request (Get words) is done undone filed
 
   -- a command that does nothing with files of a name
   module _ (same : new ≡ old) where
     pub init_run : (words : InitWords) (came : Result (Vec ℕ Global) Fault) → request ≡ Init words → IfOk came (λ lines. IsInitBy words lines.items)
-        → IfOk r (λ status. IsOkAnd came (λ told. (status ≡ 0) × Appends before after told.items)) → IfErr r (λ failure. IsUnwritten failure before after) → IsRunBy gives carries request r before after old new
+        → IfOk r (λ status. IsOkAnd came (λ told. (status ≡ 0) × Appends before after told.items)) → IfErr r (λ failure. IsUnwritten failure before after) → IsRunBy gives calls request r before after old new
     init_run words came is of done undone = by_request (Init words) is (lines_written (IsInitBy words) came r before after of done) undone same
 
-    pub put_run : (words : PutWords) → request ≡ Put words → IfOk r (λ status. IsPutDone gives carries words status before after)
-        → IfErr r (λ failure. IsPutUndone (is_one words) failure before after) → IsRunBy gives carries request r before after old new
+    pub put_run : (words : PutWords) → request ≡ Put words → IfOk r (λ status. IsPutDone gives calls words status before after)
+        → IfErr r (λ failure. IsPutUndone (is_one words) failure before after) → IsRunBy gives calls request r before after old new
     put_run words is done undone = by_request (Put words) is done undone same
 
-    pub check_run : (words : CheckWords) (came : Result Outcome Fault) → request ≡ Check words → IfOk came (IsCheckBy carries words)
+    pub check_run : (words : CheckWords) (came : Result Outcome Fault) → request ≡ Check words → IfOk came (IsCheckBy calls words)
         → IfOk r (λ status. IsOkAnd came (λ told. (status ≡ told.status) × Appends before after told.text.items)) → IfErr r (λ failure. IsUnwritten failure before after)
-        → IsRunBy gives carries request r before after old new
-    check_run words came is of done undone = by_request (Check words) is (outcome_written (IsCheckBy carries words) came r before after of done) undone same
+        → IsRunBy gives calls request r before after old new
+    check_run words came is of done undone = by_request (Check words) is (outcome_written (IsCheckBy calls words) came r before after of done) undone same
 
-    pub repair_run : (words : RepairWords) (came : Result Outcome Fault) → request ≡ Repair words → IfOk came (IsRepairBy carries words)
+    pub repair_run : (words : RepairWords) (came : Result Outcome Fault) → request ≡ Repair words → IfOk came (IsRepairBy calls words)
         → IfOk r (λ status. IsOkAnd came (λ told. (status ≡ told.status) × Appends before after told.text.items)) → IfErr r (λ failure. IsUnwritten failure before after)
-        → IsRunBy gives carries request r before after old new
-    repair_run words came is of done undone = by_request (Repair words) is (outcome_written (IsRepairBy carries words) came r before after of done) undone same
+        → IsRunBy gives calls request r before after old new
+    repair_run words came is of done undone = by_request (Repair words) is (outcome_written (IsRepairBy calls words) came r before after of done) undone same
 
-    pub scrub_run : (words : ScrubWords) → request ≡ Scrub words → IfOk r (λ status. IsScrub words status before after) → IsRunBy gives carries request r before after old new
+    pub scrub_run : (words : ScrubWords) → request ≡ Scrub words → IfOk r (λ status. IsScrub words status before after) → IsRunBy gives calls request r before after old new
     scrub_run words is done = by_request (Scrub words) is done (no_failure r) same
 
-    pub world_run : (path : Bor (List ℕ)) → request ≡ World path → IfOk r (λ status. IsWorld status before after) → IfErr r (λ failure. IsUnwritten failure before after) → IsRunBy gives carries request r before after old new
+    pub world_run : (path : Bor (List ℕ)) → request ≡ World path → IfOk r (λ status. IsWorld status before after) → IfErr r (λ failure. IsUnwritten failure before after) → IsRunBy gives calls request r before after old new
     world_run path is done undone = by_request (World path) is done undone same
 
     pub describe_run : (text : Bor (List ℕ)) (came : Result (Vec ℕ Global) Fault) → request ≡ Describe text → IfOk came (λ lines. AreCapLines text.now lines.items)
-        → IfOk r (λ status. IsOkAnd came (λ told. (status ≡ 0) × Appends before after told.items)) → IfErr r (λ failure. IsUnwritten failure before after) → IsRunBy gives carries request r before after old new
+        → IfOk r (λ status. IsOkAnd came (λ told. (status ≡ 0) × Appends before after told.items)) → IfErr r (λ failure. IsUnwritten failure before after) → IsRunBy gives calls request r before after old new
     describe_run text came is of done undone = by_request (Describe text) is (lines_written (AreCapLines text.now) came r before after of done) undone same

@@ -6,7 +6,6 @@ use Rattle.std.specs.Io.KnownBytes.{Appends}
 use Rattle.std.specs.String.{string_bytes}
 use Rattle.cap_text.specs.CapText.{Spells}
 use Rattle.cap_text.specs.declared.cap.Cap.{Cap}
-use Rattle.local_grid.specs.Nodes.{Carries}
 use Rattle.sources.specs.Opened.{Opened}
 use Rattle.world_script.specs.Script.{lines_of}
 use Rattle.world_script.specs.declared.ending.Ending.{Ending}
@@ -18,13 +17,14 @@ use Rattle.grid_repairs.specs.Repairs.{IsRepairBy}
 use Rattle.grid_rules.specs.CapLines.{cap_lines}
 use Rattle.grid_rules.specs.Ending.{world_status}
 use Rattle.grid_shares.specs.declared.Outcome.{Outcome}
+use Rattle.grid_servers.specs.Grids.{GridCalls}
 use Rattle.grid_telling.specs.declared.outcome.Failure.{Failure}
 use Rattle.grid_telling.specs.declared.outcome.Failure.TheVariants as failures
 use Rattle.grid_words.specs.declared.words.GetWords.{GetWords}
 use Rattle.grid_words.specs.declared.words.Request.{Request}
 use Rattle.grid_words.specs.declared.words.Request.TheVariants.{Init, Put, Get, Check, Repair}
-use Rattle.grid_words.specs.declared.words.Request.TheVariants.{Scrub, World, Describe}
-use Rattle.grid_commands.specs.Exit.{IsExit}
+use Rattle.grid_words.specs.declared.words.Request.TheVariants.{Scrub, Serve, World, Describe}
+use Rattle.grid_commands.specs.Exit.{IsExit, IsServingEnd}
 use Rattle.grid_commands.specs.Inits.{IsInitBy}
 use Rattle.grid_commands.specs.Scrubs.{IsScrub}
 use Rattle.grid_commands.specs.Texts.{IsEndOf}
@@ -49,32 +49,32 @@ pub record ArePrinted (IsOf : List ℕ → Type 0) (status : ℕ) (before after 
   pub status_is : status ≡ 0
 
 -- The bytes of a range were written to `out`; or nothing was, where a file is named.
-abbrev pub IsGotTo : {L : Type 0} → Carries L → GetWords → Option (Bor (List ℕ))
+abbrev pub IsGotTo : {S : Type 0} → GridCalls S → GetWords → Option (Bor (List ℕ))
     → Option (List ℕ) → Option (List ℕ) → Type 0
-IsGotTo carries words None before after = IsGotBy carries words before after
-IsGotTo carries words (Some path) before after = after ≡ before
+IsGotTo calls words None before after = IsGotBy calls words before after
+IsGotTo calls words (Some path) before after = after ≡ before
 
-pub record IsGet {L : Type 0} (carries : Carries L) (words : GetWords) (status : ℕ)
+pub record IsGet {S : Type 0} (calls : GridCalls S) (words : GetWords) (status : ℕ)
     (before after : Option (List ℕ)) : Type 0 where
-  pub got : IsGotTo carries words words.output before after
+  pub got : IsGotTo calls words words.output before after
   pub status_is : status ≡ 0
 
 -- or a beginning of them, unless it was `out` that failed
-abbrev pub IsGetBegun : {L : Type 0} → Carries L → GetWords → Option (Bor (List ℕ)) → Failure
+abbrev pub IsGetBegun : {S : Type 0} → GridCalls S → GetWords → Option (Bor (List ℕ)) → Failure
     → Option (List ℕ) → Option (List ℕ) → Type 0
-IsGetBegun carries words None failure before after =
-    UnlessWriter failure (IsBegunBy carries words before after)
-IsGetBegun carries words (Some path) failure before after = after ≡ before
+IsGetBegun calls words None failure before after =
+    UnlessWriter failure (IsBegunBy calls words before after)
+IsGetBegun calls words (Some path) failure before after = after ≡ before
 
 -- The bytes of a range were handed to the file that is named, which was ended as whole; else it was
 -- not, or only with all of them.
-abbrev pub IsGetFiled : {L : Type 0} → Carries L → GetWords → Option (Bor (List ℕ))
+abbrev pub IsGetFiled : {S : Type 0} → GridCalls S → GetWords → Option (Bor (List ℕ))
     → Result ℕ Failure → Option (List FileAct) → Option (List FileAct) → Type 0
-IsGetFiled carries words None ended old new = new ≡ old
-IsGetFiled carries words (Some path) (Ok status) old new =
-    IsFileBy carries words path.now (Ok tt) old new
-IsGetFiled carries words (Some path) (Err failure) old new =
-    MayBeFileBy carries words path.now old new
+IsGetFiled calls words None ended old new = new ≡ old
+IsGetFiled calls words (Some path) (Ok status) old new =
+    IsFileBy calls words path.now (Ok tt) old new
+IsGetFiled calls words (Some path) (Err failure) old new =
+    MayBeFileBy calls words path.now old new
 
 -- A script that some text spells was run, that of the file that was read; and how it ended was
 -- written.
@@ -85,6 +85,11 @@ pub record IsWorld (status : ℕ) (before after : Option (List ℕ)) : Type 0 wh
   pub written : Appends before after (string_bytes ending.lines)
   pub status_is : status ≡ world_status ending.agrees
 
+-- A folder was served, until that ended. Nothing was written to `out`.
+pub record IsServing (status : ℕ) (before after : Option (List ℕ)) : Type 0 where
+  pub end : IsServingEnd status
+  pub unwritten : after ≡ before
+
 -- the lines of the cap that a text spells
 pub record AreCapLines (text lines : List ℕ) : Type 0 where
   pub cap : Cap
@@ -92,16 +97,17 @@ pub record AreCapLines (text lines : List ℕ) : Type 0 where
   pub told : lines ≡ cap_lines cap
 
 -- A request was done, with this status.
-abbrev pub IsDone : {F L : Type 0} → (Opened F → ℕ → List ℕ → Opened F → Type 0) → Carries L
+abbrev pub IsDone : {F S : Type 0} → (Opened F → ℕ → List ℕ → Opened F → Type 0) → GridCalls S
     → Request → ℕ → Option (List ℕ) → Option (List ℕ) → Type 0
-IsDone gives carries (Init words) = ArePrinted (IsInitBy words)
-IsDone gives carries (Put words) = IsPutDone gives carries words
-IsDone gives carries (Get words) = IsGet carries words
-IsDone gives carries (Check words) = IsWrittenOf (IsCheckBy carries words)
-IsDone gives carries (Repair words) = IsWrittenOf (IsRepairBy carries words)
-IsDone gives carries (Scrub words) = IsScrub words
-IsDone gives carries (World path) = IsWorld
-IsDone gives carries (Describe text) = ArePrinted (AreCapLines text.now)
+IsDone gives calls (Init words) = ArePrinted (IsInitBy words)
+IsDone gives calls (Put words) = IsPutDone gives calls words
+IsDone gives calls (Get words) = IsGet calls words
+IsDone gives calls (Check words) = IsWrittenOf (IsCheckBy calls words)
+IsDone gives calls (Repair words) = IsWrittenOf (IsRepairBy calls words)
+IsDone gives calls (Scrub words) = IsScrub words
+IsDone gives calls (Serve words) = IsServing
+IsDone gives calls (World path) = IsWorld
+IsDone gives calls (Describe text) = ArePrinted (AreCapLines text.now)
 
 -- By a fault nothing was written. Where `out` failed, it may have any beginning of the result.
 abbrev pub IsUnwritten : Failure → Option (List ℕ) → Option (List ℕ) → Type 0
@@ -109,34 +115,40 @@ IsUnwritten failures.Writer before after = ⊤
 IsUnwritten (failures.Fault fault) before after = after ≡ before
 
 -- A request was left undone. A get writes as it reads, a put of many tells of one file after
--- another, and so does a scrub.
-abbrev pub IsUndone : {L : Type 0} → Carries L → Request → Failure → Option (List ℕ)
+-- another, and so does a scrub. How serving ends is all told by its status.
+abbrev pub IsUndone : {S : Type 0} → GridCalls S → Request → Failure → Option (List ℕ)
     → Option (List ℕ) → Type 0
-IsUndone carries (Get words) failure before after =
-    IsGetBegun carries words words.output failure before after
-IsUndone carries (Put words) failure before after =
+IsUndone calls (Get words) failure before after =
+    IsGetBegun calls words words.output failure before after
+IsUndone calls (Put words) failure before after =
     IsPutUndone (is_one words) failure before after
-IsUndone carries (Scrub words) failure before after = ⊤
-IsUndone carries request failure before after = IsUnwritten failure before after
+IsUndone calls (Scrub words) failure before after = ⊤
+IsUndone calls (Serve words) failure before after = ⊥
+IsUndone calls request failure before after = IsUnwritten failure before after
 
 -- Files of a name are what a get is asked for alone.
-abbrev pub AreFiled : {L : Type 0} → Carries L → Request → Result ℕ Failure
+abbrev pub AreFiled : {S : Type 0} → GridCalls S → Request → Result ℕ Failure
     → Option (List FileAct) → Option (List FileAct) → Type 0
-AreFiled carries (Get words) ended old new = IsGetFiled carries words words.output ended old new
-AreFiled carries request ended old new = new ≡ old
+AreFiled calls (Get words) ended old new = IsGetFiled calls words words.output ended old new
+AreFiled calls request ended old new = new ≡ old
 
 -- A request ended so.
-pub record IsRunBy {F L : Type 0} (gives : Opened F → ℕ → List ℕ → Opened F → Type 0)
-    (carries : Carries L) (request : Request) (ended : Result ℕ Failure)
+pub record IsRunBy {F S : Type 0} (gives : Opened F → ℕ → List ℕ → Opened F → Type 0)
+    (calls : GridCalls S) (request : Request) (ended : Result ℕ Failure)
     (before after : Option (List ℕ)) (old new : Option (List FileAct)) : Type 0 where
-  pub done : IfOk ended (λ status. IsDone gives carries request status before after)
-  pub undone : IfErr ended (λ failure. IsUndone carries request failure before after)
-  pub filed : AreFiled carries request ended old new
+  pub done : IfOk ended (λ status. IsDone gives calls request status before after)
+  pub undone : IfErr ended (λ failure. IsUndone calls request failure before after)
+  pub filed : AreFiled calls request ended old new
 
 -- A request ended somehow, and this is the exit status.
-pub record IsServedBy {F L : Type 0} (gives : Opened F → ℕ → List ℕ → Opened F → Type 0)
-    (carries : Carries L) (request : Request) (status : ℕ) (before after : Option (List ℕ))
+pub record IsServedBy {F S : Type 0} (gives : Opened F → ℕ → List ℕ → Opened F → Type 0)
+    (calls : GridCalls S) (request : Request) (status : ℕ) (before after : Option (List ℕ))
     (old new : Option (List FileAct)) : Type 0 where
   pub ended : Result ℕ Failure
-  pub run : IsRunBy gives carries request ended before after old new
+  pub run : IsRunBy gives calls request ended before after old new
   pub exit : IsExit ended status
+
+-- Each other request than to serve ends by itself. For private clauses.
+abbrev pub EndsByItself : Request → Type 0
+EndsByItself (Serve words) = ⊥
+EndsByItself request = ⊤

@@ -6,6 +6,8 @@ use Rattle.clap.specs.declared.error.kind.ErrorKind.{ErrorKind}
 use Rattle.clap.specs.declared.error.kind.ErrorKind.TheVariants as kinds
 use Rattle.grid_faults.specs.Fault.{fault_status}
 use Rattle.grid_faults.specs.declared.fault.Fault.TheVariants as faults
+use Rattle.grid_serve.specs.Faults.{serve_status}
+use Rattle.grid_serve.specs.declared.fault.ServeFault.{ServeFault}
 use Rattle.grid_telling.specs.declared.outcome.Failure.{Failure}
 use Rattle.grid_telling.specs.declared.outcome.Failure.TheVariants as failures
 
@@ -27,6 +29,16 @@ IsToldAs status exit = (exit ≡ status) ⊎ (exit ≡ 7)
 abbrev pub IsExit : Result ℕ Failure → ℕ → Type 0
 IsExit (Ok status) exit = exit ≡ status
 IsExit (Err failure) exit = IsToldAs (failure_status failure) exit
+
+-- A folder was served until it ended so, and this is the exit status.
+abbrev pub IsServingExit : Result (Unit {0}) ServeFault → ℕ → Type 0
+IsServingExit (Ok done) exit = exit ≡ 0
+IsServingExit (Err fault) exit = IsToldAs (serve_status fault) exit
+
+-- The same, however it ended.
+pub record IsServingEnd (exit : ℕ) : Type 0 where
+  pub ended : Result (Unit {0}) ServeFault
+  pub told : IsServingExit ended exit
 
 -- the status of words that ask for no command, and of those that ask for help
 abbrev pub words_status : ErrorKind → ℕ

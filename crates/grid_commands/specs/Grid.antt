@@ -3,9 +3,9 @@ use Rattle.std.specs.Prelude.{◌≡◌, ℕ, List, Option, true}
 use Rattle.clap.specs.Words.{Text, kind_of, subcommand_of, takes}
 use Rattle.clap.specs.declared.error.Error.{Error}
 use Rattle.clap.specs.declared.error.kind.ErrorKind.TheVariants.{OutOfMemory}
-use Rattle.local_grid.specs.Nodes.{Carries}
 use Rattle.sources.specs.Opened.{Opened}
 use Rattle.grid_gets.specs.Files.{FileAct}
+use Rattle.grid_servers.specs.Grids.{GridCalls}
 use Rattle.grid_words.specs.Asked.{IsAsked}
 use Rattle.grid_words.specs.CommandLine.{grid_app}
 use Rattle.grid_words.specs.declared.words.Request.{Request}
@@ -13,13 +13,13 @@ use Rattle.grid_commands.specs.Commands.{IsServedBy}
 use Rattle.grid_commands.specs.Exit.{IsToldAs, words_status}
 
 -- The words ask for a command, which was served; or they were refused, and why is told.
-pub data IsGridBy {F L : Type 0} (gives : Opened F → ℕ → List ℕ → Opened F → Type 0)
-    (carries : Carries L) (words : List Text) (status : ℕ) (before after : Option (List ℕ))
+pub data IsGridBy {F S : Type 0} (gives : Opened F → ℕ → List ℕ → Opened F → Type 0)
+    (calls : GridCalls S) (words : List Text) (status : ℕ) (before after : Option (List ℕ))
     (old new : Option (List FileAct)) : Type 0 where
   served : (request : Request) → IsAsked (subcommand_of grid_app words) request
-      → IsServedBy gives carries request status before after old new
-      → IsGridBy gives carries words status before after old new
+      → IsServedBy gives calls request status before after old new
+      → IsGridBy gives calls words status before after old new
   refused : (error : Error)
       → (takes grid_app words ≡ true → kind_of error ≡ OutOfMemory)
       → IsToldAs (words_status (kind_of error)) status → new ≡ old
-      → IsGridBy gives carries words status before after old new
+      → IsGridBy gives calls words status before after old new

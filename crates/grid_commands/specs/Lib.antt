@@ -8,3 +8,4 @@ pub mod Grid
 -- the words of private clauses
 pub mod Faults
 pub mod Scrubbing
+pub mod Serving

@@ -10,7 +10,7 @@ ghost use Rattle.grid_commands.specs.Exit.{IsExit, IsToldAs, words_status};
 use clap::error::ErrorKind;
 use grid_faults::{Fault, reason_line};
 use grid_telling::{Failure, print};
-use std::alloc::Global;
+use std::alloc::{AllocError, Global};
 use std::io::Write;
 
 /// The exit status of what is done.
@@ -37,11 +37,26 @@ pub(crate) fn exit_of<E: Write>(alloc: Global, ended: Result<u8, Failure>, err: 
 pub(crate) fn report<E: Write>(alloc: Global, err: &mut E, fault: &Fault) -> u8
     ensures { IsToldAs (fault_status fault.now) result }
 {
-    if let Ok(Some(line)) = reason_line(alloc, fault) {
-        let _ = err.write_all(line.as_bytes());
+    let reason = reason_line(alloc, fault);
+    let line = format!(in alloc; "grid: {} {fault}\n", fault.number());
+    tell_fault(err, reason, line, fault.status())
+}
+
+/// Writes a fault's line, with the line that tells why before it, if there is one, and gives this
+/// exit status.
+pub(crate) fn tell_fault<E: Write>(
+    err: &mut E,
+    reason: Result<Option<String>, AllocError>,
+    line: Result<String, AllocError>,
+    status: u8,
+) -> u8
+    ensures { IsToldAs status result }
+{
+    if let Ok(Some(reason)) = reason {
+        let _ = err.write_all(reason.as_bytes());
     }
-    match format!(in alloc; "grid: {} {fault}\n", fault.number()) {
-        Ok(line) => write(err, line.as_bytes(), fault.status()),
+    match line {
+        Ok(line) => write(err, line.as_bytes(), status),
         Err(_) => write(err, b"grid: 1 OutOfMemory\n", FAILED),
     }
 }

@@ -4,7 +4,8 @@
 //! marks the folders of a grid and of its servers. A `put` stores shares, in `grid_shares`, of one
 //! file or of many, in `grid_lists`; a `check` and a `repair` look at those that are stored, in
 //! `grid_repairs`; a `get` is one download or several, in `grid_gets`; a `scrub` reads the servers'
-//! folders; `world` runs a script, whose text is read whole before anything runs.
+//! folders; a `serve` is one server of a grid, until the process is ended; `world` runs a script,
+//! whose text is read whole before anything runs.
 //! Which words there are stands in `grid_words`, and what is told in `grid_faults`, `grid_rules`
 //! and `grid_telling`.
 #![tactic(auto)]
@@ -16,19 +17,20 @@ mod running;
 mod script;
 mod scrub;
 mod scrub_telling;
+mod serving;
 
 ghost use Rattle.std.specs.Prelude.{◌≡◌, IfErr, IfOk, IsOkAnd, map};
 ghost use Rattle.std.specs.Io.KnownBytes.{Appends};
 ghost use Rattle.std.specs.IoError.{error_kind};
-ghost use Rattle.grid_commands.specs.Commands.{AreCapLines, IsGet, IsGetBegun, IsGetFiled};
-ghost use Rattle.grid_commands.specs.Commands.{IsRunBy, IsServedBy, IsUnwritten};
+ghost use Rattle.grid_commands.specs.Commands.{AreCapLines, EndsByItself, IsGet, IsGetBegun};
+ghost use Rattle.grid_commands.specs.Commands.{IsGetFiled, IsRunBy, IsServedBy, IsUnwritten};
 ghost use Rattle.grid_commands.specs.Exit.{IsToldAs, unread_status};
 ghost use Rattle.grid_commands.specs.Grid.{IsGridBy};
-ghost use Rattle.socket_links.specs.Ends.{pair_calls};
-ghost use Rattle.socket_links.specs.Links.{IsCarriedOver};
+ghost use Rattle.grid_servers.specs.Grids.{grid_calls};
 ghost use Rattle.sources.specs.Opened.{GivesOpened};
 
 use crate::exit::{DONE, WRONG_WORDS, exit_of, report, tell_words, write, written};
+use crate::serving::serve_folder;
 use grid_faults::Fault;
 use grid_gets::get;
 pub use grid_gets::{DiskFiles, NamedFiles};
@@ -45,6 +47,7 @@ use std::io::{self, IsTerminal};
 use std::net::Net;
 use std::random::RandomSource;
 use std::rt::{Clock, Files};
+pub use user_files::Locks;
 
 /// Runs the command that `words` asks for, of which the first is the program's name. Its result
 /// goes to `out`, and a fault, as one line with its number and name, to `err`. A `get` writes as it
@@ -76,14 +79,14 @@ pub fn grid<R, S, F, O, E>(
     err: &mut E,
 ) -> u8
 where
-    R: Files + io::Input + Net + Clock + RandomSource + AllocGlobal + Clone + Drop,
+    R: Files + io::Input + Net + Clock + RandomSource + Locks + AllocGlobal + Clone + Drop,
     S: AsStr,
     F: NamedFiles,
     O: io::Write,
     E: io::Write + IsTerminal,
     ensures { IsGridBy (GivesOpened R.File.stream_position R.File.stream_bytes R.File.remaining)
-        (IsCarriedOver (pair_calls R.Stream.contents R.Stream.remaining)) (map S.text words.now)
-        result (O.contents out.old) (O.contents out.new) (F.acts files.old) (F.acts files.new) }
+        (grid_calls R.Stream.contents R.Stream.remaining) (map S.text words.now) result
+        (O.contents out.old) (O.contents out.new) (F.acts files.old) (F.acts files.new) }
 {
     match read_words(rt.alloc(), words) {
         Ok(request) => serve(rt, &request, environment, files, out, err),
@@ -101,13 +104,38 @@ fn serve<R, F, O, E>(
     err: &mut E,
 ) -> u8
 where
-    R: Files + io::Input + Net + Clock + RandomSource + AllocGlobal + Clone + Drop,
+    R: Files + io::Input + Net + Clock + RandomSource + Locks + AllocGlobal + Clone + Drop,
     F: NamedFiles,
     O: io::Write,
     E: io::Write + IsTerminal,
     ensures { IsServedBy (GivesOpened R.File.stream_position R.File.stream_bytes R.File.remaining)
-        (IsCarriedOver (pair_calls R.Stream.contents R.Stream.remaining)) request.now result
-        (O.contents out.old) (O.contents out.new) (F.acts files.old) (F.acts files.new) }
+        (grid_calls R.Stream.contents R.Stream.remaining) request.now result (O.contents out.old)
+        (O.contents out.new) (F.acts files.old) (F.acts files.new) }
+{
+    match request {
+        Request::Serve(words) => serve_folder(rt, words, err),
+        _ => perform(rt, request, environment, files, out, err),
+    }
+}
+
+// Runs a command that ends by itself, and gives the exit status.
+fn perform<R, F, O, E>(
+    rt: &R,
+    request: &Request<'_>,
+    environment: &Environment<'_>,
+    files: &mut F,
+    out: &mut O,
+    err: &mut E,
+) -> u8
+where
+    R: Files + io::Input + Net + Clock + RandomSource + AllocGlobal + Clone + Drop,
+    F: NamedFiles,
+    O: io::Write,
+    E: io::Write + IsTerminal,
+    requires { EndsByItself request.now }
+    ensures { IsServedBy (GivesOpened R.File.stream_position R.File.stream_bytes R.File.remaining)
+        (grid_calls R.Stream.contents R.Stream.remaining) request.now result (O.contents out.old)
+        (O.contents out.new) (F.acts files.old) (F.acts files.new) }
 {
     let mut progress = Progress::new(rt, &mut *err);
     progress.set_verbose(request.is_verbose());
@@ -144,9 +172,10 @@ where
     F: NamedFiles,
     O: io::Write,
     E: io::Write + IsTerminal,
+    requires { EndsByItself request.now }
     ensures { IsRunBy (GivesOpened R.File.stream_position R.File.stream_bytes R.File.remaining)
-        (IsCarriedOver (pair_calls R.Stream.contents R.Stream.remaining)) request.now result
-        (O.contents out.old) (O.contents out.new) (F.acts files.old) (F.acts files.new) }
+        (grid_calls R.Stream.contents R.Stream.remaining) request.now result (O.contents out.old)
+        (O.contents out.new) (F.acts files.old) (F.acts files.new) }
 {
     match request {
         Request::Init(words) => printed(out, init::init(rt, words, progress)),
@@ -155,6 +184,7 @@ where
         Request::Check(words) => told(out, check(rt, words, environment, progress)),
         Request::Repair(words) => told(out, repair(rt, words, environment, progress)),
         Request::Scrub(words) => scrub::scrub(rt, words, environment, out, progress),
+        Request::Serve(_) => unreachable!(),
         Request::World(path) => script::world(rt, path, out),
         Request::Describe(text) => printed(out, describe(rt.alloc(), text)),
     }
@@ -174,13 +204,13 @@ where
     F: NamedFiles,
     O: io::Write,
     E: io::Write + IsTerminal,
-    ensures done { IfOk result (λ status. IsGet (IsCarriedOver (pair_calls R.Stream.contents
-        R.Stream.remaining)) words.now status (O.contents out.old) (O.contents out.new)) }
-    ensures undone { IfErr result (λ failure. IsGetBegun (IsCarriedOver (pair_calls
-        R.Stream.contents R.Stream.remaining)) words.now words.now.output failure
+    ensures done { IfOk result (λ status. IsGet (grid_calls R.Stream.contents R.Stream.remaining)
+        words.now status (O.contents out.old) (O.contents out.new)) }
+    ensures undone { IfErr result (λ failure. IsGetBegun
+        (grid_calls R.Stream.contents R.Stream.remaining) words.now words.now.output failure
         (O.contents out.old) (O.contents out.new)) }
-    ensures filed { IsGetFiled (IsCarriedOver (pair_calls R.Stream.contents R.Stream.remaining))
-        words.now words.now.output result (F.acts files.old) (F.acts files.new) }
+    ensures filed { IsGetFiled (grid_calls R.Stream.contents R.Stream.remaining) words.now
+        words.now.output result (F.acts files.old) (F.acts files.new) }
 {
     let is_known = words.known || environment.known;
     match get(rt, words, is_known, files, out, progress) {

@@ -11,7 +11,7 @@ use crate::scrub_telling::{Telling, last_text, tell_file, tell_folder};
 use grid_faults::Fault;
 use grid_marks::{server_folder, try_mark};
 use grid_rules::Scrubbed;
-use grid_servers::asked_servers;
+use grid_servers::folder_servers;
 use grid_telling::{Counting, Failure, Progress, Verb, print};
 use grid_words::ScrubWords;
 use share_scrub::{Finding, Handling, Scrub, read_ahead};
@@ -55,7 +55,7 @@ where
     ensures { IfOk result
         (λ status. IsScrub words.now status (O.contents out.old) (O.contents out.new)) }
 {
-    let standing = asked_servers(rt, words.grid, words.known || environment.known)?;
+    let standing = folder_servers(rt, words.grid, words.known || environment.known)?;
     progress.begin(Verb::Scrub, Counting::Added, 0);
     let mut counted = Scrubbed::NONE;
     let are_read = scrub_servers(rt, words, standing.as_slice(), &mut counted, out, progress)?;

@@ -1,4 +1,8 @@
+use Rattle.grid_commands.proofs.ServeLemmas.{other_ends, serve_run}
 use Rattle.grid_commands.proofs.serve.Goals as goal
 
-pub returns : goal.returns
-returns g c = record { ended = c.run-ended.result; run = c.run-ended.ensures; exit = c.exit_of.ensures }
+pub returns-in-Serve : goal.returns-in-Serve
+returns-in-Serve g c = serve_run _ _ c.args.request.now c.serve_folder.result _ _ c.in-Serve.words c.in-Serve.is c.serve_folder.ensures
+
+pub perform-requires : goal.perform-requires
+perform-requires g c = other_ends c.args.request.now c.in_default.not-Serve
