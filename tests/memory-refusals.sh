@@ -12,8 +12,8 @@ cd "$(dirname "$0")/.." || exit 2
 
 # Lines that may: a sum or an offset that does not fit 64 bits counts as one too many for the
 # memory, a machine or a world that ended without memory is told so, and so is an error of the
-# command line, the name of a share's file that could not be made, which wants memory alone, and
-# reads of shares that say that they were refused memory.
+# command line, the name of a share's file that could not be made, which wants memory alone, reads
+# of shares that say that they were refused memory, and a client's turn that ended so.
 allowed=$(cat <<'END'
 share_store/src/memory.rt:return Err(StoreError::OutOfMemory);
 request_record/src/entries.rt:return Err(AllocError);
@@ -28,6 +28,9 @@ grid_repairs/src/made_shares.rt:PieceFault::SourceFault if lacks_memory => Piece
 grid_repairs/src/remaking.rt:Fault::OutOfMemory
 grid_repairs/src/repairing.rt:let report = check.report(rt.alloc())?.ok_or(Fault::OutOfMemory)?;
 grid_commands/src/scrub_telling.rt:return Err(Failure::Fault(Fault::OutOfMemory));
+grid_serve/src/fault.rt:return ServeFault::Fault(Fault::OutOfMemory);
+grid_serving/src/clients.rt:self.note(node, Why::OutOfMemory);
+grid_serving/src/clients.rt:Err(AllocError)
 grid_main/src/main.rt:let error = io::Error::from(io::ErrorKind::OutOfMemory);
 upload_core/src/ending.rt:*status = UploadStatus::Failed(PieceFault::OutOfMemory);
 world_operations/src/status.rt:Life::Refused => Status::Failed(PieceFault::OutOfMemory),
