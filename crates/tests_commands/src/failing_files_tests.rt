@@ -10,7 +10,7 @@ use crate::runs::{
     CAP_56, CLOSED, HERE, ONES, ZEROS_CAP, ZEROS_PUT, begins_with_56, begins_with_zeros, cap_line,
     counted, has_share, makes_file, path, put_line, puts_zeros, removes_all, words_of, zeros_come,
 };
-use grid_commands::{DiskFiles, grid};
+use grid_commands::{DiskFiles, Locks, grid};
 use std::net::Net;
 use std::random::RandomSource;
 use std::rt::{Clock, Files};
@@ -64,7 +64,7 @@ pub(crate) fn is_file_fault(err: &[u8]) -> bool {
 // The status of a command over such files.
 pub(crate) fn status_of<R>(files: &R, words: &[&str], out: &mut Vec<u8>, err: &mut Told) -> u8
 where
-    R: Files + io::Input + Net + Clock + RandomSource + AllocGlobal + Clone + Drop,
+    R: Files + io::Input + Net + Clock + RandomSource + Locks + AllocGlobal + Clone + Drop,
 {
     let mut named = DiskFiles::new(files);
     grid(files, words, &HERE, &mut named, out, err)

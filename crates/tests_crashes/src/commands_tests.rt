@@ -3,7 +3,7 @@
 
 use crate::folders::Folders;
 use crate::stopping_files::StoppingFiles;
-use grid_commands::{DiskFiles, Environment, grid};
+use grid_commands::{DiskFiles, Environment, Locks, grid};
 use std::alloc::AllocError;
 use std::cell::RefCell;
 use std::net::Net;
@@ -96,7 +96,7 @@ fn line_of(rt: &HostRuntime, scene: Scene, cap: &str) -> Result<String, AllocErr
 // The exit status of a command, and what it prints.
 fn run<R>(files: &R, line: &str) -> Option<(u8, Vec<u8>)>
 where
-    R: Files + io::Input + Net + Clock + RandomSource + AllocGlobal + Clone + Drop,
+    R: Files + io::Input + Net + Clock + RandomSource + Locks + AllocGlobal + Clone + Drop,
 {
     let alloc = files.alloc();
     let words: Vec<&str> = line.split(' ').collect(alloc).ok()?;
