@@ -56,7 +56,7 @@ impl ServeFault {
         }
     }
 
-    /// The line that tells why the fault came, with its end. `None` for one that says all by itself.
+    /// The line that tells why the fault came, with its end. None for one that says all itself.
     pub fn reason_line(&self, alloc: Global) -> Result<Option<String>, AllocError>
         ensures { IfOk result (λ line. is_some line ≡ serve_has_reason self.now) }
     {
