@@ -12,21 +12,35 @@ fn gets(rt: &HostRuntime, house: &mut House, guest: &mut Guest, share: u8) -> Re
     }
 }
 
+// Whether what one client puts is read by the other.
+fn both_put(
+    rt: &HostRuntime,
+    house: &mut House,
+    first: &mut Guest,
+    second: &mut Guest,
+) -> Result<bool, Fail> {
+    let are_kept = house.keeps(rt, first, 0, 10)? && house.keeps(rt, second, 1, 10)?;
+    Ok(are_kept && gets(rt, house, second, 0)? && gets(rt, house, first, 1)?)
+}
+
+// Whether they are two clients, though both have the same session.
+fn are_two(
+    rt: &HostRuntime,
+    house: &mut House,
+    first: &mut Guest,
+    second: &mut Guest,
+) -> Result<bool, Fail> {
+    Ok(house.grants(rt, first, 2, 10)? && house.is_busy(rt, second, 2)? && house.count_gone() == 0)
+}
+
 #[test]
 fn two_clients(rt: HostRuntime) -> Result<(), Fail> {
     let mut house = House::open(&rt, "two")?;
     let mut first = house.guest(&rt)?;
     let mut second = house.guest(&rt)?;
-    assert!(rt; house.keeps(&rt, &mut first, 0, 10)?);
-    assert!(rt; house.keeps(&rt, &mut second, 1, 10)?);
-    assert!(rt; gets(&rt, &mut house, &mut second, 0)?);
-    assert!(rt; gets(&rt, &mut house, &mut first, 1)?);
-    // both have the same session, and are two clients
-    assert!(rt; house.grants(&rt, &mut first, 2, 10)?);
-    assert!(rt; house.is_busy(&rt, &mut second, 2)?);
-    assert!(rt; house.count_gone() == 0);
-    house.shut(&rt)?;
-    Ok(())
+    assert!(rt; both_put(&rt, &mut house, &mut first, &mut second)?);
+    assert!(rt; are_two(&rt, &mut house, &mut first, &mut second)?);
+    Ok(house.shut(&rt)?)
 }
 
 // Whether a share that a client was writing is written by another one once the first is gone.
