@@ -97,16 +97,16 @@ const WHOLE: Pace = Pace {
 };
 
 // Puts a share of these pieces of so many bytes each, and reads them.
-fn put_and_read(alloc: Global, pieces: u64, length: u64) -> Result<Vec<u8>, Fail> {
+fn put_and_read(alloc: Global, pieces: u64, length: u32) -> Result<Vec<u8>, Fail> {
     let mut asks = Vec::new(alloc);
-    asks.push(allocate(0, pieces.saturating_mul(length))?)?;
+    asks.push(allocate(0, pieces.saturating_mul(u64::from(length)))?)?;
     for piece in 0..pieces {
-        let offset = piece.saturating_mul(length);
-        asks.push(write(alloc, 0, offset, piece as u8 & 7, length as usize)?)?;
+        let offset = piece.saturating_mul(u64::from(length));
+        asks.push(write(alloc, 0, offset, (piece % 8) as u8, length as usize)?)?;
     }
     asks.push(Body::Close(id(0)))?;
     for piece in 0..pieces {
-        asks.push(read(0, piece.saturating_mul(length), length as u32)?)?;
+        asks.push(read(0, piece.saturating_mul(u64::from(length)), length)?)?;
     }
     asks.push(allocate(1, 10)?)?;
     bytes_of(alloc, asks)
