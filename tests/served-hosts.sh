@@ -1,8 +1,9 @@
 #!/bin/sh
 # What `./grid` does with servers that other machines serve: five hosts in network namespaces of
-# this machine serve two folders each, and are cut off, stopped, killed and started again before, in
-# the midst of and behind a put, a get and a repair. Then they are 20 ms away, each way, a file of
-# 1 GiB is put, and ten clients put a hundred files each at once.
+# this machine serve two folders each. One is cut off before a command, and then one is cut off,
+# stopped, killed, or started again in the midst of a put, of a get, and of a repair of shares that
+# another one lost. Then they are 20 ms away, each way, a file of 1 GiB is put, and ten clients put
+# a hundred files each at once.
 #
 #     tests/served-hosts.sh
 #
@@ -183,7 +184,7 @@ for happens in cuts_off stops dies restarts; do
     sees 'its repair' ends 150 0 repair "$cap" --grid g
     sees "a get while host 3 $happens" during 4 $happens 3 gives 100 large
     brings_back 3 && goes_on 3 && dies 3 && sleep 1 && serves 3 && sleep 1
-    rm -rf host4/6/*/* host4/7/*/*
+    rm host4/6/*.* host4/7/*.*
     dies 4 && sleep 1 && serves 4 && sleep 1
     sees "a repair while host 5 $happens" during 6 $happens 5 ends 150 0 repair "$cap" --grid g
     brings_back 5 && goes_on 5 && dies 5 && sleep 1 && serves 5 && sleep 1
