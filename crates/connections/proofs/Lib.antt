@@ -1,2 +1,4 @@
+pub mod Lines
+pub mod Marks
 pub mod Courses
 pub mod Pieces

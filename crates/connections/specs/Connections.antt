@@ -5,7 +5,7 @@ use Rattle.wire.specs.Frames.{IsMessage, frame}
 use Rattle.wire.specs.Stream.{BeginsBadFields, BeginsBadKind, BeginsBadLength, FeedState, IsPartial}
 use Rattle.wire.specs.Stream.{fed}
 use Rattle.wire.specs.declared.message.Message.{Message}
-use Rattle.greetings.specs.Greetings.{Fits}
+use Rattle.connections.specs.Greetings.{Fits}
 use Rattle.connections.specs.Wires.{WireCalls}
 use Rattle.connections.specs.declared.connection.Side.{Side}
 use Rattle.connections.specs.declared.connection.Side.TheVariants.{Client, Server}

@@ -1,4 +1,5 @@
 -- What public contracts rest on.
+pub mod Greetings
 pub mod Wires
 pub mod Connections
 pub mod Courses

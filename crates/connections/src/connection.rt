@@ -10,9 +10,9 @@ ghost use Rattle.connections.specs.Connections.{Hears, begun, put_behind};
 
 use crate::ends::{Arrival, Wire};
 use crate::fault::ConnectionFault;
+use crate::greeting::{GREETING_SIZE, Greeting, fits};
 use crate::room::Room;
 use bytes::BytesMut;
-use greetings::{GREETING_SIZE, Greeting, fits};
 use std::alloc::{AllocError, Global};
 use std::marker::Model;
 use wire::error::WireError;

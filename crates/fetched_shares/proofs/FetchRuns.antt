@@ -14,9 +14,9 @@ use Rattle.operation_loop.specs.Outside.{OutsideCalls}
 use Rattle.operation_loop.specs.Turns.{Finishes, LoopState, Turns}
 use Rattle.carried_operations.specs.Came.{Came}
 use Rattle.carried_operations.proofs.Runs.{IsLaw, course_goes, follows_both, follows_wider}
-use Rattle.share_fetching.specs.Fetches.{Begins, FetchState, fetch_calls, with_record}
-use Rattle.share_fetching.specs.Ranges.{reads_of}
-use Rattle.share_fetching.specs.declared.range.ShareRange.{ShareRange}
+use Rattle.fetched_shares.specs.Fetches.{Begins, FetchState, fetch_calls, with_record}
+use Rattle.fetched_shares.specs.Ranges.{reads_of}
+use Rattle.fetched_shares.specs.declared.range.ShareRange.{ShareRange}
 use Rattle.fetched_shares.specs.Fetched.{IsCarried}
 
 -- a fetch goes on by answers

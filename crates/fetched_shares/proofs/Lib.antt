@@ -1,2 +1,4 @@
+pub mod Asked
+pub mod Parts
 pub mod FetchRuns
 pub mod ReadLemmas

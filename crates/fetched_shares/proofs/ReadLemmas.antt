@@ -4,9 +4,9 @@ use Rattle.std.specs.Prelude as prelude
 use Rattle.std.specs.Prelude.{slice_get, false}
 use Rattle.operation_loop.specs.Outside.{OutsideCalls}
 use Rattle.operation_loop.specs.Turns.{Finishes, GoesPast}
-use Rattle.share_fetching.specs.Fetches.{Begins, FetchState, IsFetched, fetch_calls}
-use Rattle.share_fetching.specs.declared.range.SharePlace.{SharePlace}
-use Rattle.share_fetching.specs.declared.range.ShareRange.{ShareRange}
+use Rattle.fetched_shares.specs.Fetches.{Begins, FetchState, IsFetched, fetch_calls}
+use Rattle.fetched_shares.specs.declared.range.SharePlace.{SharePlace}
+use Rattle.fetched_shares.specs.declared.range.ShareRange.{ShareRange}
 use Rattle.fetched_shares.specs.Fetched.{BeginsRead, FetchedState, IsCarried, IsReadOver, IsUnanswered, after_read, next_session}
 use Rattle.fetched_shares.specs.Fetched.IsUnanswered.{missing, unended}
 use Rattle.fetched_shares.proofs.FetchRuns.{carried}

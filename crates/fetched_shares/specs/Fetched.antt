@@ -8,8 +8,8 @@ use Rattle.local_grid.specs.Turns.{Course}
 use Rattle.operation_loop.specs.Outside.{OutsideCalls}
 use Rattle.operation_loop.specs.Turns.{GoesPast, LoopState, Turns}
 use Rattle.carried_operations.specs.Came.{Came}
-use Rattle.share_fetching.specs.Fetches.{Begins, FetchState, IsFetched, fetch_calls}
-use Rattle.share_fetching.specs.declared.range.SharePlace.{SharePlace}
+use Rattle.fetched_shares.specs.Fetches.{Begins, FetchState, IsFetched, fetch_calls}
+use Rattle.fetched_shares.specs.declared.range.SharePlace.{SharePlace}
 
 -- the servers, the storage index of the file, where its shares stand, the session of the next read,
 -- and whether memory was refused to one

@@ -1,2 +1,4 @@
 -- what public contracts rest on
+pub mod Ranges
+pub mod Fetches
 pub mod Fetched

@@ -3,10 +3,11 @@
 ghost use Rattle.std.specs.Prelude.{◌≡◌, ◌+◌, ◌<◌, ◌^◌, IfOk, OnErr, false, length, true};
 ghost use Rattle.fetched_shares.specs.Fetched.{IsReadOver, IsUnanswered, IsUnread, StayOtherwise};
 
+use crate::fetch::Fetch;
+use crate::range::{SharePlace, ShareRange};
 use local_grid::error::LoopError;
 use operation_loop::{Outside, carry_on};
-use share_fetching::{Fetch, SharePlace, ShareRange};
-use share_leaves::ShareBytes;
+use share_source::ShareBytes;
 use sources::SourceFault;
 use std::alloc::{AllocError, Global};
 use std::marker::Model;

@@ -1,3 +1,8 @@
+pub mod DigestBytes
+pub mod Feeding
+pub mod Asking
+pub mod Answering
+pub mod Going
 pub mod Keys
 pub mod OpenShares
 pub mod SafeShares

@@ -6,9 +6,9 @@ use Rattle.std.specs.Option.{option_to_list}
 use Rattle.cap_text.specs.Cap.{VerifyCapValue}
 use Rattle.ueb.specs.Shape.{Contents}
 use Rattle.share_verify.specs.CapBlock.{IsUebFor, geometry_by}
-use Rattle.share_fetching.specs.declared.range.SharePlace.{SharePlace}
+use Rattle.fetched_shares.specs.declared.range.SharePlace.{SharePlace}
 use Rattle.share_source.specs.Decoded.{Decoding, GivesDecoded}
-use Rattle.share_leaves.specs.Reads.{Fails, Gives, WasRead}
+use Rattle.share_source.specs.Reads.{Fails, Gives, WasRead}
 use Rattle.fetched_shares.specs.Fetched.{FetchedState}
 use Rattle.sources.specs.Source.{HasFailedMore}
 use Rattle.file_remaking.specs.Remade.{IsOfNoText, IsRemadeFrom}

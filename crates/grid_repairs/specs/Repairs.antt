@@ -6,7 +6,7 @@ use Rattle.cap_text.specs.Cap.{VerifyCapValue}
 use Rattle.cap_text.specs.CapText.{Spells}
 use Rattle.cap_text.specs.declared.cap.Cap.{Cap}
 use Rattle.placement.specs.Matching.{Pair}
-use Rattle.share_fetching.specs.declared.range.SharePlace.{SharePlace}
+use Rattle.fetched_shares.specs.declared.range.SharePlace.{SharePlace}
 use Rattle.share_source.specs.Decoded.{Decoding, GivesDecoded}
 use Rattle.fetched_shares.specs.Fetched.{FetchedState, IsReadOver, IsUnread}
 use Rattle.streamed_upload.specs.RemadeStream.{RemadeStreaming}

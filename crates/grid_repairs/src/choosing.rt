@@ -7,7 +7,7 @@ ghost use Rattle.placement.specs.Matching.{Pair};
 ghost use Rattle.checker.specs.Report.{good_pairs, is_good};
 
 use checker::status::ShareVerdict;
-use share_fetching::SharePlace;
+use fetched_shares::SharePlace;
 use share_reading::Verdict;
 use std::alloc::{AllocError, Global};
 

@@ -2,21 +2,19 @@
 
 ghost use Rattle.std.specs.Prelude.{◌≡◌, ◌++◌, IfOk, IfSome, OnOk, map, slice_get};
 ghost use Rattle.std.specs.Option.{option_to_list};
-ghost use Rattle.share_leaves.specs.Block.{IsReadBlock};
-ghost use Rattle.share_leaves.specs.Reads.{WasRead};
+ghost use Rattle.share_source.specs.Block.{IsReadBlock};
+ghost use Rattle.share_source.specs.Reads.{WasRead};
 ghost use Rattle.fetched_shares.specs.Fetched.{IsReadOver, IsUnread};
 ghost use Rattle.grid_repairs.specs.Remaking.{AreMadeAnew, IsBegun, read_places};
 
 use crate::made_shares::{MadeShares, lacks_memory, told_apart};
 use cap_text::VerifyCap;
-use fetched_shares::FetchedShares;
+use fetched_shares::{FetchedShares, SharePlace};
 use file_remaking::{RemakeError, prepare_remade};
 use grid_faults::Fault;
 use grid_rules::becoming::fault_of_remaking;
 use operation_loop::Outside;
-use share_fetching::SharePlace;
-use share_leaves::{ReadBlock, ShareBytes, read_block};
-use share_source::ShareSource;
+use share_source::{ReadBlock, ShareBytes, ShareSource, read_block};
 use std::alloc::{AllocError, Global};
 use streamed_upload::remade::ready_remade;
 use ueb::Ueb;

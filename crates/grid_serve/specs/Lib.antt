@@ -1,4 +1,5 @@
 -- What public contracts rest on.
+pub mod Counted
 pub mod Faults
 pub mod News
 -- Words of private clauses.

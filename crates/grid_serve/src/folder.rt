@@ -1,8 +1,8 @@
 //! The folder that is served.
 
+use crate::counted::CountedStore;
 use crate::fault::ServeFault;
 use crate::marking::{found_mark, mark_folder, refuse_other};
-use counted_store::CountedStore;
 use grid_faults::{Fault, told_path};
 use grid_marks::Mark;
 use server_core::server::{CAPACITY, Server};

@@ -2,6 +2,7 @@
 //! clients.
 #![tactic(auto)]
 
+mod counted;
 mod fault;
 mod folder;
 mod listening;
@@ -9,6 +10,7 @@ mod marking;
 mod served;
 mod telling;
 
+pub use counted::CountedStore;
 pub use fault::ServeFault;
 pub use folder::Serve;
 pub use grid_serving::News;

@@ -1,8 +1,7 @@
 //! The address at which a folder is served.
 
 use crate::fault::ServeFault;
-use connections::{Address, AddressError, Socket};
-use greetings::Greeting;
+use connections::{Address, AddressError, Greeting, Socket};
 use grid_faults::{Fault, told_path};
 use grid_serving::Serving;
 use server_core::server::Server;

@@ -1,13 +1,12 @@
 //! A folder that is served.
 
+use crate::counted::CountedStore;
 use crate::fault::ServeFault;
 use crate::folder::{Serve, lock_folder, mark_to_have, open_server};
 use crate::listening::{claim_address, listen, read_address};
 use crate::marking::mark_of_word;
 use crate::telling::news_line;
-use connections::{Address, Listener};
-use counted_store::CountedStore;
-use greetings::{Greeting, greeting};
+use connections::{Address, Greeting, Listener, greeting};
 use grid_faults::{Fault, told_path};
 use grid_marks::Mark;
 use grid_serving::{News, Serving};

@@ -6,7 +6,7 @@ use Rattle.share_folders.specs.Names.{in_folder}
 use Rattle.grid_faults.specs.Servers.{server_name}
 use Rattle.grid_marks.specs.declared.mark.Mark.{Mark}
 use Rattle.grid_marks.specs.declared.mark.Kind.TheVariants.{Server}
-use Rattle.greetings.specs.Greetings.{greeting_of}
+use Rattle.connections.specs.Greetings.{greeting_of}
 use Rattle.local_grid.specs.Nodes.{NodeState}
 use Rattle.served_grid.specs.Remotes.{RemoteState, unasked}
 use Rattle.grid_servers.specs.Grids.{FolderGridState}

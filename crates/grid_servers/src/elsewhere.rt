@@ -6,8 +6,7 @@ ghost use Rattle.grid_servers.specs.Opened.{greeting_to, server_mark};
 
 use crate::opening::{Opening, make_room};
 use crate::sites::{address_of, find_site};
-use connections::{Address, Nonblocking, Socket};
-use greetings::{Greeting, greeting};
+use connections::{Address, Greeting, Nonblocking, Socket, greeting};
 use grid_faults::Fault;
 use grid_marks::{Kind, Mark};
 use served_grid::RemoteServer;

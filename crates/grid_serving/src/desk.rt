@@ -2,8 +2,7 @@
 
 ghost use Rattle.std.specs.Prelude.{◌≡◌, IfOk};
 
-use connections::Room;
-use greetings::Greeting;
+use connections::{Greeting, Room};
 use std::alloc::{AllocError, Global};
 
 /// What the clients of a server share: the server's greeting, and room for bytes.

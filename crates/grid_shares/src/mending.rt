@@ -8,11 +8,11 @@ ghost use Rattle.grid_shares.specs.Ways.{AreCleared, IsWanted, IsWay, is_still, 
 ghost use Rattle.grid_shares.specs.Ways.{read_at, stuck_by, way_by};
 
 use crate::placing::Placing;
+use fetched_shares::SharePlace;
 use grid_faults::{Fault, server_name, told_path};
 use grid_marks::{Mark, grid_mark, server_folder, try_known};
 use grid_servers::is_served_elsewhere;
 use grid_telling::Progress;
-use share_fetching::SharePlace;
 use share_files::{FolderFiles, Wanted};
 use share_scrub::{Cleared, LeftShare, clear_way};
 use share_store::error::StoreError;

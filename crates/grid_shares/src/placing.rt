@@ -15,21 +15,21 @@ ghost use Rattle.grid_shares.specs.Standing.{WereOpened};
 use crate::mending::{Clearance, clear_servers};
 use crate::standing::OpenGrid;
 use carried_operations::uploads::carry_upload;
+use fetched_shares::SharePlace;
 use grid_faults::{Fault, servers_of};
 use grid_rules::becoming::fault_of_loop;
 use grid_rules::{reached_happiness, turn_limit};
 use grid_servers::{Durability, Purpose, servers_without};
 use grid_telling::{Counting, Progress, Verb, note_servers};
 use operation_loop::Outside;
-use share_fetching::SharePlace;
 use std::alloc::Global;
 use std::io::{IsTerminal, Write};
 use std::net::Net;
 use std::random::RandomSource;
 use std::rt::{Clock, Files};
+use upload_core::{ReadyUpload, Upload};
 use upload_core::pieces::Pieces;
 use upload_core::status::UploadGoal;
-use upload_core::{ReadyUpload, Upload};
 use wire::message::NodeId;
 
 /// The exit status where a share that is none of the file's could not be set aside.

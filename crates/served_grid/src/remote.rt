@@ -8,8 +8,7 @@ ghost use Rattle.served_grid.specs.Remotes.{patience, queued_over, ticked_remote
 ghost use Rattle.served_grid.specs.Remotes.{waiting_for};
 
 use crate::network::Network;
-use connections::{Connection, ConnectionFault, Heard, Room, Sent, Side, Wire};
-use greetings::Greeting;
+use connections::{Connection, ConnectionFault, Greeting, Heard, Room, Sent, Side, Wire};
 use std::alloc::{AllocError, Global};
 use std::marker::Model;
 use wire::message::{Message, NodeId};

@@ -1,6 +1,6 @@
 -- Blocks that are read of one share after another.
 use Rattle.std.proofs.Common.{◌≡◌, ℕ, List, [], ◌∷◌, ◌++◌, length, Some, refl, ap, subst, arith}
-use Rattle.share_leaves.specs.Reads.{Fails, Gives}
+use Rattle.share_source.specs.Reads.{Fails, Gives}
 use Rattle.share_source.specs.Candidates.{AreSharesRead, Candidates, IsShareRead, ShareRead}
 use Rattle.share_source.specs.Decoded.{blocks_read}
 use Rattle.share_source.specs.declared.place.Place.{Place}

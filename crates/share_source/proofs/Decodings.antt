@@ -8,7 +8,7 @@ use Rattle.share_layout.specs.Geometry.{Geometry, block_size}
 use Rattle.share_layout.specs.Pieces.{block_length, pieces}
 use Rattle.proved_parts.proofs.Files.{length-pieces}
 use Rattle.download_segments.specs.Decoding.{AreShareNumbers}
-use Rattle.share_leaves.specs.Reads.{Fails, Gives}
+use Rattle.share_source.specs.Reads.{Fails, Gives}
 use Rattle.share_source.specs.Candidates.{AreBlocksTold, AreReadOn, AreSharesRead, Candidates, ShareRead, leaves_held, picked_numbers}
 use Rattle.share_source.specs.Decoded.{Decoding, GivesDecoded, IsSegmentDecoded, block_place, blocks_read}
 use Rattle.share_source.specs.declared.place.Place.{Place}

@@ -6,8 +6,8 @@ use Rattle.std.proofs.lemmas.List.{get_or-map, get_or-set_other, get_or-set_same
 use Rattle.tagged_hash.specs.TaggedHash.{tagged_hash}
 use Rattle.tagged_hash.specs.declared.tag.Tag.TheVariants.{Block}
 use Rattle.ueb.specs.Shape.{Contents}
-use Rattle.share_leaves.specs.Leaves.{AreLeavesOf}
-use Rattle.share_leaves.specs.Reads.{Fails, Gives, WasRead}
+use Rattle.share_source.specs.Leaves.{AreLeavesOf}
+use Rattle.share_source.specs.Reads.{Fails, Gives, WasRead}
 use Rattle.share_source.specs.Candidates.{AreBlocksTold, AreLeavesRead, Candidates, HoldsOwnLeaves, ShareRead, leaves_held, picked_numbers}
 use Rattle.share_source.specs.Reading.{AreHeldLeaves, AreTreesRead}
 use Rattle.share_source.proofs.Asking.{asked_append}

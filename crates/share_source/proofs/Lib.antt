@@ -1,3 +1,6 @@
+pub mod ReadLemmas
+pub mod Opened
+pub mod Roots
 pub mod Offsets
 pub mod Staying
 pub mod Asking

@@ -11,7 +11,7 @@ use Rattle.share_layout.specs.Geometry.{Geometry}
 use Rattle.share_verify.specs.Pieces.{block_hashes}
 use Rattle.share_gathering.specs.Clash.{HaveClash}
 use Rattle.share_gathering.proofs.Blocks.{blocks_or_clash}
-use Rattle.share_leaves.specs.Reads.{Fails, Gives}
+use Rattle.share_source.specs.Reads.{Fails, Gives}
 use Rattle.share_source.specs.Candidates.{Candidates, leaves_held, picked_numbers}
 use Rattle.share_source.specs.Decoded.{IsSegmentDecoded}
 use Rattle.share_source.specs.Laws.{ReadsAgree}

@@ -5,8 +5,8 @@ use Rattle.std.specs.Prelude.{slice_set, take}
 use Rattle.tagged_hash.specs.TaggedHash.{tagged_hash}
 use Rattle.tagged_hash.specs.declared.tag.Tag.TheVariants.{Block}
 use Rattle.ueb.specs.Shape.{Contents}
-use Rattle.share_leaves.specs.Leaves.{AreLeavesOf, AreNoLeaves}
-use Rattle.share_leaves.specs.Reads.{Fails, Gives, WasRead}
+use Rattle.share_source.specs.Leaves.{AreLeavesOf, AreNoLeaves}
+use Rattle.share_source.specs.Reads.{Fails, Gives, WasRead}
 use Rattle.share_source.specs.declared.place.Place.{Place}
 
 -- Shares of a file that may be read, by their positions: what the file's extension block says, the

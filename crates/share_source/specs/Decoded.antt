@@ -8,7 +8,7 @@ use Rattle.share_layout.specs.Geometry.{Geometry, block_size}
 use Rattle.share_layout.specs.Layout.{header_size, layout_of}
 use Rattle.share_layout.specs.Pieces.{block_length}
 use Rattle.download_segments.specs.Decoding.{AreShareNumbers}
-use Rattle.share_leaves.specs.Reads.{Fails, Gives}
+use Rattle.share_source.specs.Reads.{Fails, Gives}
 use Rattle.share_source.specs.Candidates.{AreBlocksTold, AreReadOn, AreSharesRead, Candidates}
 use Rattle.share_source.specs.Candidates.{HaveTooFew, ShareRead, leaves_held, picked_numbers}
 use Rattle.share_source.specs.declared.place.Place.{Place}

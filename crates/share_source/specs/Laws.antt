@@ -2,7 +2,7 @@
 use Rattle.std.specs.Prelude.{◌≡◌, ◌⊎◌, ℕ, Contains, List, length, min, take}
 use Rattle.share_layout.specs.Geometry.{IsGeometry}
 use Rattle.share_gathering.specs.Clash.{HaveClash}
-use Rattle.share_leaves.specs.Reads.{Fails, Gives}
+use Rattle.share_source.specs.Reads.{Fails, Gives}
 use Rattle.share_source.specs.Candidates.{leaves_held}
 use Rattle.share_source.specs.Decoded.{Decoding, IsSegmentPart}
 

@@ -1,4 +1,7 @@
 -- what public contracts rest on
+pub mod Reads
+pub mod Block
+pub mod Leaves
 pub mod Candidates
 pub mod Decoded
 pub mod Laws

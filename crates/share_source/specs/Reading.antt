@@ -4,8 +4,8 @@ use Rattle.std.specs.Prelude.{Some, slice_index}
 use Rattle.std.specs.List.{count_by}
 use Rattle.ueb.specs.Shape.{Contents}
 use Rattle.download_segments.specs.Decoding.{AreShareNumbers}
-use Rattle.share_leaves.specs.Leaves.{AreLeavesOf}
-use Rattle.share_leaves.specs.Reads.{Fails, Gives}
+use Rattle.share_source.specs.Leaves.{AreLeavesOf}
+use Rattle.share_source.specs.Reads.{Fails, Gives}
 use Rattle.share_source.specs.Candidates.{AreSharesRead, Candidates, ShareRead, leaves_held}
 use Rattle.share_source.specs.Candidates.{picked_numbers}
 use Rattle.share_source.specs.declared.place.Place.{Place}

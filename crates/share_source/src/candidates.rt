@@ -4,16 +4,17 @@ ghost use Rattle.std.specs.Prelude.{◌≡◌, ◌+◌, ◌*◌, ◌<◌, ◌≤
 ghost use Rattle.std.specs.Prelude.{All, IfOk, IsTrue, MatchBool, OnErr, Option, Some, None};
 ghost use Rattle.std.specs.Prelude.{length, map, replicate, slice_get, slice_set};
 ghost use Rattle.share_layout.specs.Pieces.{pieces};
-ghost use Rattle.share_leaves.specs.Reads.{WasRead};
+ghost use Rattle.share_source.specs.Reads.{WasRead};
 ghost use Rattle.share_source.specs.Candidates.{AreBlocksTold, AreLeavesRead, AreSharesRead};
 ghost use Rattle.share_source.specs.Candidates.{Brought, HasLeaf, HoldsOwnLeaves, IsBlockRead};
 ghost use Rattle.share_source.specs.Candidates.{ShareRead, leaves_held, picked_numbers, struck_out};
 ghost use Rattle.share_source.specs.Decoded.{blocks_read};
 ghost use Rattle.share_source.specs.Reading.{AreLeft, AreTreesRead, StayStruck, unstruck_count};
 
+use crate::bytes::ShareBytes;
 use crate::held::Held;
+use crate::leaves::read_leaves;
 use crate::place::Place;
-use share_leaves::{ShareBytes, read_leaves};
 use std::alloc::{AllocError, Global};
 use std::marker::Model;
 use tagged_hash::{Tag, tagged};

@@ -6,8 +6,8 @@ ghost use Rattle.std.specs.Prelude.{slice_index};
 ghost use Rattle.zfec_code.specs.Rows.{AreDistinct};
 ghost use Rattle.share_source.specs.Candidates.{AreFirst, picked_numbers};
 
+use crate::bytes::ShareBytes;
 use crate::candidates::Candidates;
-use share_leaves::ShareBytes;
 use std::alloc::{AllocError, Global};
 
 /// The positions of the first shares of different numbers: as many as are needed, or all that there

@@ -2,7 +2,7 @@
 
 ghost use Rattle.share_source.specs.Laws.{ReadsAgree};
 
-use share_leaves::ShareBytes;
+use crate::bytes::ShareBytes;
 
 /// Two reads from one offset on, which were decoded from the same of the same shares by the same
 /// leaves, bring the same bytes as far as both go, or two different hash inputs with one hash are

@@ -9,11 +9,11 @@ ghost use Rattle.share_source.specs.Candidates.{AreFirst, AreReadOn, HaveTooFew}
 ghost use Rattle.share_source.specs.Candidates.{picked_numbers};
 ghost use Rattle.share_source.specs.Reading.{AreLeft, IsReadingOf};
 
+use crate::bytes::ShareBytes;
 use crate::candidates::Candidates;
 use crate::choosing::{find_spare, first_positions};
 use share_gathering::file_code;
 use share_layout::Geometry;
-use share_leaves::ShareBytes;
 use std::alloc::{AllocError, Global};
 use zfec_code::{Code, CodeError, Decoder};
 

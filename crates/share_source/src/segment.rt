@@ -10,10 +10,10 @@ ghost use Rattle.share_source.specs.Candidates.{HaveTooFew, ShareRead, leaves_he
 ghost use Rattle.share_source.specs.Decoded.{IsSegmentDecoded, block_place, blocks_read};
 ghost use Rattle.share_source.specs.Reading.{IsReadingOf, StayStruck, unstruck_count};
 
+use crate::bytes::ShareBytes;
 use crate::candidates::Candidates;
 use crate::place::Place;
 use crate::reading::{Reading, Shortage};
-use share_leaves::ShareBytes;
 use zfec_code::Decoder;
 
 /// Reads the blocks of a segment and decodes them. The segment stands with its padding at the

@@ -11,11 +11,11 @@ ghost use Rattle.share_verify.specs.CapBlock.{geometry_by};
 ghost use Rattle.share_source.specs.Candidates.{AreFirst, HaveTooFew, picked_numbers};
 ghost use Rattle.share_source.specs.Decoded.{BroughtNothing, GivesDecoded};
 
+use crate::bytes::ShareBytes;
 use crate::candidates::Candidates;
 use crate::reading::{Reading, Shortage};
 use crate::segment::read_segment;
 use share_layout::Geometry;
-use share_leaves::ShareBytes;
 use share_verify::geometry_of;
 use sources::{Source, SourceFault};
 use std::alloc::Global;

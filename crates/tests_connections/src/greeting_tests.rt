@@ -2,8 +2,7 @@
 
 use crate::fake::Fake;
 use crate::messages::{greeting_of, heard_over, server_mark, three_messages};
-use connections::{ConnectionFault, Side};
-use greetings::{Greeting, fits};
+use connections::{ConnectionFault, Greeting, Side, fits};
 use grid_marks::{Kind, Mark};
 use std::alloc::Global;
 use std::test::Fail;

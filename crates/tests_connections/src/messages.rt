@@ -1,8 +1,7 @@
 //! Messages, and what is heard of them.
 
 use crate::fake::Fake;
-use connections::{Connection, ConnectionFault, Heard, Room, Side};
-use greetings::{Greeting, greeting};
+use connections::{Connection, ConnectionFault, Greeting, Heard, Room, Side, greeting};
 use grid_marks::{Kind, Mark};
 use std::alloc::{AllocError, Global};
 use std::test::Fail;

@@ -4,8 +4,8 @@
 use disks::memory::MemoryDisk;
 use folder_keeping::laws::{confirmed_stay, found_are_safe, safe_stay};
 use folder_keeping::opening::open;
+use folder_keeping::serving_laws::{closed_are_served, safe_are_served, servers_are_orderly};
 use folder_keeping::store::KeptFolder;
-use folder_serving::laws::{closed_are_served, safe_are_served, servers_are_orderly};
 use server_core::server::{CAPACITY, Server};
 use share_folders::disk::Durability;
 use share_store::error::StoreError;

@@ -1,7 +1,6 @@
 //! A server in memory and one client of it, by a clock of the tests' own.
 
-use connections::Wire;
-use greetings::Greeting;
+use connections::{Greeting, Wire};
 use grid_serving::{Client, Clients, Desk, Why};
 use server_core::server::Server;
 use share_store::memory::MemoryStore;

@@ -2,8 +2,7 @@
 //! change.
 
 use crate::remade_tests::{Whole, whole_file};
-use share_leaves::ShareBytes;
-use share_source::ShareSource;
+use share_source::{ShareBytes, ShareSource};
 use share_verify::read_share;
 use sources::{PartFault, Source, SourceFault, read_part};
 use std::alloc::{AllocError, Global};

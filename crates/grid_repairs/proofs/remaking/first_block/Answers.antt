@@ -1,4 +1,4 @@
-use Rattle.share_leaves.proofs.ReadLemmas.{read_both}
+use Rattle.share_source.proofs.ReadLemmas.{read_both}
 use Rattle.grid_repairs.proofs.remaking.first_block.Goals as goal
 
 pub returns-in-Some : goal.returns-in-Some

@@ -1,4 +1,4 @@
-use Rattle.share_leaves.specs.Reads.{WasRead}
+use Rattle.share_source.specs.Reads.{WasRead}
 use Rattle.grid_repairs.proofs.remaking.first_block.Given as goal
 
 abbrev pub invariant-loop-position : goal.invariant-loop-position

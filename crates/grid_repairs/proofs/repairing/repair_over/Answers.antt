@@ -1,7 +1,7 @@
 use Rattle.std.proofs.Common.{List, false, ap, subst, ◌∙◌}
 use Rattle.std.proofs.lemmas.Result.{IfOk-weaker}
 use Rattle.checker.specs.declared.status.ShareVerdict.{ShareVerdict}
-use Rattle.share_fetching.specs.declared.range.SharePlace.{SharePlace}
+use Rattle.fetched_shares.specs.declared.range.SharePlace.{SharePlace}
 use Rattle.fetched_shares.specs.Fetched.{IsReadOver, IsUnread}
 use Rattle.share_source.specs.Decoded.{GivesDecoded}
 use Rattle.grid_servers.specs.Grids.{grid_calls}

@@ -1,9 +1,9 @@
 use Rattle.std.proofs.Common.{◌≡◌, ℕ, ◌<◌, List, Some, Err, ap, length, refl, subst, sym, ◌∙◌}
 use Rattle.std.specs.Prelude.{slice_get}
 use Rattle.lemmas.proofs.Positions.{got}
-use Rattle.share_fetching.specs.Fetches.{Begins}
-use Rattle.share_fetching.specs.declared.range.SharePlace.{SharePlace}
-use Rattle.share_fetching.specs.declared.range.ShareRange.{ShareRange}
+use Rattle.fetched_shares.specs.Fetches.{Begins}
+use Rattle.fetched_shares.specs.declared.range.SharePlace.{SharePlace}
+use Rattle.fetched_shares.specs.declared.range.ShareRange.{ShareRange}
 use Rattle.fetched_shares.specs.Fetched.{FetchedState, IsReadOver, IsUnanswered, after_read}
 use Rattle.fetched_shares.proofs.ReadLemmas.{as_long, was_missing, was_read, was_unended}
 use Rattle.fetched_shares.proofs.shares.FetchedShares.fetch.Goals as goal

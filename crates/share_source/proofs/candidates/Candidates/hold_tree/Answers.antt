@@ -2,7 +2,7 @@ use Rattle.std.proofs.Common.{◌≡◌, ℕ, ◌<◌, [], false, length, get_or
 use Rattle.std.proofs.lemmas.List.{get_or_default}
 use Rattle.std.proofs.lemmas.Option.{slice_get_within}
 use Rattle.std.proofs.lemmas.Result.{IfOk-weaker}
-use Rattle.share_leaves.specs.Leaves.{AreLeavesOf}
+use Rattle.share_source.specs.Leaves.{AreLeavesOf}
 use Rattle.share_source.specs.Candidates.{Candidates, HoldsOwnLeaves}
 use Rattle.share_source.proofs.Holding.{tree_any, tree_holds, tree_stays}
 use Rattle.share_source.proofs.candidates.Candidates.hold_tree.Goals as goal

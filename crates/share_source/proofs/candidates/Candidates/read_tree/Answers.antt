@@ -2,7 +2,7 @@ use Rattle.std.proofs.Common.{◌≡◌, ℕ, ◌<◌, List, [], Some, None, fal
 use Rattle.std.specs.Prelude.{slice_get}
 use Rattle.std.proofs.lemmas.List.{get_or_default}
 use Rattle.std.proofs.lemmas.Option.{slice_get_within}
-use Rattle.share_leaves.specs.Leaves.{AreLeavesOf, AreNoLeaves}
+use Rattle.share_source.specs.Leaves.{AreLeavesOf, AreNoLeaves}
 use Rattle.share_source.specs.Candidates.{AreLeavesRead, Candidates, struck_out}
 use Rattle.share_source.proofs.Holding.{held_set}
 use Rattle.share_source.proofs.candidates.Candidates.read_tree.Goals as goal

@@ -1,5 +1,0 @@
-pub mod DigestBytes
-pub mod Feeding
-pub mod Asking
-pub mod Answering
-pub mod Going

@@ -1,5 +1,0 @@
-use Rattle.folder_serving.proofs.Going.{safe_are_served}
-use Rattle.folder_serving.proofs.laws.safe_are_served.Goals as goal
-
-pub returns : goal.returns
-returns g c = safe_are_served c.durable_outlasts.ensures c.hashes_have_32_bytes.ensures _

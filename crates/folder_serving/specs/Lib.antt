@@ -1,3 +1,0 @@
--- What public contracts rest on.
-pub mod Serving
-pub mod Served

@@ -1,4 +1,0 @@
-//! What servers over one folder keep, whatever happens to them.
-#![tactic(auto)]
-
-pub mod laws;

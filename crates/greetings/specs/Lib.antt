@@ -1,2 +1,0 @@
--- What public contracts rest on.
-pub mod Greetings

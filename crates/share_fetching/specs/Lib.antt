@@ -1,3 +1,0 @@
--- what public contracts rest on
-pub mod Ranges
-pub mod Fetches

@@ -1,3 +1,0 @@
-pub mod ReadLemmas
-pub mod Opened
-pub mod Roots

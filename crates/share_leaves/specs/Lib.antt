@@ -1,4 +1,0 @@
--- what public contracts rest on
-pub mod Reads
-pub mod Block
-pub mod Leaves
