@@ -1,0 +1,172 @@
+//! The loop over servers of the tests' own, some of which go wrong, and a clock of their own.
+
+use crate::asking::Asking;
+use crate::fake::{FakeNetwork, FakeWire, Kind};
+use crate::grids::{Grid, fake_grid};
+use crate::server::LONG;
+use local_grid::error::LoopError;
+use operation_loop::{Outside, carry_on};
+use std::alloc::Global;
+use std::test::Fail;
+use wire::message::{Body, Message, NodeId, WriteData};
+
+const TEN: [NodeId; 10] = [0, 1, 2, 3, 4, 5, 6, 7, 8, 9];
+
+// Asks each of ten servers once, up to a second.
+fn ask_ten(
+    alloc: Global,
+    grid: &mut Grid<FakeWire, FakeNetwork>,
+    until: u64,
+) -> Result<Asking, Fail> {
+    let mut asks = Vec::new(alloc);
+    for number in TEN {
+        asks.push((number, 100 + u32::from(number)))?;
+    }
+    let mut asking = Asking::new(alloc, asks.as_slice(), until)?;
+    match carry_on(alloc, grid, &mut asking, 10_000) {
+        Ok(()) => Ok(asking),
+        Err(_) => Err(Fail::from("a fault of the loop")),
+    }
+}
+
+#[test]
+fn all_answer_at_once(rt: HostRuntime) -> Result<(), Fail> {
+    let alloc = rt.alloc();
+    for step in [1, 2, 63, 64, 65, 1000] {
+        let mut grid = fake_grid(alloc, &[Kind::Honest; 10], step)?;
+        let asking = ask_ten(alloc, &mut grid, 100)?;
+        assert!(rt; asking.is_answered(0, 0), "{step} at a time");
+        assert!(rt; asking.ticks.is_empty() && grid.network().rests == 0);
+    }
+    Ok(())
+}
+
+#[test]
+fn one_that_does_not_answer_holds_nobody(rt: HostRuntime) -> Result<(), Fail> {
+    let alloc = rt.alloc();
+    for (kind, waits) in [(Kind::Silent, 20), (Kind::Mute, 10)] {
+        let mut kinds = [Kind::Honest; 10];
+        kinds[4] = kind;
+        let mut grid = fake_grid(alloc, &kinds, 1000)?;
+        let asking = ask_ten(alloc, &mut grid, 60)?;
+        assert!(rt; asking.heard.len() == 9);
+        assert!(rt;
+            asking
+                .heard
+                .iter()
+                .all(|heard| heard.0 != 4 && heard.3 == 0)
+        );
+        // it is waited for so long, and then the seconds are skipped
+        assert!(rt; grid.network().rests == waits && grid.clock() == 60);
+        let mut right = Vec::new(alloc);
+        for second in 1..=waits {
+            right.push(second)?;
+        }
+        for skipped in 1..=(60 - waits) / 5 {
+            right.push(waits + 5 * skipped)?;
+        }
+        assert!(rt; asking.ticks.as_slice() == right.as_slice());
+        // it is asked in vain from then on
+        assert!(rt;
+            grid.remotes()[4]
+                .as_ref()
+                .is_some_and(|server| server.is_silent())
+        );
+        let again = ask_ten(alloc, &mut grid, 100)?;
+        assert!(rt; again.heard.len() == 9 && grid.network().tries(4) == 1);
+        assert!(rt; grid.network().rests == waits);
+    }
+    Ok(())
+}
+
+#[test]
+fn those_that_end_cost_nothing(rt: HostRuntime) -> Result<(), Fail> {
+    let alloc = rt.alloc();
+    for kind in [Kind::Refuses, Kind::Other, Kind::Garbage, Kind::EndsInFrame] {
+        for step in [1, 1000] {
+            let mut kinds = [Kind::Honest; 10];
+            kinds[9] = kind;
+            let mut grid = fake_grid(alloc, &kinds, step)?;
+            let asking = ask_ten(alloc, &mut grid, 20)?;
+            assert!(rt; asking.heard.len() == 9 && grid.network().rests == 0);
+            assert!(rt; asking.ticks.as_slice() == [5, 10, 15, 20].as_slice());
+        }
+    }
+    Ok(())
+}
+
+// How often connections are made to a server of a kind that is asked five times.
+fn tries_of(alloc: Global, kind: Kind) -> Result<(usize, usize), Fail> {
+    let mut grid = fake_grid(alloc, &[kind], 1000)?;
+    let mut heard = 0usize;
+    for until in 1..=5 {
+        let mut asking = Asking::new(alloc, &[(0, 10)], 5 * until)?;
+        if carry_on(alloc, &mut grid, &mut asking, 1000).is_err() {
+            return Err(Fail::from("a fault of the loop"));
+        }
+        heard = heard.saturating_add(asking.heard.len());
+    }
+    Ok((grid.network().tries(0), heard))
+}
+
+#[test]
+fn connections_are_made_anew(rt: HostRuntime) -> Result<(), Fail> {
+    let alloc = rt.alloc();
+    assert!(rt; tries_of(alloc, Kind::Honest)? == (1, 5));
+    assert!(rt; tries_of(alloc, Kind::EndsOnce)? == (2, 4));
+    assert!(rt; tries_of(alloc, Kind::EndsInFrame)? == (3, 0));
+    assert!(rt; tries_of(alloc, Kind::Refuses)? == (3, 0));
+    assert!(rt; tries_of(alloc, Kind::Other)? == (1, 0));
+    assert!(rt; tries_of(alloc, Kind::Garbage)? == (1, 0));
+    Ok(())
+}
+
+#[test]
+fn servers_of_both_kinds(rt: HostRuntime) -> Result<(), Fail> {
+    let alloc = rt.alloc();
+    let mut grid = fake_grid(alloc, &[Kind::Honest; 2], 1000)?;
+    // the third is in this process; there is no fourth
+    let mut asking = Asking::new(alloc, &[(2, 9), (0, 10), (3, 9), (1, 11)], 5)?;
+    assert!(rt; carry_on(alloc, &mut grid, &mut asking, 1000).is_ok());
+    let right = [(2, 1, 9, 0), (0, 2, 10, 0), (1, 4, 11, 0)];
+    assert!(rt; asking.heard.as_slice() == right.as_slice());
+    assert!(rt; grid.here().nodes().len() == 3 && grid.clock() == 5);
+    Ok(())
+}
+
+#[test]
+fn turns_are_limited(rt: HostRuntime) -> Result<(), Fail> {
+    let alloc = rt.alloc();
+    // two turns to ask and two to hear
+    for (limit, right) in [(3, Err(LoopError::TurnLimit)), (4, Ok(()))] {
+        let mut grid = fake_grid(alloc, &[Kind::Honest], 1000)?;
+        let mut asking = Asking::new(alloc, &[(0, 10), (0, 20)], 100)?;
+        assert!(rt; carry_on(alloc, &mut grid, &mut asking, limit) == right);
+    }
+    Ok(())
+}
+
+#[test]
+fn what_a_server_is_told_is_bounded(rt: HostRuntime) -> Result<(), Fail> {
+    let alloc = rt.alloc();
+    let mut grid = fake_grid(alloc, &[Kind::Silent], 1000)?;
+    let Some(bytes) = WriteData::from_vec(Vec::from_elem(alloc, 7, 32_768)?) else {
+        return Err(Fail::from("too long"));
+    };
+    let message = Message {
+        session: 1,
+        number: 1,
+        body: Body::Write(LONG, 0, bytes),
+    };
+    for count in 1..=600 {
+        assert!(rt; grid.hand(0, &message)?.is_none());
+        // the greeting, and frames of 32,815 bytes up to the first above 16 MiB
+        let right = 64 + 32_815 * 512.min(count);
+        assert!(rt;
+            grid.remotes()[0]
+                .as_ref()
+                .is_some_and(|server| server.waiting() == right)
+        );
+    }
+    Ok(())
+}
