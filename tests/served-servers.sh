@@ -4,7 +4,7 @@
 #
 #     tests/served-servers.sh
 #
-# Run by hand: the program is built first where it is not. It needs two free ports above 20000, and
+# Run by hand: the program is built first where it is not. It needs three free ports above 20000, and
 # leaves nothing. Each line that begins with `differs` tells what was otherwise than it has to be;
 # the last line counts them, and the status is 0 where there are none.
 
@@ -18,7 +18,7 @@ seen=0
 port=$((20000 + $$ % 20000))
 
 ends_all() {
-    for server in 4 5 6 7 8 9; do stops $server; done
+    for server in 4 5 6 7 8 9 h0 h1; do stops $server; done
     cd / && rm -rf "$room"
 }
 trap ends_all EXIT
@@ -69,6 +69,8 @@ notes() {
     shift 2
     ends "$@" && [ "$(grep -c "^$text" err)" = "$count" ]
 }
+
+not() { ! "$@"; }
 
 gives_file() { ends "$1" 0 get "$cap" --grid g -o got && cmp -s got "$2"; }
 
@@ -142,6 +144,41 @@ sees 'the name of a machine' tells 'happiness 8' 60 0 put small --grid g
 printf '127.0.0.1:%s' "$port" > g/server-006
 echo "unix:$room/5.sock" > g/server-005
 sees 'an address without a line feed' tells 'happiness 10' 60 0 put small --grid g
+
+# ---- a folder that is served is closed to a command of this machine that writes there
+
+rm g/server-008 && ln -s ../disk/8 g/server-008
+sees 'a put into a served folder' notes 1 'grid: 105 InUse g/server-008' 20 7 put small --grid g
+cap=$(head -c 100000 large | "$grid" put - --grid g --servers 8 -q)
+sees 'a put beside it' [ -n "$cap" ]
+sees 'a repair of it' notes 1 'grid: 105 InUse g/server-008' 20 7 repair "$cap" --grid g
+sees 'a get beside it' ends 20 0 get "$cap" --grid g -o got
+sees 'a check beside it' ends 20 0 check "$cap" --grid g
+sees 'the lock of that folder' not flock -n -s disk/8 true
+rm g/server-008 && ln -s "$room/8.sock" g/server-008
+flock -s g/server-000 sleep 5 &
+sees 'a put beside another command' tells 'happiness 10' 20 0 put small --grid g
+sees 'serving a folder beside a command' notes 1 'grid: 105 InUse g/server-000' 20 7 \
+    serve g/server-000 --listen "unix:$room/0.sock"
+wait $!
+
+# ---- a grid of servers elsewhere, made by one command
+
+sees 'an address that is none' notes 1 'grid: 2 BadParameters' 20 3 init h --server 0=here
+sees 'that nothing was made' [ ! -e h ]
+sees 'a grid of servers elsewhere' tells 'servers 3' 20 0 init h --servers 3 \
+    --server "0=unix:$room/h0.sock" --server "1=127.0.0.1:$((port + 2))"
+letters=$(cut -d ' ' -f 2 h/grid-mark)
+mkdir disk/h0 disk/h1
+"$grid" serve disk/h0 --listen "unix:$room/h0.sock" --mark "grid $letters server 0" 2> said.h0 &
+echo $! > pid.h0
+"$grid" serve disk/h1 --listen "127.0.0.1:$((port + 2))" --mark "grid $letters server 1" \
+    2> said.h1 &
+echo $! > pid.h1
+sleep 1
+sees 'a put there' tells 'happiness 3' 20 0 put small --grid h --k 2 --n 3 --happy 3
+sees 'one more' tells 'servers 4' 20 0 init h --add 1 --server "3=unix:$room/h3.sock"
+sees 'its file' grep -qx "unix:$room/h3.sock" h/server-003
 
 echo "$seen seen, $differed differed"
 [ $differed = 0 ]

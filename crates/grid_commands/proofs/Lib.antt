@@ -1,3 +1,4 @@
+mod ElsewhereLemmas
 mod Faulting
 mod RunLemmas
 mod ScrubLemmas

@@ -1,8 +1,10 @@
 -- What an `init` tells.
 use Rattle.std.specs.Prelude.{◌≡◌, ◌≤◌, ℕ, ◌-◌, List, [], ◌++◌, Option, Some, None, codes, decimal}
-use Rattle.std.specs.Prelude.{encode_utf8_all, map, unwrap_or, ⊤}
+use Rattle.std.specs.Prelude.{All, encode_utf8_all, map, nat_eq, unwrap_or, ⊤}
 use Rattle.std.specs.Borrow.{Bor}
+use Rattle.std.specs.List.{IsDistinct}
 use Rattle.grid_faults.specs.ToldPath.{told_char}
+use Rattle.grid_commands.specs.Elsewhere.{AreNamed, IsNewServer}
 use Rattle.grid_words.specs.declared.words.InitWords.{InitWords}
 use Rattle.grid_words.specs.declared.words.Marking.{Marking}
 use Rattle.grid_words.specs.declared.words.Marking.TheVariants.{New, Replace, Add, Adopt}
@@ -29,11 +31,16 @@ IsSecretText grid None text = text ≡ []
 IsSecretText grid (Some secret) text = (chars : List ℕ)
     × (encode_utf8_all chars ≡ grid ++ codes "/grid-secret") × (text ≡ secret_line chars)
 
--- What is told of the marks that these words ask for.
+-- What is told of the marks that these words ask for. Each server that is served elsewhere is new,
+-- and is named once.
 pub record IsInitBy (words : InitWords) (lines : List ℕ) : Type 0 where
   pub count : ℕ
   pub few : count ≤ 256
   pub marked : IsCountBy words.marking count
+  pub servers : List ℕ
+  pub named : AreNamed words.elsewhere.items servers
+  pub distinct : IsDistinct nat_eq servers
+  pub new : All (IsNewServer words.marking count) servers
   pub secret : List ℕ
   pub kept : IsSecretText words.grid.now words.secret_file secret
   pub told : lines ≡ servers_line count ++ secret

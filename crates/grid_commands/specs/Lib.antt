@@ -2,6 +2,7 @@
 pub mod Texts
 pub mod Inits
 pub mod Scrubs
+pub mod Elsewhere
 pub mod Exit
 pub mod Commands
 pub mod Grid

@@ -1,17 +1,20 @@
 //! `grid init`: a grid comes to know its servers, or other servers than before.
 
-ghost use Rattle.std.specs.Prelude.{◌≡◌, ◌≤◌, ◌<◌, ◌-◌, ◌^◌, IfOk, IfSome, unwrap_or};
+ghost use Rattle.std.specs.Prelude.{◌≡◌, ◌≤◌, ◌<◌, ◌-◌, ◌^◌, All, IfOk, IfSome, unwrap_or};
 ghost use Rattle.std.specs.String.{string_bytes};
+ghost use Rattle.grid_marks.specs.Addresses.{AreOf};
+ghost use Rattle.grid_commands.specs.Elsewhere.{IsNewServer};
 ghost use Rattle.grid_commands.specs.Inits.{IsCountBy, IsInitBy, IsSecretText};
 
+use crate::elsewhere::{named_servers, refuse_any, refuse_others};
 use grid_faults::{Fault, Limit, told_path};
 use grid_marks::{
-    MAX_SERVERS, add_servers, adopt_grid, can_be_marked, grid_servers_count, make_grid, mark_grid,
+    AddressFile, MAX_SERVERS, add_servers, adopt_grid, can_be_marked, grid_servers_count, make_grid, mark_grid,
     replace_server,
 };
 use grid_servers::{
-    Durability, draw_secret, grid_secret, keep_secret, read_secret_file, secret_path,
-    standing_servers,
+    Durability, draw_secret, grid_secret, keep_secret, read_secret_file, refuse_no_address,
+    secret_path, standing_servers,
 };
 use grid_telling::{Progress, note_limits};
 use grid_words::{InitWords, Marking};
@@ -39,7 +42,8 @@ where
     E: Write + IsTerminal,
     ensures { IfOk result (λ lines. IsInitBy words.now lines.items) }
 {
-    let servers = mark(rt, words, progress)?;
+    let elsewhere = named_servers(rt, words.elsewhere.as_slice(), progress)?;
+    let servers = mark(rt, words, elsewhere.as_slice(), progress)?;
     let secret = secret_text(rt.alloc(), words)?;
     Ok(format!(in rt.alloc(); "servers {servers}\n{secret}")?.into_bytes())
 }
@@ -63,6 +67,7 @@ fn secret_text(alloc: Global, words: &InitWords<'_>) -> Result<String, Fault>
 fn mark<R, E>(
     rt: &R,
     words: &InitWords<'_>,
+    elsewhere: &[AddressFile<'_>],
     progress: &mut Progress<'_, R, E>,
 ) -> Result<u16, Fault>
 where
@@ -70,12 +75,20 @@ where
     E: Write + IsTerminal,
     ensures marked { IfOk result (λ count. IsCountBy words.now.marking count) }
     ensures few { IfOk result (λ count. count ≤ 256) }
+    ensures new { IfOk result (λ count. All (λ file. IsNewServer words.now.marking count file.server)
+        elsewhere.now) }
 {
     match words.marking {
-        Marking::New(servers) => new_grid(rt, words, servers, progress),
-        Marking::Replace(server) => replace(rt, words.grid, server, progress),
-        Marking::Add(more) => add(rt, words.grid, more, progress),
-        Marking::Adopt(servers) => adopt(rt, words, servers, progress),
+        Marking::New(servers) => new_grid(rt, words, servers, elsewhere, progress),
+        Marking::Add(more) => add(rt, words.grid, more, elsewhere, progress),
+        Marking::Replace(server) => {
+            refuse_any(elsewhere)?;
+            replace(rt, words.grid, server, progress)
+        }
+        Marking::Adopt(servers) => {
+            refuse_any(elsewhere)?;
+            adopt(rt, words, servers, progress)
+        }
     }
 }
 
@@ -84,21 +97,39 @@ fn new_grid<R, E>(
     rt: &R,
     words: &InitWords<'_>,
     servers: Option<u64>,
+    elsewhere: &[AddressFile<'_>],
     progress: &mut Progress<'_, R, E>,
 ) -> Result<u16, Fault>
 where
     R: Files + Clock + RandomSource + AllocGlobal + Clone + Drop,
     E: Write + IsTerminal,
+    ensures count { IfOk result (λ count. (count ≡ unwrap_or servers 10) × (count ≤ 256)) }
+    ensures new { IfOk result (λ count. AreOf 0 count elsewhere.now) }
+{
+    let servers = new_count(rt, words.grid, servers, progress)?;
+    refuse_others(rt, words.grid, elsewhere, 0..servers, progress)?;
+    begin_secret(rt, words)?;
+    mark_grid(rt, words.grid, servers, elsewhere)?;
+    Ok(servers)
+}
+
+// How many servers a new grid has: so many, or 10. A folder that stands there is not left out.
+fn new_count<R, E>(
+    rt: &R,
+    grid: &str,
+    servers: Option<u64>,
+    progress: &mut Progress<'_, R, E>,
+) -> Result<u16, Fault>
+where
+    R: Files + Clock + AllocGlobal + Clone + Drop,
+    E: Write + IsTerminal,
     ensures { IfOk result (λ count. (count ≡ unwrap_or servers 10) × (count ≤ 256)) }
 {
     let asked = servers.unwrap_or(USUAL_SERVERS);
     within(rt, &server_limit(asked, 1), progress)?;
-    can_be_marked(rt, words.grid)?;
-    let least = standing_count(rt, words.grid)?;
-    let servers = within(rt, &server_limit(asked, least), progress)?;
-    begin_secret(rt, words)?;
-    mark_grid(rt, words.grid, servers)?;
-    Ok(servers)
+    can_be_marked(rt, grid)?;
+    let least = standing_count(rt, grid)?;
+    within(rt, &server_limit(asked, least), progress)
 }
 
 /// The most servers of a grid.
@@ -129,20 +160,30 @@ where
 }
 
 // So many servers more.
-fn add<R, E>(rt: &R, grid: &str, more: u64, progress: &mut Progress<'_, R, E>) -> Result<u16, Fault>
+fn add<R, E>(
+    rt: &R,
+    grid: &str,
+    more: u64,
+    elsewhere: &[AddressFile<'_>],
+    progress: &mut Progress<'_, R, E>,
+) -> Result<u16, Fault>
 where
     R: Files + Clock + RandomSource + AllocGlobal + Clone + Drop,
     E: Write + IsTerminal,
-    ensures { IfOk result (λ count. (more ≤ count) × (count ≤ 256)) }
+    ensures count { IfOk result (λ count. (more ≤ count) × (count ≤ 256)) }
+    ensures new { IfOk result (λ count. AreOf (count - more) count elsewhere.now) }
 {
+    let known = known_count(rt, grid)?;
     let limit = Limit {
         option: "--add",
         value: more,
         least: 1,
-        most: MOST_SERVERS.saturating_sub(u64::from(known_count(rt, grid)?)),
+        most: MOST_SERVERS.saturating_sub(u64::from(known)),
     };
     let more = within(rt, &limit, progress)?;
-    add_servers(rt, grid, more)
+    let servers = known..known.saturating_add(more);
+    refuse_others(rt, grid, elsewhere, servers, progress)?;
+    add_servers(rt, grid, more, elsewhere)
 }
 
 // The grid's mark anew, by those of its servers, of which there are so many, where that is said.
@@ -166,6 +207,7 @@ where
         }
         None => None,
     };
+    refuse_no_address(rt, words.grid, 0..MAX_SERVERS)?;
     begin_secret(rt, words)?;
     adopt_grid(rt, words.grid, servers)
 }
@@ -241,8 +283,8 @@ where
     }
 }
 
-// What was given for an option, which is told where it may not be.
-fn within<R, E>(rt: &R, limit: &Limit<'_>, progress: &mut Progress<'_, R, E>) -> Result<u16, Fault>
+/// What was given for an option, which is told where it may not be.
+pub(crate) fn within<R, E>(rt: &R, limit: &Limit<'_>, progress: &mut Progress<'_, R, E>) -> Result<u16, Fault>
 where
     R: Clock + AllocGlobal,
     E: Write + IsTerminal,

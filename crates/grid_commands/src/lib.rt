@@ -10,6 +10,7 @@
 //! and `grid_telling`.
 #![tactic(auto)]
 
+mod elsewhere;
 mod exit;
 mod faults;
 mod init;
@@ -128,7 +129,7 @@ fn perform<R, F, O, E>(
     err: &mut E,
 ) -> u8
 where
-    R: Files + io::Input + Net + Clock + RandomSource + AllocGlobal + Clone + Drop,
+    R: Files + io::Input + Net + Clock + RandomSource + Locks + AllocGlobal + Clone + Drop,
     F: NamedFiles,
     O: io::Write,
     E: io::Write + IsTerminal,
@@ -168,7 +169,7 @@ fn run<R, F, O, E>(
     progress: &mut Progress<'_, R, E>,
 ) -> Result<u8, Failure>
 where
-    R: Files + io::Input + Net + Clock + RandomSource + AllocGlobal + Clone + Drop,
+    R: Files + io::Input + Net + Clock + RandomSource + Locks + AllocGlobal + Clone + Drop,
     F: NamedFiles,
     O: io::Write,
     E: io::Write + IsTerminal,

@@ -13,7 +13,7 @@ use Rattle.grid_faults.specs.declared.fault.Fault.TheVariants.{BadScript, Source
 use Rattle.grid_faults.specs.declared.fault.Fault.TheVariants.{SourceFault}
 use Rattle.grid_faults.specs.declared.fault.Fault.TheVariants.{AlreadyGrid, SameFolder, OtherMark}
 use Rattle.grid_faults.specs.declared.fault.Fault.TheVariants.{BadMark, Output, NoServers}
-use Rattle.grid_faults.specs.declared.fault.Fault.TheVariants.{UnknownGrid, NotEmpty}
+use Rattle.grid_faults.specs.declared.fault.Fault.TheVariants.{UnknownGrid, NotEmpty, InUse}
 
 -- the number of a fault
 abbrev pub fault_number : Fault → ℕ
@@ -43,6 +43,7 @@ fault_number Output = 99
 fault_number (NoServers _) = 100
 fault_number (UnknownGrid _) = 101
 fault_number (NotEmpty _) = 102
+fault_number (InUse _) = 105
 
 -- the exit status that it gives
 abbrev pub fault_status : Fault → ℕ
@@ -72,6 +73,7 @@ fault_status Output = 7
 fault_status (NoServers _) = 5
 fault_status (UnknownGrid _) = 3
 fault_status (NotEmpty _) = 3
+fault_status (InUse _) = 7
 
 -- Does a line of its own tell why the fault came?
 abbrev pub has_reason : Fault → Bool

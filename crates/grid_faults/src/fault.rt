@@ -92,6 +92,9 @@ pub enum Fault {
     /// The folder of this path, which is to become a server's, holds something.
     #[error("NotEmpty {0}")]
     NotEmpty(String),
+    /// A process serves the folder of this path, or writes there, or listens at this address.
+    #[error("InUse {0}")]
+    InUse(String),
 }
 
 impl Fault {
@@ -126,13 +129,14 @@ impl Fault {
             Fault::NoServers(_) => 100,
             Fault::UnknownGrid(_) => 101,
             Fault::NotEmpty(_) => 102,
+            Fault::InUse(_) => 105,
         }
     }
 
     /// The exit status: 3 for refused input, 4 for an unhappy upload, 5 for too few shares and for
     /// a grid without a server, 6 for inconsistent ones, and 7 for memory, a file that fails or
     /// changes, a folder, a socket or a result that cannot be written, a grid's mark that is none,
-    /// for too many turns, and for a world that was stopped.
+    /// a folder or an address that is in use, for too many turns, and for a world that was stopped.
     pub fn status(&self) -> u8
         ensures { result ≡ fault_status self.now }
     {
@@ -161,7 +165,8 @@ impl Fault {
             | Fault::Socket(_)
             | Fault::TurnLimit
             | Fault::BadMark(_)
-            | Fault::Output => 7,
+            | Fault::Output
+            | Fault::InUse(_) => 7,
         }
     }
 

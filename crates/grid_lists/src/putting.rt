@@ -31,6 +31,7 @@ use std::net::Net;
 use std::random::RandomSource;
 use std::rt::{Clock, Files};
 use std::time::SystemTime;
+use user_files::Locks;
 
 // The exit status of what is done.
 const DONE: u8 = 0;
@@ -55,7 +56,7 @@ pub fn put<R, O, E>(
     progress: &mut Progress<'_, R, E>,
 ) -> Result<u8, Failure>
 where
-    R: Files + io::Input + Net + Clock + RandomSource + AllocGlobal + Clone + Drop,
+    R: Files + io::Input + Net + Clock + RandomSource + Locks + AllocGlobal + Clone + Drop,
     O: Write,
     E: Write + IsTerminal,
     ensures done { IfOk result (λ status. IsPutDone (GivesOpened R.File.stream_position
@@ -98,7 +99,7 @@ fn put_one<R, O, E>(
     progress: &mut Progress<'_, R, E>,
 ) -> Result<u8, Failure>
 where
-    R: Files + io::Input + Net + Clock + RandomSource + AllocGlobal + Clone + Drop,
+    R: Files + io::Input + Net + Clock + RandomSource + Locks + AllocGlobal + Clone + Drop,
     O: Write,
     E: Write + IsTerminal,
     ensures done { IfOk result (λ status. IsPutOne (GivesOpened R.File.stream_position
@@ -124,7 +125,7 @@ fn put_list<R, O, E>(
     progress: &mut Progress<'_, R, E>,
 ) -> Result<u8, Failure>
 where
-    R: Files + io::Input + Net + Clock + RandomSource + AllocGlobal + Clone + Drop,
+    R: Files + io::Input + Net + Clock + RandomSource + Locks + AllocGlobal + Clone + Drop,
     O: Write,
     E: Write + IsTerminal,
     ensures { IfOk result (λ status. IsPutList (GivesOpened R.File.stream_position
@@ -168,7 +169,7 @@ fn put_listed<R, O, E>(
     progress: &mut Progress<'_, R, E>,
 ) -> Result<u8, Failure>
 where
-    R: Files + io::Input + Net + Clock + RandomSource + AllocGlobal + Clone + Drop,
+    R: Files + io::Input + Net + Clock + RandomSource + Locks + AllocGlobal + Clone + Drop,
     O: Write,
     E: Write + IsTerminal,
     requires choices { AreChoicesBy storing.now.words.now storing.now.choices.now }
@@ -203,7 +204,7 @@ fn put_both<R, O, E>(
     progress: &mut Progress<'_, R, E>,
 ) -> Result<u8, Failure>
 where
-    R: Files + io::Input + Net + Clock + RandomSource + AllocGlobal + Clone + Drop,
+    R: Files + io::Input + Net + Clock + RandomSource + Locks + AllocGlobal + Clone + Drop,
     O: Write,
     E: Write + IsTerminal,
     requires { AreChoicesBy storing.now.words.now storing.now.choices.now }
@@ -231,7 +232,7 @@ fn put_names<R, O, E>(
     progress: &mut Progress<'_, R, E>,
 ) -> Result<u8, Failure>
 where
-    R: Files + io::Input + Net + Clock + RandomSource + AllocGlobal + Clone + Drop,
+    R: Files + io::Input + Net + Clock + RandomSource + Locks + AllocGlobal + Clone + Drop,
     O: Write,
     E: Write + IsTerminal,
     requires choices { AreChoicesBy storing.now.words.now storing.now.choices.now }
@@ -270,7 +271,7 @@ fn put_name<R, O, E>(
     progress: &mut Progress<'_, R, E>,
 ) -> Result<u8, Failure>
 where
-    R: Files + io::Input + Net + Clock + RandomSource + AllocGlobal + Clone + Drop,
+    R: Files + io::Input + Net + Clock + RandomSource + Locks + AllocGlobal + Clone + Drop,
     O: Write,
     E: Write + IsTerminal,
     requires choices { AreChoicesBy storing.now.words.now storing.now.choices.now }
@@ -302,7 +303,7 @@ fn put_named<R, E>(
     progress: &mut Progress<'_, R, E>,
 ) -> Result<PutFile, Fault>
 where
-    R: Files + io::Input + Net + Clock + RandomSource + AllocGlobal + Clone + Drop,
+    R: Files + io::Input + Net + Clock + RandomSource + Locks + AllocGlobal + Clone + Drop,
     E: Write + IsTerminal,
     requires choices { AreChoicesBy storing.now.words.now storing.now.choices.now }
     requires kept { IfSome kept.old (λ g. WereOpened

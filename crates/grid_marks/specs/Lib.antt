@@ -1,3 +1,4 @@
 -- What public contracts rest on.
+pub mod Addresses
 pub mod Marks
 pub mod Servers

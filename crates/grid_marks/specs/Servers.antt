@@ -2,6 +2,7 @@
 use Rattle.std.specs.Prelude.{◌≡◌, ◌⊎◌, ◌≤◌, ⊤, ℕ, List, codes, Bool, true, false, Option, None}
 use Rattle.std.specs.Prelude.{Some}
 use Rattle.std.specs.Io.{StartsWith}
+use Rattle.grid_marks.specs.declared.mark.Kind.{Kind}
 use Rattle.grid_marks.specs.declared.mark.Mark.{Mark}
 use Rattle.grid_marks.specs.declared.marks.Found.{Found}
 use Rattle.grid_marks.specs.declared.marks.Found.TheVariants as found
@@ -18,11 +19,11 @@ IsThis wanted found.Nothing = ⊥
 IsThis wanted (found.Mark mark) = IsAlike wanted mark
 IsThis wanted found.Other = ⊥
 
--- the number of a mark that was found is at most this one
-abbrev pub HasNumber : ℕ → Found → Type 0
-HasNumber most (found.Mark mark) = mark.number ≤ most
-HasNumber most found.Nothing = ⊤
-HasNumber most found.Other = ⊤
+-- a mark that was found is of this kind, and its number is one that marks have
+abbrev pub IsOfKind : Kind → Found → Type 0
+IsOfKind kind (found.Mark mark) = (mark.kind ≡ kind) × (mark.number ≤ 256)
+IsOfKind kind found.Nothing = ⊤
+IsOfKind kind found.Other = ⊤
 
 -- the identity of the first mark that was found
 abbrev pub identity_after : Option (List ℕ) → Found → Option (List ℕ)

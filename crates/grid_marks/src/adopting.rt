@@ -7,7 +7,7 @@ use crate::folders::server_folder;
 use crate::init::{can_be_marked, end};
 use crate::mark::{Identity, Kind, MAX_SERVERS, Mark};
 use crate::marking::is_own;
-use crate::marks::{Found, find_mark, likeness_of, mark_path, server_mark};
+use crate::marks::{Found, find_mark, likeness_of, mark_path};
 use grid_faults::{Fault, told_path};
 use std::fs;
 use std::random::RandomSource;
@@ -101,22 +101,13 @@ where
     let found = if_there(find_mark(rt, path.as_str(), Kind::Server))?.unwrap_or(Found::Nothing);
     let identity = identity_after(told.identity, &found);
     if let Some(identity) = identity {
-        let wanted = wanted_mark(identity, server);
+        let wanted = Mark::of_server(identity, server);
         is_own(alloc, likeness_of(&found, &wanted), server, path.as_str())?;
     }
     Ok(Told {
         identity,
         least: server.saturating_add(1),
     })
-}
-
-// The mark of a server in a grid of this identity.
-fn wanted_mark(identity: Identity, server: NodeId) -> Mark {
-    Mark {
-        identity,
-        kind: Kind::Server,
-        number: server,
-    }
 }
 
 // The identity of the first mark that was found.

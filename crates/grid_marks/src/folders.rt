@@ -15,7 +15,7 @@ use std::io::{ErrorKind, Write};
 use std::os::unix::fs::FileTypeExt;
 use std::rt::Files;
 use std::{fs, io};
-use user_files::at_path;
+use user_files::{at_path, if_there};
 use wire::message::NodeId;
 
 /// Refuses a grid's folder that is not there.
@@ -76,6 +76,20 @@ pub fn server_folder(alloc: Global, grid: &str, server: NodeId) -> Result<String
 /// it, or a file that has its address.
 pub fn is_elsewhere(found: &Metadata) -> bool {
     found.is_file() || found.file_type().is_socket()
+}
+
+/// Whether a server is served elsewhere: a socket or a regular file stands under its name. An error
+/// only where memory was refused.
+pub fn is_served_elsewhere<R>(rt: &R, grid: &str, server: NodeId) -> Result<bool, Fault>
+where
+    R: Files + AllocGlobal,
+    ensures { IfErr result (λ fault. fault ≡ Fault.OutOfMemory) }
+{
+    let path = server_folder(rt.alloc(), grid, server)?;
+    match if_there(fs::metadata(rt, path.as_str()))? {
+        Some(found) => Ok(is_elsewhere(&found)),
+        None => Ok(false),
+    }
 }
 
 // The name of the file that is made to try a folder. No share has it.

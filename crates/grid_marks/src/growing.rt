@@ -1,14 +1,17 @@
 //! How a grid that knows its servers gets a new disk for one, or servers more.
 
-ghost use Rattle.std.specs.Prelude.{◌≡◌, ◌↔◌, ◌≤◌, ◌<◌, ◌+◌, IfOk, IfSome, IfNone, IsErr, IsOk};
-ghost use Rattle.std.specs.Prelude.{IsTrue};
+ghost use Rattle.std.specs.Prelude.{◌≡◌, ◌↔◌, ◌≤◌, ◌<◌, ◌+◌, ◌-◌, IfOk, IfSome, IfNone, IsErr};
+ghost use Rattle.std.specs.Prelude.{IsOk, IsTrue};
+ghost use Rattle.grid_marks.specs.Addresses.{AreOf};
 ghost use Rattle.grid_marks.specs.Servers.{IsAlike, IsPassedOver};
 
+use crate::addresses::{AddressFile, refuse_others, refuse_taken};
 use crate::folders::server_folder;
 use crate::init::{PART, claim, replace_part};
 use crate::mark::{Kind, MAX_SERVERS, Mark};
 use crate::marking::{
-    has_own_mark, mark_server, note_folder, note_seen, refuse_other_mark, standing_folder,
+    has_own_mark, mark_server, mark_servers, note_folder, note_seen, refuse_other_mark,
+    standing_folder,
 };
 use crate::marks::{MARK, known_mark, mark_path};
 use disks::error::DiskError;
@@ -103,29 +106,51 @@ where
 }
 
 /// Has a grid that knows its servers know so many more, and gives how many they are then. Their
-/// folders are made where they are not there. The marks are on the disk when this ends; a call that
-/// was cut off leaves the old number, and can be made again.
+/// folders are made where they are not there, and these files are written of those that are served
+/// elsewhere. The marks are on the disk when this ends; a call that was cut off leaves the old
+/// number, and can be made again.
 ///
 /// `UnknownGrid` where the grid has no mark, `BadParameters` where the servers were more than 256,
-/// `SameFolder` and `OtherMark` as of `mark_grid`. `AlreadyGrid` where another call at the same
+/// or one of the files is that of no new server, and the other faults as of `mark_grid`. `AlreadyGrid` where another call at the same
 /// time, or one that was cut off, adds another number of servers, and where another came to its end
 /// first.
-pub fn add_servers<R>(rt: &R, grid: &str, more: u16) -> Result<u16, Fault>
+pub fn add_servers<R>(
+    rt: &R,
+    grid: &str,
+    more: u16,
+    elsewhere: &[AddressFile<'_>],
+) -> Result<u16, Fault>
 where
     R: Files + RandomSource + AllocGlobal + Clone + Drop,
-    ensures { IfOk result (λ servers. (more ≤ servers) × (servers ≤ MAX_SERVERS)) }
+    ensures number { IfOk result (λ servers. (more ≤ servers) × (servers ≤ MAX_SERVERS)) }
+    ensures elsewhere { IfOk result
+        (λ servers. AreOf (servers - more) servers elsewhere.now) }
 {
     let old = known_mark(rt, grid)?;
     let Some(new) = grown(&old, more) else {
         return Err(Fault::BadParameters);
     };
-    refuse_new(rt, grid, &old, &new)?;
-    begin_growth(rt, grid, &old, &new)?;
-    for server in old.number..new.number {
-        mark_server(rt, grid, server, &new)?;
-    }
-    end_growth(rt, grid, &old, &new)?;
+    refuse_others(elsewhere, old.number..new.number)?;
+    grow(rt, grid, &old, &new, elsewhere)?;
     Ok(new.number)
+}
+
+// Has a grid of one mark have another one of more servers.
+fn grow<R>(
+    rt: &R,
+    grid: &str,
+    old: &Mark,
+    new: &Mark,
+    elsewhere: &[AddressFile<'_>],
+) -> Result<(), Fault>
+where
+    R: Files + RandomSource + AllocGlobal + Clone + Drop,
+{
+    refuse_new(rt, grid, old, new)?;
+    refuse_taken(rt, grid, elsewhere)?;
+    begin_growth(rt, grid, old, new)?;
+    mark_servers(rt, grid, old.number..new.number, new, elsewhere)?;
+    end_growth(rt, grid, old, new)
 }
 
 // The mark of a grid with so many servers more. None where they are too many.
@@ -214,7 +239,7 @@ fn end_growth<R>(rt: &R, grid: &str, old: &Mark, new: &Mark) -> Result<(), Fault
 where
     R: Files + RandomSource + AllocGlobal,
 {
-    if !is_alike(&known_mark(rt, grid)?, old) || !is_alike(&claim(rt, grid, new)?, new) {
+    if !known_mark(rt, grid)?.is_alike(old) || !claim(rt, grid, new)?.is_alike(new) {
         return Err(Fault::AlreadyGrid);
     }
     let folder = String::from_str(rt.alloc(), grid)?;
@@ -240,12 +265,4 @@ fn growth_fault(alloc: Global, grid: &str, unmoved: Unmoved) -> Result<(), Fault
             at_path(alloc, Err(error.reason()), path.as_str())
         }
     }
-}
-
-// Whether two marks of a grid say the same.
-fn is_alike(one: &Mark, other: &Mark) -> bool
-    ensures { IsTrue result ↔ IsAlike other.now one.now }
-{
-    let (first, second) = (one.identity, other.identity);
-    first == second && one.number == other.number
 }

@@ -6,11 +6,13 @@
 //! marks, and one of them is refused at the end.
 
 ghost use Rattle.std.specs.Prelude.{◌≡◌, ◌↔◌, ◌<◌, length, IfErr, IfOk, IsOk};
+ghost use Rattle.grid_marks.specs.Addresses.{AreOf};
 
+use crate::addresses::{AddressFile, refuse_others, refuse_taken};
 use crate::folders::{can_be_grid, make_grid};
 use crate::mark::{Identity, Kind, Mark, identity_of};
 use crate::marking::{
-    Folders, mark_file, mark_server, note_folder, publish_mark, refuse_other_mark, standing_folder,
+    Folders, mark_file, mark_servers, note_folder, publish_mark, refuse_other_mark, standing_folder,
 };
 use crate::marks::{Found, find_mark, mark_path};
 use grid_faults::Fault;
@@ -37,24 +39,46 @@ where
 }
 
 /// Has a grid know that it has so many servers. Its folder and theirs are made where they are not
-/// there, and keep what they hold; the marks are on the disk when this ends. A server that runs
-/// elsewhere, by a socket or a file under its name, is counted, and has no mark from here.
+/// there, and keep what they hold; the marks are on the disk when this ends. A server that is
+/// served elsewhere, by a socket or a file under its name, is counted, and has no mark from here:
+/// so those of these files, which are written first.
 ///
-/// `SameFolder` where the folders of two servers are one, and `OtherMark` where one has a mark
-/// already, which is not that of an earlier call that came to no end. What can be found before
-/// anything is written is refused then. `AlreadyGrid` where an earlier call, or another at the same
-/// time, began with another number, and where another came to its end first.
-pub fn mark_grid<R>(rt: &R, grid: &str, servers: u16) -> Result<(), Fault>
+/// `BadParameters` where one of the files is that of no such server, `SameFolder` where the folders
+/// of two servers are one, `OtherMark` where one has a mark already, which is not that of an
+/// earlier call that came to no end, and a fault of the path where something else stands in the
+/// place of a file. What can be found before anything is written is refused then. `AlreadyGrid`
+/// where an earlier call, or another at the same time, began with another number, and where another
+/// came to its end first.
+pub fn mark_grid<R>(
+    rt: &R,
+    grid: &str,
+    servers: u16,
+    elsewhere: &[AddressFile<'_>],
+) -> Result<(), Fault>
 where
     R: Files + Clock + RandomSource + AllocGlobal + Clone + Drop,
+    ensures { IfOk result (λ _. AreOf 0 servers elsewhere.now) }
 {
+    refuse_others(elsewhere, 0..servers)?;
     let begun = begun_mark(rt, grid, servers)?;
     refuse_folders(rt, grid, &begun)?;
+    refuse_taken(rt, grid, elsewhere)?;
+    write_marks(rt, grid, &begun, elsewhere)
+}
+
+// Marks a grid and its servers, by a mark that another call began with, or a new one.
+fn write_marks<R>(
+    rt: &R,
+    grid: &str,
+    begun: &Mark,
+    elsewhere: &[AddressFile<'_>],
+) -> Result<(), Fault>
+where
+    R: Files + RandomSource + AllocGlobal,
+{
     make_grid(rt, grid, Durability::Synced)?;
-    let known = begin(rt, grid, &begun)?;
-    for server in 0..servers {
-        mark_server(rt, grid, server, &known)?;
-    }
+    let known = begin(rt, grid, begun)?;
+    mark_servers(rt, grid, 0..begun.number, &known, elsewhere)?;
     end(rt, grid, &known)
 }
 

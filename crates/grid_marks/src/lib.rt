@@ -6,6 +6,7 @@
 //! folder without the mark of that server is none.
 #![tactic(auto)]
 
+mod addresses;
 mod adopting;
 mod folders;
 mod growing;
@@ -14,9 +15,13 @@ mod mark;
 mod marking;
 mod marks;
 
+pub use addresses::AddressFile;
 pub use adopting::adopt_grid;
-pub use folders::{can_be_grid, folder_fault, is_elsewhere, is_grid, make_grid, server_folder};
+pub use folders::{
+    can_be_grid, folder_fault, is_elsewhere, is_grid, is_served_elsewhere, make_grid, server_folder,
+};
 pub use growing::{add_servers, replace_server};
 pub use init::{can_be_marked, mark_grid};
 pub use mark::{Identity, Kind, MAX_SERVERS, Mark, identity_of};
-pub use marks::{grid_mark, grid_servers_count, known_grid, try_known, try_mark};
+pub use marking::publish_mark;
+pub use marks::{folder_mark, grid_mark, grid_servers_count, known_grid, mark_path, try_known, try_mark};

@@ -1,15 +1,17 @@
 //! What stands in a mark.
 
 ghost use Rattle.std.specs.Prelude.{◌≡◌, ◌++◌, ◌<◌, ◌≤◌, ℕ, List, codes, IfOk, IsSome, IfSome};
-ghost use Rattle.std.specs.Prelude.{IsSomeAnd, take};
+ghost use Rattle.std.specs.Prelude.{◌↔◌, IsSomeAnd, IsTrue, take};
 ghost use Rattle.std.specs.String.{string_bytes};
 ghost use Rattle.sha2.specs.Sha256.{sha256};
 ghost use Rattle.cap_text.specs.Base32.{IsBytes, base32};
-ghost use Rattle.grid_marks.specs.Marks.{IsMark, mark_text, kind_text};
+ghost use Rattle.grid_marks.specs.Marks.{IsMark, kind_text, mark_text, server_mark};
+ghost use Rattle.grid_marks.specs.Servers.{IsAlike};
 
 use cap_text::{CapError, from_base32, to_base32};
 use sha2::{Digest, Sha256};
 use std::alloc::Global;
+use wire::message::NodeId;
 
 /// What tells a grid from all others.
 pub type Identity = [u8; 16];
@@ -62,6 +64,25 @@ pub struct Mark {
 }
 
 impl Mark {
+    /// The mark of a server, in a grid of this identity.
+    pub fn of_server(identity: Identity, server: NodeId) -> Mark
+        ensures { result ≡ server_mark identity server }
+    {
+        Mark {
+            identity,
+            kind: Kind::Server,
+            number: server,
+        }
+    }
+
+    /// Whether another mark has this identity and this number.
+    pub fn is_alike(&self, other: &Mark) -> bool
+        ensures { IsTrue result ↔ IsAlike other.now self.now }
+    {
+        let (first, second) = (self.identity, other.identity);
+        first == second && self.number == other.number
+    }
+
     /// The text of the mark. Nothing but memory is refused.
     pub fn text(&self, alloc: Global) -> Result<String, CapError>
         ensures { IfOk result (λ text. string_bytes text ≡ mark_text self.now) }

@@ -3,14 +3,16 @@
 ghost use Rattle.std.specs.Prelude.{IfOk};
 ghost use Rattle.grid_marks.specs.Servers.{IsOwn};
 
-use crate::folders::{is_elsewhere, server_folder};
+use crate::addresses::{AddressFile, publish_addresses};
+use crate::folders::{is_elsewhere, is_served_elsewhere, server_folder};
 use crate::mark::{Kind, Mark};
-use crate::marks::{Likeness, find_mark, likeness_of, mark_path, server_mark};
+use crate::marks::{Likeness, find_mark, likeness_of, mark_path};
 use grid_faults::{Fault, server_name, told_path};
 use share_folders::disk::{Durability, make_folder};
 use std::alloc::{AllocError, Global};
 use std::fs::Metadata;
 use std::io::ErrorKind;
+use std::ops::Range;
 use std::os::unix::fs::MetadataExt;
 use std::random::RandomSource;
 use std::rt::Files;
@@ -93,18 +95,6 @@ where
     at_path(rt.alloc(), found, folder.as_str())
 }
 
-// Whether a server of a grid runs elsewhere.
-fn runs_elsewhere<R>(rt: &R, grid: &str, server: NodeId) -> Result<bool, Fault>
-where
-    R: Files + AllocGlobal,
-{
-    let folder = server_folder(rt.alloc(), grid, server)?;
-    match if_there(fs::metadata(rt, folder.as_str()))? {
-        Some(found) => Ok(is_elsewhere(&found)),
-        None => Ok(false),
-    }
-}
-
 /// Refuses a server's folder that has another mark. One that runs elsewhere has none here.
 pub(crate) fn refuse_other_mark<R>(
     rt: &R,
@@ -115,7 +105,7 @@ pub(crate) fn refuse_other_mark<R>(
 where
     R: Files + AllocGlobal,
 {
-    if !runs_elsewhere(rt, grid, server)? {
+    if !is_served_elsewhere(rt, grid, server)? {
         has_own_mark(rt, grid, server, known)?;
     }
     Ok(())
@@ -136,7 +126,7 @@ where
     let path = mark_path(alloc, folder.as_str())?;
     let found = find_mark(rt, path.as_str(), Kind::Server);
     let found = at_path(alloc, found, path.as_str())?;
-    let likeness = likeness_of(&found, &server_mark(known, server));
+    let likeness = likeness_of(&found, &Mark::of_server(known.identity, server));
     is_own(alloc, likeness, server, path.as_str())
 }
 
@@ -164,13 +154,32 @@ fn same_folder(alloc: Global, first: NodeId, second: NodeId) -> Result<Fault, Al
     Ok(Fault::SameFolder(first, server_name(alloc, second)?))
 }
 
+/// Writes these files of servers that are served elsewhere, and marks all others of these servers.
+/// All that is on the disk then.
+pub(crate) fn mark_servers<R>(
+    rt: &R,
+    grid: &str,
+    servers: Range<NodeId>,
+    known: &Mark,
+    elsewhere: &[AddressFile<'_>],
+) -> Result<(), Fault>
+where
+    R: Files + RandomSource + AllocGlobal,
+{
+    publish_addresses(rt, grid, elsewhere)?;
+    for server in servers {
+        mark_server(rt, grid, server, known)?;
+    }
+    Ok(())
+}
+
 /// Makes a server's folder where it is not there, and marks it. The mark is on the disk then. One
-/// that runs elsewhere has its mark from whoever serves it.
+/// that is served elsewhere has its mark from whoever serves it.
 pub(crate) fn mark_server<R>(rt: &R, grid: &str, server: NodeId, known: &Mark) -> Result<(), Fault>
 where
     R: Files + RandomSource + AllocGlobal,
 {
-    if runs_elsewhere(rt, grid, server)? {
+    if is_served_elsewhere(rt, grid, server)? {
         return Ok(());
     }
     let alloc = rt.alloc();
@@ -192,7 +201,7 @@ where
     let alloc = rt.alloc();
     let folder = server_folder(alloc, grid, server)?;
     let path = mark_path(alloc, folder.as_str())?;
-    let mark = server_mark(known, server);
+    let mark = Mark::of_server(known.identity, server);
     if publish_mark(rt, folder.as_str(), path.as_str(), &mark)?
         || has_own_mark(rt, grid, server, known)?
     {
@@ -203,7 +212,7 @@ where
 
 /// Writes a mark in a folder, whole and on the disk, where nothing stands at its path, and says
 /// whether it did.
-pub(crate) fn publish_mark<R>(rt: &R, folder: &str, path: &str, mark: &Mark) -> Result<bool, Fault>
+pub fn publish_mark<R>(rt: &R, folder: &str, path: &str, mark: &Mark) -> Result<bool, Fault>
 where
     R: Files + RandomSource + AllocGlobal,
 {

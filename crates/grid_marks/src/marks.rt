@@ -1,8 +1,10 @@
 //! The marks of a grid that knows its servers. In such a grid a folder that has not the mark of its
 //! server is none, as one over which no disk is mounted.
 
-ghost use Rattle.std.specs.Prelude.{◌≡◌, ◌↔◌, ◌≤◌, IfOk, IfSome, IsNone};
-ghost use Rattle.grid_marks.specs.Servers.{HasNumber, IsThis};
+ghost use Rattle.std.specs.Prelude.{◌≡◌, ◌↔◌, ◌≤◌, ◌<◌, ◌++◌, codes, IfOk, IfSome, IsNone, IsOk};
+ghost use Rattle.std.specs.String.{string_bytes};
+ghost use Rattle.grid_marks.specs.Marks.{IsGrids, IsServers};
+ghost use Rattle.grid_marks.specs.Servers.{IsOfKind, IsThis};
 
 use crate::folders::server_folder;
 use crate::mark::{Kind, MAX_SERVERS, Mark};
@@ -54,7 +56,9 @@ pub(crate) enum Likeness {
 pub(crate) const MARK: &str = "grid-mark";
 
 /// The path of the mark in a grid's folder or in a server's.
-pub(crate) fn mark_path(alloc: Global, folder: &str) -> Result<String, AllocError> {
+pub fn mark_path(alloc: Global, folder: &str) -> Result<String, AllocError>
+    ensures { IfOk result (λ path. string_bytes path ≡ folder.now ++ codes "/grid-mark") }
+{
     format!(in alloc; "{folder}/{MARK}")
 }
 
@@ -62,7 +66,7 @@ pub(crate) fn mark_path(alloc: Global, folder: &str) -> Result<String, AllocErro
 pub(crate) fn find_mark<R>(rt: &R, path: &str, kind: Kind) -> io::Result<Found>
 where
     R: Files + AllocGlobal,
-    ensures { IfOk result (HasNumber MAX_SERVERS) }
+    ensures { IfOk result (IsOfKind kind) }
 {
     match fs::metadata(rt, path) {
         Ok(found) if found.is_file() => {}
@@ -78,7 +82,7 @@ where
 
 // What the text of a mark's file says.
 fn read_mark(alloc: Global, kind: Kind, text: &[u8]) -> io::Result<Found>
-    ensures { IfOk result (HasNumber MAX_SERVERS) }
+    ensures { IfOk result (IsOfKind kind) }
 {
     match Mark::read(alloc, kind, text) {
         Ok(Some(mark)) => Ok(Found::Mark(mark)),
@@ -91,7 +95,7 @@ fn read_mark(alloc: Global, kind: Kind, text: &[u8]) -> io::Result<Found>
 pub fn grid_mark<R>(rt: &R, grid: &str) -> Result<Option<Mark>, Fault>
 where
     R: Files + AllocGlobal,
-    ensures { IfOk result (λ found. IfSome found (λ mark. mark.number ≤ MAX_SERVERS)) }
+    ensures { IfOk result (λ found. IfSome found IsGrids) }
 {
     let alloc = rt.alloc();
     let path = mark_path(alloc, grid)?;
@@ -103,11 +107,28 @@ where
     }
 }
 
+/// The mark in the folder of a server; none where it has none. `BadMark` where what stands there is
+/// no server's.
+pub fn folder_mark<R>(rt: &R, folder: &str) -> Result<Option<Mark>, Fault>
+where
+    R: Files + AllocGlobal,
+    ensures { IfOk result (λ found. IfSome found IsServers) }
+{
+    let alloc = rt.alloc();
+    let path = mark_path(alloc, folder)?;
+    let found = find_mark(rt, path.as_str(), Kind::Server);
+    match at_path(alloc, found, path.as_str())? {
+        Found::Nothing => Ok(None),
+        Found::Mark(mark) if mark.number < MAX_SERVERS => Ok(Some(mark)),
+        Found::Mark(_) | Found::Other => Err(Fault::BadMark(told_path(alloc, path.as_str())?)),
+    }
+}
+
 /// The mark of a grid. `UnknownGrid` of one that does not know its servers.
 pub(crate) fn known_mark<R>(rt: &R, grid: &str) -> Result<Mark, Fault>
 where
     R: Files + AllocGlobal,
-    ensures { IfOk result (λ mark. mark.number ≤ MAX_SERVERS) }
+    ensures { IfOk result IsGrids }
 {
     match grid_mark(rt, grid)? {
         Some(mark) => Ok(mark),
@@ -155,6 +176,7 @@ where
 pub fn try_known<R>(rt: &R, grid: &str, server: NodeId, known: &Mark) -> io::Result<()>
 where
     R: Files + AllocGlobal,
+    ensures { IsOk result → server < known.now.number }
 {
     if server >= known.number {
         return Err(io::Error::other(NO_SERVER));
@@ -165,18 +187,9 @@ where
     }
     let path = mark_path(rt.alloc(), folder.as_str())?;
     let found = find_mark(rt, path.as_str(), Kind::Server)?;
-    match reason_of(likeness_of(&found, &server_mark(known, server))) {
+    match reason_of(likeness_of(&found, &Mark::of_server(known.identity, server))) {
         None => Ok(()),
         Some(reason) => Err(io::Error::other(reason)),
-    }
-}
-
-/// The mark of a server, in a grid that has this mark.
-pub(crate) fn server_mark(known: &Mark, server: NodeId) -> Mark {
-    Mark {
-        identity: known.identity,
-        kind: Kind::Server,
-        number: server,
     }
 }
 

@@ -26,6 +26,7 @@ use std::io::{IsTerminal, Write};
 use std::net::Net;
 use std::random::RandomSource;
 use std::rt::{Clock, Files};
+use user_files::Locks;
 use wire::message::NodeId;
 
 /// Shares at the servers of a grid in this process.
@@ -43,7 +44,7 @@ pub fn repair<R, E>(
     progress: &mut Progress<'_, R, E>,
 ) -> Result<Outcome, Fault>
 where
-    R: Files + Net + Clock + RandomSource + AllocGlobal + Clone + Drop,
+    R: Files + Net + Clock + RandomSource + Locks + AllocGlobal + Clone + Drop,
     E: Write + IsTerminal,
     ensures { IfOk result (IsRepairBy (grid_calls R.Stream.contents R.Stream.remaining) words.now) }
 {
@@ -107,7 +108,7 @@ fn repair_over<R, E>(
     progress: &mut Progress<'_, R, E>,
 ) -> Result<Outcome, Fault>
 where
-    R: Files + Net + Clock + RandomSource + AllocGlobal + Clone + Drop,
+    R: Files + Net + Clock + RandomSource + Locks + AllocGlobal + Clone + Drop,
     E: Write + IsTerminal,
     requires { IsDistinct nat_eq placing.now.servers.now }
     ensures { IfOk result (IsRepairOf (grid_calls R.Stream.contents R.Stream.remaining)

@@ -3,4 +3,4 @@ pub mod Counted
 pub mod Faults
 pub mod News
 -- Words of private clauses.
-pub mod Marks
+pub mod Plans

@@ -21,9 +21,6 @@ pub enum ServeFault {
     /// Other machines may reach this address.
     #[error("NotLocal {0}")]
     NotLocal(String),
-    /// A process serves this folder, or listens at this address.
-    #[error("InUse {0}")]
-    InUse(String),
     /// No socket could be made at this address, or sockets failed, and the system's reason, which
     /// its text leaves out.
     #[error("SocketFault {0}")]
@@ -40,19 +37,18 @@ impl ServeFault {
             ServeFault::Socket(..) => 91,
             ServeFault::BadAddress(_) => 103,
             ServeFault::NotLocal(_) => 104,
-            ServeFault::InUse(_) => 105,
         }
     }
 
-    /// The exit status: 3 for an address that is none or is not taken, and 7 for one or a folder
-    /// that is in use, and for a socket that fails. Of any other fault as `Fault` has it.
+    /// The exit status: 3 for an address that is none or is not taken, and 7 for a socket that
+    /// fails. Of any other fault as `Fault` has it.
     pub fn status(&self) -> u8
         ensures { result ≡ serve_status self.now }
     {
         match self {
             ServeFault::Fault(fault) => fault.status(),
             ServeFault::BadAddress(_) | ServeFault::NotLocal(_) => 3,
-            ServeFault::InUse(_) | ServeFault::Socket(..) => 7,
+            ServeFault::Socket(..) => 7,
         }
     }
 

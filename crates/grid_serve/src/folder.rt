@@ -1,10 +1,14 @@
 //! The folder that is served.
 
+ghost use Rattle.std.specs.Prelude.{IfOk, IfSome};
+ghost use Rattle.grid_marks.specs.Marks.{IsServers};
+ghost use Rattle.grid_serve.specs.Plans.{HasWanted, IsOpenedFor};
+
 use crate::counted::CountedStore;
 use crate::fault::ServeFault;
-use crate::marking::{found_mark, mark_folder, refuse_other};
+use crate::marking::{mark_folder, refuse_other};
 use grid_faults::{Fault, told_path};
-use grid_marks::Mark;
+use grid_marks::{Mark, folder_mark};
 use server_core::server::{CAPACITY, Server};
 use share_folders::folder::{Durability, FolderStore, Purpose};
 use share_store::error::StoreError;
@@ -35,7 +39,8 @@ pub struct Serve<'a> {
 /// The server of a folder, which counts the shares that it takes.
 pub(crate) type FolderServer<R> = Server<CountedStore<FolderStore<R>>>;
 
-/// Takes the lock of a folder that stands. `InUse` where another process serves it.
+/// Takes the lock of a folder that stands. `InUse` where another process serves it, or writes there
+/// as a command does.
 pub(crate) fn lock_folder<R>(rt: &R, folder: &str) -> Result<R::Lock, ServeFault>
 where
     R: Files + Locks + AllocGlobal,
@@ -44,7 +49,7 @@ where
     at_path(alloc, stands(rt, folder), folder)?;
     match at_path(alloc, rt.try_lock(folder), folder)? {
         Some(lock) => Ok(lock),
-        None => Err(ServeFault::InUse(told_path(alloc, folder)?)),
+        None => Err(ServeFault::Fault(Fault::InUse(told_path(alloc, folder)?))),
     }
 }
 
@@ -64,8 +69,11 @@ pub(crate) fn mark_to_have<R>(
 ) -> Result<Option<Mark>, ServeFault>
 where
     R: Files + AllocGlobal,
+    requires { IfSome wanted IsServers }
+    ensures servers { IfOk result (λ mark. IfSome mark IsServers) }
+    ensures wanted { IfOk result (HasWanted wanted) }
 {
-    let found = found_mark(rt, folder)?;
+    let found = folder_mark(rt, folder)?;
     refuse_other(rt.alloc(), folder, found, wanted)?;
     Ok(found.or(wanted))
 }
@@ -79,6 +87,7 @@ pub(crate) fn open_server<R>(
 ) -> Result<FolderServer<R>, ServeFault>
 where
     R: Files + RandomSource + AllocGlobal + Clone + Drop,
+    ensures { IfOk result (IsOpenedFor serve.now) }
 {
     let purpose = Purpose::Writing(serve.durability);
     let store = match FolderStore::open(rt, serve.folder, purpose) {

@@ -1,5 +1,8 @@
 //! The address at which a folder is served.
 
+ghost use Rattle.std.specs.Prelude.{◌≡◌, false, IfOk};
+ghost use Rattle.connections.specs.Addresses.{IsAddressText, IsLocal};
+
 use crate::fault::ServeFault;
 use connections::{Address, AddressError, Greeting, Socket};
 use grid_faults::{Fault, told_path};
@@ -16,7 +19,10 @@ use user_files::{Locks, at_path};
 
 /// The address that a text spells. `BadAddress` where it spells none, and `NotLocal` where other
 /// machines may reach it and are not to.
-pub(crate) fn read_address(alloc: Global, text: &str, anyone: bool) -> Result<Address, ServeFault> {
+pub(crate) fn read_address(alloc: Global, text: &str, anyone: bool) -> Result<Address, ServeFault>
+    ensures value { IfOk result (IsAddressText text.now) }
+    ensures local { IfOk result (λ address. anyone ≡ false → IsLocal address) }
+{
     let address = match Address::read(alloc, text) {
         Ok(address) => address,
         Err(error) => return Err(refused(alloc, text, error)),
@@ -43,7 +49,7 @@ fn refused(alloc: Global, text: &str, error: AddressError) -> ServeFault {
 // Why an address is not free.
 fn in_use(alloc: Global, address: &str) -> ServeFault {
     match told_path(alloc, address) {
-        Ok(address) => ServeFault::InUse(address),
+        Ok(address) => ServeFault::Fault(Fault::InUse(address)),
         Err(refused) => ServeFault::from(refused),
     }
 }

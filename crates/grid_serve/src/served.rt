@@ -1,5 +1,11 @@
 //! A folder that is served.
 
+ghost use Rattle.std.specs.Prelude.{◌≡◌, false, IfOk, IfSome};
+ghost use Rattle.connections.specs.Addresses.{IsAddressText, IsLocal};
+ghost use Rattle.connections.specs.Greetings.{greeting_of};
+ghost use Rattle.grid_marks.specs.Marks.{IsServers};
+ghost use Rattle.grid_serve.specs.Plans.{HasWanted};
+
 use crate::counted::CountedStore;
 use crate::fault::ServeFault;
 use crate::folder::{Serve, lock_folder, mark_to_have, open_server};
@@ -101,6 +107,10 @@ where
 fn make_plan<R>(rt: &R, serve: &Serve<'_>) -> Result<Plan<R>, ServeFault>
 where
     R: Files + Net + Locks + AllocGlobal,
+    ensures address { IfOk result (λ plan. IsAddressText serve.now.listen.now plan.address) }
+    ensures local { IfOk result (λ plan. serve.now.anyone ≡ false → IsLocal plan.address) }
+    ensures mark { IfOk result (λ plan. IfSome plan.mark IsServers) }
+    ensures greeting { IfOk result (λ plan. plan.own ≡ greeting_of plan.mark) }
 {
     let address = read_address(rt.alloc(), serve.listen, serve.anyone)?;
     let wanted = wanted_mark(rt.alloc(), serve)?;
@@ -109,7 +119,9 @@ where
 }
 
 // The mark that the folder is to have, where that is said.
-fn wanted_mark(alloc: Global, serve: &Serve<'_>) -> Result<Option<Mark>, ServeFault> {
+fn wanted_mark(alloc: Global, serve: &Serve<'_>) -> Result<Option<Mark>, ServeFault>
+    ensures { IfOk result (λ wanted. IfSome wanted IsServers) }
+{
     match serve.mark {
         Some(word) => Ok(Some(mark_of_word(alloc, word)?)),
         None => Ok(None),
@@ -126,6 +138,11 @@ fn plan_for<R>(
 ) -> Result<Plan<R>, ServeFault>
 where
     R: Files + Net + Locks + AllocGlobal,
+    requires { IfSome wanted IsServers }
+    ensures address { IfOk result (λ plan. plan.address ≡ address) }
+    ensures mark { IfOk result (λ plan. IfSome plan.mark IsServers) }
+    ensures wanted { IfOk result (λ plan. HasWanted wanted plan.mark) }
+    ensures greeting { IfOk result (λ plan. plan.own ≡ greeting_of plan.mark) }
 {
     let (mark, own) = greeting_with(rt, serve, wanted)?;
     let text = String::from_str(rt.alloc(), serve.listen)?;
@@ -148,6 +165,10 @@ fn greeting_with<R>(
 ) -> Result<(Option<Mark>, Greeting), ServeFault>
 where
     R: Files + AllocGlobal,
+    requires { IfSome wanted IsServers }
+    ensures servers { IfOk result (λ pair. IfSome pair.0 IsServers) }
+    ensures wanted { IfOk result (λ pair. HasWanted wanted pair.0) }
+    ensures greeting { IfOk result (λ pair. pair.1 ≡ greeting_of pair.0) }
 {
     let mark = mark_to_have(rt, serve.folder, wanted)?;
     match greeting(rt.alloc(), mark) {

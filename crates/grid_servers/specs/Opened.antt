@@ -1,42 +1,46 @@
 -- The servers of a grid that were opened.
-use Rattle.std.specs.Prelude.{◌≡◌, ℕ, List, [], false, Option, Some, None, get_or, IsSome, ⊤}
-use Rattle.std.specs.Prelude.{option_map}
+use Rattle.std.specs.Prelude.{◌≡◌, ◌<◌, ℕ, List, [], false, Option, Some, None, get_or, ⊤}
+use Rattle.std.specs.Prelude.{IfSome, IsSome, option_map}
 use Rattle.share_folders.specs.Folder.{FolderState}
 use Rattle.share_folders.specs.Names.{in_folder}
 use Rattle.grid_faults.specs.Servers.{server_name}
 use Rattle.grid_marks.specs.declared.mark.Mark.{Mark}
-use Rattle.grid_marks.specs.declared.mark.Kind.TheVariants.{Server}
+use Rattle.grid_marks.specs.Marks.{IsGrids, server_mark}
 use Rattle.connections.specs.Greetings.{greeting_of}
 use Rattle.local_grid.specs.Nodes.{NodeState}
 use Rattle.served_grid.specs.Remotes.{RemoteState, unasked}
 use Rattle.grid_servers.specs.Grids.{FolderGridState}
 
+-- a grid that knows its servers has one of this number; any other grid may have it
+abbrev pub IsNumberOf : Option Mark → ℕ → Type 0
+IsNumberOf None number = ⊤
+IsNumberOf (Some grid) number = number < grid.number
+
 -- What stands at a number: nothing, or a server over the folder of that number in the grid, that
 -- speaks and has no bucket open.
-abbrev pub StandsAt : {L : Type 0} → List ℕ → ℕ → Option (NodeState FolderState L) → Type 0
-StandsAt grid number None = ⊤
-StandsAt grid number (Some node) =
+abbrev pub StandsAt : {L : Type 0} → List ℕ → Option Mark → ℕ → Option (NodeState FolderState L)
+    → Type 0
+StandsAt grid known number None = ⊤
+StandsAt grid known number (Some node) =
     (node.server.store.folder ≡ in_folder grid (server_name number))
-    × (node.server.buckets ≡ []) × (node.silent ≡ false)
+    × (node.server.buckets ≡ []) × (node.silent ≡ false) × IsNumberOf known number
 
 -- the same at each number
-abbrev pub AllStand : {L : Type 0} → List ℕ → List (Option (NodeState FolderState L)) → Type 0
-AllStand grid nodes = (number : ℕ) → StandsAt grid number (get_or nodes number None)
-
--- the mark of a server, in a grid that has this mark
-abbrev pub server_mark : ℕ → Mark → Mark
-server_mark number grid =
-    record { identity = grid.identity; kind = Server; number = number }
+abbrev pub AllStand : {L : Type 0} → List ℕ → Option Mark → List (Option (NodeState FolderState L))
+    → Type 0
+AllStand grid known nodes = (number : ℕ) → StandsAt grid known number (get_or nodes number None)
 
 -- what a server elsewhere is told: that the mark of this number is wanted, in a grid that has one
 abbrev pub greeting_to : Option Mark → ℕ → List ℕ
-greeting_to known number = greeting_of (option_map (server_mark number) known)
+greeting_to known number =
+    greeting_of (option_map (λ grid. server_mark grid.identity number) known)
 
 -- What stands elsewhere at a number: nothing, or a server that was not asked yet, and is told what
 -- is wanted there.
 abbrev pub StandsElsewhere : {W : Type 0} → Option Mark → ℕ → Option (RemoteState W) → Type 0
 StandsElsewhere known number None = ⊤
-StandsElsewhere known number (Some remote) = remote ≡ unasked (greeting_to known number)
+StandsElsewhere known number (Some remote) =
+    (remote ≡ unasked (greeting_to known number)) × IsNumberOf known number
 
 -- the same at each number
 abbrev pub AllElsewhere : {W : Type 0} → Option Mark → List (Option (RemoteState W)) → Type 0
@@ -49,10 +53,11 @@ AreApart here elsewhere = (number : ℕ)
     → IsSome (get_or elsewhere number None) → get_or here number None ≡ None
 
 -- The servers of a grid were opened, each over its own folder or elsewhere, and no second has
--- passed. Those elsewhere are told the mark of the grid, where it has one.
+-- passed. Where the grid has a mark they are of its servers, and those elsewhere are told it.
 pub record AreOpened {S : Type 0} (grid : List ℕ) (g : FolderGridState S) : Type 0 where
-  pub own : AllStand grid g.here.nodes
   pub known : Option Mark
+  pub marked : IfSome known IsGrids
+  pub own : AllStand grid known g.here.nodes
   pub elsewhere : AllElsewhere known g.remotes
   pub apart : AreApart g.here.nodes g.remotes
   pub second : g.here.clock ≡ 0

@@ -10,6 +10,10 @@ use Rattle.connections.specs.declared.address.Address.TheVariants.{Unix, Tcp}
 use Rattle.grid_servers.specs.declared.sites.Site.{Site}
 use Rattle.grid_servers.specs.declared.sites.Site.TheVariants as site
 
+-- a line writes an address
+abbrev pub IsAddress : List ℕ → Type 0
+IsAddress line = (address : Address) × IsAddressText line address
+
 -- A text has one line, and at most one line feed, behind it.
 pub record IsOnlyLine (text line : List ℕ) : Type 0 where
   pub one : ¬ Contains line 10

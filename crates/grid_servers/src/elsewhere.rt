@@ -1,14 +1,15 @@
 //! The servers of a grid that are served elsewhere.
 
-ghost use Rattle.std.specs.Prelude.{◌≡◌, ◌<◌, None, Some, get_or, length, IfOk, IsTrue, OnOk};
-ghost use Rattle.grid_servers.specs.Opened.{AllElsewhere, AreApart, StandsElsewhere};
-ghost use Rattle.grid_servers.specs.Opened.{greeting_to, server_mark};
+ghost use Rattle.std.specs.Prelude.{◌≡◌, ◌↔◌, ◌<◌, None, Some, get_or, length, IfOk, IfSome, IsTrue};
+ghost use Rattle.std.specs.Prelude.{OnOk};
+ghost use Rattle.grid_servers.specs.Opened.{AllElsewhere, AreApart, IsNumberOf, StandsElsewhere};
+ghost use Rattle.grid_servers.specs.Opened.{greeting_to};
 
 use crate::opening::{Opening, make_room};
 use crate::sites::{address_of, find_site};
 use connections::{Address, Greeting, Nonblocking, Socket, greeting};
 use grid_faults::Fault;
-use grid_marks::{Kind, Mark};
+use grid_marks::Mark;
 use served_grid::RemoteServer;
 use std::alloc::Global;
 use std::rt::Files;
@@ -90,12 +91,23 @@ where
 fn find_address<R>(rt: &R, opening: &Opening<'_>, server: NodeId) -> Result<Option<Address>, Fault>
 where
     R: Files + AllocGlobal,
+    ensures { IfOk result (λ found. IfSome found (λ _. IsNumberOf opening.now.known server)) }
 {
-    if matches!(&opening.known, Some(known) if server >= known.number) {
+    if !is_number_of(&opening.known, server) {
         return Ok(None);
     }
     let found = find_site(rt, opening.grid, server)?;
     Ok(address_of(rt.alloc(), opening.grid, server, &found)?)
+}
+
+// Whether a grid may have a server of this number.
+fn is_number_of(known: &Option<Mark>, server: NodeId) -> bool
+    ensures { IsTrue result ↔ IsNumberOf known.now server }
+{
+    match known {
+        None => true,
+        Some(known) => server < known.number,
+    }
 }
 
 // Puts an address at its number.
@@ -134,19 +146,8 @@ fn greeting_to(alloc: Global, known: Option<Mark>, server: NodeId) -> Result<Gre
     ensures { IfOk result (λ greeting. greeting ≡ greeting_to known server) }
 {
     let wanted = match known {
-        Some(known) => Some(server_mark(&known, server)),
+        Some(known) => Some(Mark::of_server(known.identity, server)),
         None => None,
     };
     Ok(greeting(alloc, wanted)?)
-}
-
-// The mark of a server, in a grid that has this mark.
-fn server_mark(known: &Mark, server: NodeId) -> Mark
-    ensures { result ≡ server_mark server known.now }
-{
-    Mark {
-        identity: known.identity,
-        kind: Kind::Server,
-        number: server,
-    }
 }

@@ -1,10 +1,10 @@
 //! The servers of a grid as they are opened: each over its own folder, or elsewhere.
 
 ghost use Rattle.std.specs.Prelude.{◌≡◌, ◌<◌, ℕ, [], None, get_or, length, IfOk, IfSome, OnOk};
-ghost use Rattle.std.specs.Prelude.{Some};
+ghost use Rattle.std.specs.Prelude.{IsTrue, Some};
 ghost use Rattle.share_folders.specs.Names.{in_folder};
 ghost use Rattle.grid_faults.specs.Servers.{server_name};
-ghost use Rattle.grid_servers.specs.Opened.{AllStand, AreOpened, StandsAt};
+ghost use Rattle.grid_servers.specs.Opened.{AllStand, AreOpened, IsNumberOf, StandsAt};
 
 use crate::elsewhere::{Elsewhere, find_elsewhere};
 use crate::links::{ServerLink, of_sockets, open_links};
@@ -84,7 +84,7 @@ fn open_here<R>(
 ) -> Result<Vec<Option<ServerNode<R>>>, Fault>
 where
     R: Files + Net + RandomSource + AllocGlobal + Clone + Drop,
-    ensures { IfOk result (λ nodes. AllStand opening.now.grid.now nodes.items) }
+    ensures { IfOk result (λ nodes. AllStand opening.now.grid.now opening.now.known nodes.items) }
 {
     let links = open_links(rt, servers.len(), over_sockets)?;
     name_folders(rt, opening, servers)?;
@@ -154,7 +154,7 @@ fn open_nodes<R>(
 ) -> Result<Vec<Option<ServerNode<R>>>, Fault>
 where
     R: Files + Net + RandomSource + AllocGlobal + Clone + Drop,
-    ensures { IfOk result (λ nodes. AllStand opening.now.grid.now nodes.items) }
+    ensures { IfOk result (λ nodes. AllStand opening.now.grid.now opening.now.known nodes.items) }
 {
     let mut nodes = Vec::new(rt.alloc());
     for (server, link) in servers.iter().zip(links) {
@@ -174,8 +174,8 @@ fn add_node<R>(
 ) -> Result<(), Fault>
 where
     R: Files + Net + RandomSource + AllocGlobal + Clone + Drop,
-    requires { AllStand opening.now.grid.now nodes.old.items }
-    ensures { OnOk result (AllStand opening.now.grid.now nodes.new.items) }
+    requires { AllStand opening.now.grid.now opening.now.known nodes.old.items }
+    ensures { OnOk result (AllStand opening.now.grid.now opening.now.known nodes.new.items) }
 {
     make_room(nodes, server)?;
     if let Some(opened) = open_server(rt, opening, server)? {
@@ -195,9 +195,9 @@ fn set_node<R>(
 where
     R: Files + Net + RandomSource + AllocGlobal + Clone + Drop,
     requires room { server < length nodes.old.items }
-    requires here { StandsAt opening.now.grid.now server (Some node) }
-    requires others { AllStand opening.now.grid.now nodes.old.items }
-    ensures { AllStand opening.now.grid.now nodes.new.items }
+    requires here { StandsAt opening.now.grid.now opening.now.known server (Some node) }
+    requires others { AllStand opening.now.grid.now opening.now.known nodes.old.items }
+    ensures { AllStand opening.now.grid.now opening.now.known nodes.new.items }
 {
     nodes[usize::from(server)] = Some(node);
 }
@@ -228,18 +228,29 @@ fn open_server<R>(
 where
     R: Files + RandomSource + AllocGlobal + Clone + Drop,
     ensures { IfOk result (λ opened. IfSome opened (λ s. (s.store.folder
-        ≡ in_folder opening.now.grid.now (server_name server)) × (s.buckets ≡ []))) }
+        ≡ in_folder opening.now.grid.now (server_name server)) × (s.buckets ≡ [])
+        × IsNumberOf opening.now.known server)) }
 {
-    if let Some(known) = &opening.known {
-        if if_there(try_known(rt, opening.grid, server, known))?.is_none() {
-            return Ok(None);
-        }
+    if !is_own(rt, opening, server)? {
+        return Ok(None);
     }
     let folder = server_folder(rt.alloc(), opening.grid, server)?;
     match FolderStore::open_standing(rt, folder.as_str(), opening.purpose) {
         Ok(store) => Ok(Some(serving(rt.alloc(), store))),
         Err(StoreError::StoreFault) => Ok(None),
         Err(StoreError::OutOfMemory) => Err(Fault::OutOfMemory),
+    }
+}
+
+// Whether a server's folder has its mark, in a grid that knows its servers.
+fn is_own<R>(rt: &R, opening: &Opening<'_>, server: NodeId) -> Result<bool, Fault>
+where
+    R: Files + AllocGlobal,
+    ensures { IfOk result (λ own. IsTrue own → IsNumberOf opening.now.known server) }
+{
+    match &opening.known {
+        None => Ok(true),
+        Some(known) => Ok(if_there(try_known(rt, opening.grid, server, known))?.is_some()),
     }
 }
 

@@ -4,9 +4,10 @@ ghost use Rattle.std.specs.Prelude.{◌≡◌, ◌<◌, length, nat_eq, IfOk};
 ghost use Rattle.std.specs.List.{IsDistinct};
 ghost use Rattle.grid_servers.specs.Servers.{servers_without};
 
-use crate::sites::is_served_elsewhere;
 use grid_faults::{Fault, first_servers, is_memory, told_path};
-use grid_marks::{MAX_SERVERS, grid_mark, is_elsewhere, is_grid, known_grid, server_folder};
+use grid_marks::{
+    MAX_SERVERS, grid_mark, is_elsewhere, is_grid, is_served_elsewhere, known_grid, server_folder,
+};
 use std::alloc::{AllocError, Global};
 use std::fs;
 use std::io::ErrorKind;

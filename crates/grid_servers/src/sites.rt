@@ -1,19 +1,21 @@
 //! What stands under the names of servers in a grid's folder: a folder, or the way to a server that
 //! is served elsewhere.
 
-ghost use Rattle.std.specs.Prelude.{◌≡◌, ◌≤◌, ℕ, List, length, IfErr, IfNone, IfOk, IfSome, IsNone};
+ghost use Rattle.std.specs.Prelude.{◌≡◌, ◌↔◌, ◌≤◌, ℕ, List, length, IfErr, IfNone, IfOk, IfSome};
+ghost use Rattle.std.specs.Prelude.{IsNone, IsTrue};
 ghost use Rattle.connections.specs.Addresses.{IsAddressText, IsNoAddress};
 ghost use Rattle.connections.specs.declared.address.Address.{Address};
-ghost use Rattle.grid_servers.specs.Sites.{IsLineOf, IsOnlyLine, IsServedAt, IsShort};
+ghost use Rattle.grid_servers.specs.Sites.{IsAddress, IsLineOf, IsOnlyLine, IsServedAt, IsShort};
 
 use connections::{Address, AddressError};
 use grid_faults::{Fault, is_memory};
-use grid_marks::{is_elsewhere, server_folder};
+use grid_marks::{is_elsewhere, is_served_elsewhere, server_folder};
 use std::alloc::{AllocError, Global};
-use std::fs;
 use std::io::ErrorKind;
+use std::ops::Range;
 use std::rt::Files;
-use user_files::{if_there, read_at_most};
+use std::{fs, io};
+use user_files::{at_path, if_there, read_at_most};
 use wire::message::NodeId;
 
 /// What stands under the name of a server in a grid's folder.
@@ -78,17 +80,34 @@ fn file_of(bytes: Vec<u8>) -> Site
     }
 }
 
-/// Whether a server is served elsewhere: a socket or a regular file stands under its name. An error
-/// only where memory was refused.
-pub fn is_served_elsewhere<R>(rt: &R, grid: &str, server: NodeId) -> Result<bool, Fault>
+/// Refuses a file under the name of one of these servers that tells no address: a fault of that
+/// file.
+pub fn refuse_no_address<R>(rt: &R, grid: &str, servers: Range<NodeId>) -> Result<(), Fault>
 where
     R: Files + AllocGlobal,
-    ensures { IfErr result (λ fault. fault ≡ Fault.OutOfMemory) }
 {
-    let path = server_folder(rt.alloc(), grid, server)?;
-    match if_there(fs::metadata(rt, path.as_str()))? {
-        Some(found) => Ok(is_elsewhere(&found)),
-        None => Ok(false),
+    for server in servers {
+        if !tells_address(rt, grid, server)? {
+            let path = server_folder(rt.alloc(), grid, server)?;
+            let told: io::Result<()> = Err(io::Error::other(NO_ADDRESS));
+            at_path(rt.alloc(), told, path.as_str())?;
+        }
+    }
+    Ok(())
+}
+
+// Why the file of a server is refused.
+const NO_ADDRESS: &str = "it tells no address";
+
+// Whether the file of a server tells an address, where a file stands under its name.
+fn tells_address<R>(rt: &R, grid: &str, server: NodeId) -> Result<bool, Fault>
+where
+    R: Files + AllocGlobal,
+{
+    match find_site(rt, grid, server)? {
+        Site::File(text) => Ok(told_address(rt.alloc(), text.as_str())?.is_some()),
+        Site::Other => Ok(!is_served_elsewhere(rt, grid, server)?),
+        Site::Missing | Site::Folder | Site::Socket => Ok(true),
     }
 }
 
@@ -133,6 +152,13 @@ fn only_line(text: &str) -> Option<&str>
         Some((line, rest)) if rest.is_empty() => Some(line),
         Some(_) => None,
     }
+}
+
+/// Whether a line writes an address.
+pub fn is_address(alloc: Global, line: &str) -> Result<bool, AllocError>
+    ensures { IfOk result (λ is. IsTrue is ↔ IsAddress line.now) }
+{
+    Ok(written_address(alloc, line)?.is_some())
 }
 
 // The address that a line writes.

@@ -19,7 +19,7 @@ use fetched_shares::SharePlace;
 use grid_faults::{Fault, servers_of};
 use grid_rules::becoming::fault_of_loop;
 use grid_rules::{reached_happiness, turn_limit};
-use grid_servers::{Durability, Purpose, servers_without};
+use grid_servers::{Durability, Purpose, lock_folders, servers_without};
 use grid_telling::{Counting, Progress, Verb, note_servers};
 use operation_loop::Outside;
 use std::alloc::Global;
@@ -30,6 +30,7 @@ use std::rt::{Clock, Files};
 use upload_core::{ReadyUpload, Upload};
 use upload_core::pieces::Pieces;
 use upload_core::status::UploadGoal;
+use user_files::Locks;
 use wire::message::NodeId;
 
 /// The exit status where a share that is none of the file's could not be set aside.
@@ -81,9 +82,9 @@ impl Stored {
 /// Places shares on servers, which are opened for it. First what stands under their names in the
 /// servers' folders, and is none of them, is set aside. A server at which that fails is left out,
 /// so that nothing counts which it holds. The files of the shares at these places stay, which are
-/// read for it. Nothing was changed in any folder before this.
+/// read for it. Nothing was changed in any folder before this. Their locks are held meanwhile.
 ///
-/// `Unhappy` where fewer servers than were wanted hold a share of their own.
+/// `InUse` where a process serves one of the folders: then nothing is changed. `Unhappy` where fewer servers than were wanted hold a share of their own.
 pub fn place_shares<R, P, E>(
     rt: &R,
     placing: &Placing<'_>,
@@ -92,7 +93,7 @@ pub fn place_shares<R, P, E>(
     progress: &mut Progress<'_, R, E>,
 ) -> Result<Stored, Fault>
 where
-    R: Files + Net + Clock + RandomSource + AllocGlobal + Clone + Drop,
+    R: Files + Net + Clock + RandomSource + Locks + AllocGlobal + Clone + Drop,
     P: Pieces + Drop,
     E: Write + IsTerminal,
     requires { IsDistinct nat_eq placing.now.servers.now }
@@ -116,7 +117,7 @@ pub(crate) fn place_more<R, P, E>(
     progress: &mut Progress<'_, R, E>,
 ) -> Result<Stored, Fault>
 where
-    R: Files + Net + Clock + RandomSource + AllocGlobal + Clone + Drop,
+    R: Files + Net + Clock + RandomSource + Locks + AllocGlobal + Clone + Drop,
     P: Pieces + Drop,
     E: Write + IsTerminal,
     requires distinct { IsDistinct nat_eq placing.now.servers.now }
@@ -129,6 +130,7 @@ where
         (grid_calls R.Stream.contents R.Stream.remaining) placing.now.grid.now g.grid) }
 {
     let held = kept.take();
+    let _locks = lock_folders(rt, placing.grid, placing.servers)?;
     let clearance = clear_servers(rt, placing, ready.goal(), reading, progress)?;
     let servers = servers_without(rt.alloc(), placing.servers, clearance.stuck.as_slice())?;
     let is_cleared = clearance.stuck.as_slice().is_empty();

@@ -42,7 +42,7 @@ use std::rt::{Clock, Files};
 use streamed_upload::prepared::prepare_stream;
 use upload_core::ReadyUpload;
 use upload_core::pieces::Pieces;
-use user_files::{Input, open_input};
+use user_files::{Input, Locks, open_input};
 
 /// The greatest file that its cap holds, in bytes.
 const MAX_LITERAL_SIZE: usize = 55;
@@ -93,7 +93,7 @@ pub fn put<R, E>(
     progress: &mut Progress<'_, R, E>,
 ) -> Result<Outcome, Fault>
 where
-    R: Files + io::Input + Net + Clock + RandomSource + AllocGlobal + Clone + Drop,
+    R: Files + io::Input + Net + Clock + RandomSource + Locks + AllocGlobal + Clone + Drop,
     E: Write + IsTerminal,
     ensures { IfOk result (IsPutAlone (GivesOpened R.File.stream_position R.File.stream_bytes
         R.File.remaining) (grid_calls R.Stream.contents R.Stream.remaining) words.now) }
@@ -121,7 +121,7 @@ pub fn put_file<R, E>(
     progress: &mut Progress<'_, R, E>,
 ) -> Result<PutFile, Fault>
 where
-    R: Files + io::Input + Net + Clock + RandomSource + AllocGlobal + Clone + Drop,
+    R: Files + io::Input + Net + Clock + RandomSource + Locks + AllocGlobal + Clone + Drop,
     E: Write + IsTerminal,
     requires choices { AreChoicesBy words.now choices.now }
     requires kept { IfSome kept.old (λ g. WereOpened
@@ -175,7 +175,7 @@ fn put_held<R, E>(
     progress: &mut Progress<'_, R, E>,
 ) -> Result<PutFile, Fault>
 where
-    R: Files + Net + Clock + RandomSource + AllocGlobal + Clone + Drop,
+    R: Files + Net + Clock + RandomSource + Locks + AllocGlobal + Clone + Drop,
     E: Write + IsTerminal,
     requires said { IfSome putting.now.said (λ secret. IsSecret secret.now) }
     requires kept { IfSome kept.old (λ g. WereOpened
@@ -212,7 +212,7 @@ fn put_opened<R, E>(
     progress: &mut Progress<'_, R, E>,
 ) -> Result<PutFile, Fault>
 where
-    R: Files + Net + Clock + RandomSource + AllocGlobal + Clone + Drop,
+    R: Files + Net + Clock + RandomSource + Locks + AllocGlobal + Clone + Drop,
     E: Write + IsTerminal,
     requires said { IfSome putting.now.said (λ secret. IsSecret secret.now) }
     requires not_small { min_file_size ≤ size }
@@ -242,7 +242,7 @@ fn put_source<R, S, E>(
     progress: &mut Progress<'_, R, E>,
 ) -> Result<PutFile, Fault>
 where
-    R: Files + Net + Clock + RandomSource + AllocGlobal + Clone + Drop,
+    R: Files + Net + Clock + RandomSource + Locks + AllocGlobal + Clone + Drop,
     S: Source + Drop,
     E: Write + IsTerminal,
     requires secret { IsSecret secret.now }
@@ -352,7 +352,7 @@ fn place<R, P, E>(
     progress: &mut Progress<'_, R, E>,
 ) -> Result<PutFile, Fault>
 where
-    R: Files + Net + Clock + RandomSource + AllocGlobal + Clone + Drop,
+    R: Files + Net + Clock + RandomSource + Locks + AllocGlobal + Clone + Drop,
     P: Pieces + Drop,
     E: Write + IsTerminal,
     requires { IfSome kept.old (λ g. WereOpened (grid_calls R.Stream.contents R.Stream.remaining)

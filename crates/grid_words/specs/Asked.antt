@@ -83,6 +83,7 @@ IsMarking rows (markings.New servers) = (number_under (codes "replace") rows ≡
 pub record AsksInit (rows : List Row) (words : InitWords) : Type 0 where
   pub grid : words.grid.now ≡ text_under (codes "DIR") rows
   pub marking : IsMarking rows words.marking
+  pub elsewhere : map (λ word. word.now) words.elsewhere.items ≡ texts_under (codes "server") rows
   pub secret_file : option_map (λ path. path.now) words.secret_file
       ≡ first_of (codes "secret-file") rows
   pub verbose : IsFlag (one_of (codes "verbose") rows) words.verbose

@@ -3,7 +3,7 @@ use Rattle.std.specs.Prelude.{true, false, List, [], ◌∷◌, Some, codes}
 use Rattle.clap.specs.Lexer.{usize_max}
 use Rattle.clap.specs.Simple.{App, Shape, new_rule, new_shape}
 use Rattle.clap.specs.Walk.{Rule, Text}
-use Rattle.clap.specs.declared.builder.action.ArgAction.TheVariants.{SetTrue}
+use Rattle.clap.specs.declared.builder.action.ArgAction.TheVariants.{Append, SetTrue}
 use Rattle.clap.specs.declared.builder.value_parser.ValueParser.TheVariants as parsers
 
 -- a word that has to be there
@@ -18,7 +18,11 @@ flag name = record (new_rule name) { long = Some name; action = Some SetTrue }
 abbrev pub option : Text → Rule
 option name = record (new_rule name) { long = Some name; value_names = 1 }
 
--- the same with a number below 2^64
+-- the same, and it may stand there several times
+abbrev pub repeated : Text → Rule
+repeated name = record (option name) { action = Some Append }
+
+-- a word with a number below 2^64 behind it
 abbrev pub number : Text → Rule
 number name =
     record (option name) { parser = Some (parsers.Unsigned 0 18446744073709551615) }
@@ -62,6 +66,9 @@ files_from = excluding (option (codes "files-from"))
 abbrev pub secret_file : Rule
 secret_file = excluding (option (codes "secret-file"))
 
+abbrev pub server : Rule
+server = excluding (repeated (codes "server"))
+
 abbrev pub replace : Rule
 replace = excluding (number (codes "replace"))
 
@@ -71,6 +78,7 @@ add = excluding (number (codes "add"))
 abbrev pub init_rules : List Rule
 init_rules = operand (codes "DIR")
     ∷ number (codes "servers")
+    ∷ server
     ∷ replace
     ∷ add
     ∷ flag (codes "adopt")

@@ -6,7 +6,7 @@ ghost use Rattle.grid_words.specs.Builds.{HasRule};
 ghost use Rattle.grid_words.specs.CommandLine.{add, excluding, files, files_from, flag};
 ghost use Rattle.grid_words.specs.CommandLine.{grid_folder, happy, listen, number};
 ghost use Rattle.grid_words.specs.CommandLine.{number_or, operand, option, output, replace};
-ghost use Rattle.grid_words.specs.CommandLine.{secret_file, verbose};
+ghost use Rattle.grid_words.specs.CommandLine.{repeated, secret_file, server, verbose};
 
 use clap::{Arg, ArgAction, value_parser};
 use std::alloc::{AllocError, Global};
@@ -161,6 +161,20 @@ pub(crate) fn new_servers<'a>(alloc: Global) -> Arg<'a>
         "NUMBER",
         "How many servers the grid has, 1 to 256 [default: 10]",
     )
+}
+
+/// A server of a new grid, or one that is added, which is served elsewhere.
+pub(crate) fn server<'a>(alloc: Global) -> Result<Arg<'a>, AllocError>
+    ensures { IfOk result (HasRule server) }
+{
+    let server = repeated(
+        alloc,
+        "server",
+        "NUMBER=ADDRESS",
+        "Let this server be the one that is served at ADDRESS, unix:PATH or an IP address with a \
+port, as 3=10.8.0.5:7003; for each such server once",
+    );
+    server.conflicts_with("adopt")?.conflicts_with("replace")
 }
 
 /// The server whose folder was lost, and whose mark is given to an empty one.
@@ -397,6 +411,13 @@ pub(crate) fn flag<'a>(alloc: Global, name: &'a str, help: &'a str) -> Arg<'a>
         .long(name)
         .action(ArgAction::SetTrue)
         .help(help)
+}
+
+// A word with a value behind it, which may stand there several times.
+fn repeated<'a>(alloc: Global, name: &'a str, value: &'a str, help: &'a str) -> Arg<'a>
+    ensures { HasRule (repeated name.entry.now) result }
+{
+    option(alloc, name, value, help).action(ArgAction::Append)
 }
 
 // A word with a value behind it.

@@ -13,7 +13,7 @@ use crate::arguments::{
     add, adopt, anyone, files, files_from, files0_from, flag, grid_folder, happy, json,
     kept_secret, known, listen, mark, max_segment, mend, needed, net, new_grid, new_servers,
     no_sync, number, operand, output, read_cap, replace, room, secret, secret_file, served_folder,
-    servers, total, verbose, verify_cap,
+    server, servers, total, verbose, verify_cap,
 };
 use clap::{Arg, Command};
 use std::alloc::{AllocError, Global};
@@ -117,6 +117,7 @@ fn init_arguments<'a>(alloc: Global) -> Result<Vec<Arg<'a>>, AllocError>
     Ok(vec![in alloc;
         new_grid(alloc),
         new_servers(alloc),
+        server(alloc)?,
         replace(alloc)?,
         add(alloc)?,
         adopt(alloc),

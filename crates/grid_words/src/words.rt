@@ -92,6 +92,8 @@ pub enum Marking {
 pub struct InitWords<'a> {
     pub grid: &'a str,
     pub marking: Marking,
+    /// Servers that are served elsewhere, each as `NUMBER=ADDRESS`.
+    pub elsewhere: Vec<&'a str>,
     /// The path of a file that holds the secret that the grid keeps, or `new`.
     pub secret_file: Option<&'a str>,
     pub verbose: bool,
@@ -219,7 +221,7 @@ fn request_of<'a>(
     ensures { IfOk result (Asks name.now (rows_in found.now)) }
 {
     Ok(match name {
-        "init" => Request::Init(init_words(found)),
+        "init" => Request::Init(init_words(alloc, found)?),
         "put" => Request::Put(put_words(alloc, found)?),
         "get" => Request::Get(get_words(found)),
         "check" => Request::Check(check_words(found)),
@@ -232,15 +234,16 @@ fn request_of<'a>(
     })
 }
 
-fn init_words<'a>(found: &ArgMatches<'a>) -> InitWords<'a>
-    ensures { AsksInit (rows_in found.now) result }
+fn init_words<'a>(alloc: Global, found: &ArgMatches<'a>) -> Result<InitWords<'a>, AllocError>
+    ensures { IfOk result (AsksInit (rows_in found.now)) }
 {
-    InitWords {
+    Ok(InitWords {
         grid: text_of(found, "DIR"),
         marking: marking_of(found),
+        elsewhere: texts_of(alloc, found, "server")?,
         secret_file: found_text(found, "secret-file"),
         verbose: is_set(found, "verbose"),
-    }
+    })
 }
 
 // The ways to mark an old grid exclude each other.

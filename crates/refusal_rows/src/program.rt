@@ -66,6 +66,7 @@ fn tell_paths(alloc: Global, rows: &mut Rows) -> Result<(), AllocError> {
         Fault::NoServers(String::new(alloc)),
         Fault::UnknownGrid(String::new(alloc)),
         Fault::NotEmpty(String::new(alloc)),
+        Fault::InUse(String::new(alloc)),
     ] {
         tell_fault(rows, &fault)?;
     }
@@ -97,7 +98,6 @@ fn tell_serving(alloc: Global, rows: &mut Rows) -> Result<(), AllocError> {
         ServeFault::Socket(String::new(alloc), failed()),
         ServeFault::BadAddress(String::new(alloc)),
         ServeFault::NotLocal(String::new(alloc)),
-        ServeFault::InUse(String::new(alloc)),
     ] {
         let (number, status) = (fault.number(), fault.status());
         rows.tell_with_status("grid_serve::ServeFault", number, &fault, status)?;

@@ -1,3 +1,4 @@
 pub mod Giving
 pub mod Clients
 pub mod Hearing
+pub mod Alone

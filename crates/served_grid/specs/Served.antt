@@ -1,5 +1,5 @@
 -- Servers of this process and servers elsewhere, side by side.
-use Rattle.std.specs.Prelude.{◌≡◌, ◌≤◌, ◌⊎◌, ⊤, ℕ, ◌==◌, List, [], ◌∷◌, Option, Some, None, map}
+use Rattle.std.specs.Prelude.{◌≡◌, ◌≢◌, ◌≤◌, ◌⊎◌, ⊤, ℕ, ◌==◌, List, [], ◌∷◌, Option, Some, None, map}
 use Rattle.std.specs.Prelude.{if◌then◌else◌, option_map, slice_get, slice_set}
 use Rattle.wire.specs.declared.message.Message.{Message}
 use Rattle.share_store.specs.Calls.{Calls}
@@ -92,6 +92,11 @@ abbrev pub Happens : {S L W : Type 0} → WireCalls W → ServedState S L W → 
 Happens wires old (happening.Came node m) new = HearsAll wires old (only node m) new
 Happens wires old (happening.Second second) new = Passes wires old second new
 
+-- without servers elsewhere no other second comes than the next tick
+abbrev pub IsNextAlone : {S L W : Type 0} → ServedState S L W → Happening → Type 0
+IsNextAlone old (happening.Came node m) = ⊤
+IsNextAlone old (happening.Second second) = old.remotes ≡ [] → second ≡ later old.here.clock
+
 -- ---- words of private clauses
 
 -- a server elsewhere has this number
@@ -125,8 +130,8 @@ served_calls calls carries gives_up wires = record {
   clock = λ g. g.here.clock;
   handed = λ old node m answer new.
       HandsAt calls carries old node (slice_get old.remotes node) m answer new;
-  happened = λ old happening new. Happens wires old happening new;
+  happened = λ old happening new. Happens wires old happening new × IsNextAlone old happening;
   hand_stops = λ old node m new.
       StopsAt calls carries gives_up old node (slice_get old.remotes node) m new;
-  wait_stops = λ old new. HearsAll wires old nothing new;
+  wait_stops = λ old new. HearsAll wires old nothing new × (old.remotes ≢ []);
 }

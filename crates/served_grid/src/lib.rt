@@ -2,12 +2,14 @@
 //! has before it where it is carried on by `operation_loop`.
 #![tactic(auto)]
 
+mod laws;
 mod network;
 mod ready;
 mod remote;
 mod served;
 mod sockets;
 
+pub use laws::know_alone;
 pub use network::Network;
 pub use remote::RemoteServer;
 pub use served::ServedGrid;

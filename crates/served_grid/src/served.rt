@@ -4,7 +4,8 @@ ghost use Rattle.std.specs.Prelude.{◌≡◌, ◌≤◌, ◌↔◌, None, IfOk,
 ghost use Rattle.std.specs.Prelude.{option_map, slice_get};
 ghost use Rattle.local_grid.specs.Turns.{later};
 ghost use Rattle.served_grid.specs.Remotes.{ticked_remote};
-ghost use Rattle.served_grid.specs.Served.{Brings, HandsAt, HearsAll, IsFar, StopsAt, heard_of};
+ghost use Rattle.served_grid.specs.Served.{Brings, Happens, HandsAt, HearsAll, IsFar, StopsAt};
+ghost use Rattle.served_grid.specs.Served.{heard_of};
 ghost use Rattle.served_grid.specs.Served.{nothing, passed_all};
 
 use crate::network::Network;
@@ -201,11 +202,33 @@ impl<S: Store, L: Link, W: Wire + Drop, N: Network<W>> ServedGrid<S, L, W, N> {
         ensures after { self.new ≡ passed_all result self.old }
         ensures later_on { self.old.here.clock ≤ result }
         ensures soon { result ≤ later self.old.here.clock }
+        ensures step { seconds ≡ 5 → result ≡ later self.old.here.clock }
     {
         let now = self.here.clock().saturating_add(seconds);
         self.here.pass_to(now);
         tick_each(&mut self.remotes);
         now
+    }
+
+    // What happens next, where there are servers elsewhere.
+    fn wait_for_any(&mut self) -> Result<Happening, AllocError>
+        ensures ok { IfOk result (λ happening. Happens W.calls self.old happening self.new) }
+        ensures err { OnErr result (HearsAll W.calls self.old nothing self.new) }
+    {
+        for _ in 0..u64::MAX {
+            let passed = self.passed();
+            if passed > 0 {
+                return Ok(Happening::Second(self.pass(passed)));
+            }
+            if let Some((node, message)) = self.next_message()? {
+                return Ok(Happening::Came(node, message));
+            }
+            if !self.is_awaited() {
+                return Ok(Happening::Second(self.pass(STEP)));
+            }
+            self.rest()?;
+        }
+        Ok(Happening::Second(self.pass(0)))
     }
 
     // Waits for a moment, or until a server elsewhere is ready.
@@ -256,20 +279,11 @@ impl<S: Store, L: Link, W: Wire + Drop, N: Network<W>> Outside for ServedGrid<S,
         self.here.exchange(node, message)
     }
 
+    // Without servers elsewhere nothing is waited for, and the clock of the system is not asked.
     fn wait(&mut self) -> Result<Happening, AllocError> {
-        for _ in 0..u64::MAX {
-            let passed = self.passed();
-            if passed > 0 {
-                return Ok(Happening::Second(self.pass(passed)));
-            }
-            if let Some((node, message)) = self.next_message()? {
-                return Ok(Happening::Came(node, message));
-            }
-            if !self.is_awaited() {
-                return Ok(Happening::Second(self.pass(STEP)));
-            }
-            self.rest()?;
+        if self.remotes.is_empty() {
+            return Ok(Happening::Second(self.pass(STEP)));
         }
-        Ok(Happening::Second(self.pass(0)))
+        self.wait_for_any()
     }
 }

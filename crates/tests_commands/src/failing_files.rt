@@ -223,11 +223,16 @@ impl<'a> RandomSource for FailingFiles<'a> {
     }
 }
 
-// Nothing else holds a lock.
+// Nothing else holds a lock. One that is taken together with others may fail.
 impl<'a> Locks for FailingFiles<'a> {
     type Lock = ();
 
     fn try_lock(&self, _path: &str) -> io::Result<Option<()>> {
+        Ok(Some(()))
+    }
+
+    fn try_lock_shared(&self, _path: &str) -> io::Result<Option<()>> {
+        self.calls.count()?;
         Ok(Some(()))
     }
 }

@@ -1,10 +1,11 @@
 //! Why a server cannot serve, of folders that are there, are missing, or are none.
 
 use grid_marks::{folder_fault, make_grid, server_folder};
-use grid_servers::{Durability, Purpose};
+use grid_servers::{Durability, Purpose, lock_folders};
 use std::io::ErrorKind;
 use std::test::Fail;
 use std::{fs, io};
+use user_files::Locks;
 
 const WRITING: Purpose = Purpose::Writing(Durability::Synced);
 
@@ -64,6 +65,37 @@ fn probes_that_cannot_be_made(rt: HostRuntime) -> Result<(), Fail> {
     fs::create_dir_all(&rt, probe.as_str())?;
     assert!(rt; fault(&rt, grid.as_str(), Purpose::Reading).is_none());
     assert!(rt; fault(&rt, grid.as_str(), WRITING) == Some(ErrorKind::IsADirectory));
+    fs::remove_dir_all(&rt, grid.as_str())?;
+    Ok(())
+}
+
+// Whether commands may write to these folders at once.
+fn may_write(rt: &HostRuntime, grid: &str) -> bool {
+    let (Ok(first), Ok(second)) = (lock_folders(rt, grid, &[0, 7]), lock_folders(rt, grid, &[7]))
+    else {
+        return false;
+    };
+    first.len() == 1 && second.len() == 1
+}
+
+// Commands write to a folder side by side, and not while a process serves it. What is no folder has
+// no lock.
+#[test]
+fn folders_that_are_served_are_closed(rt: HostRuntime) -> Result<(), Fail> {
+    let grid = grid(&rt, "locked")?;
+    let folder = server_folder(rt.alloc(), grid.as_str(), 7)?;
+    fs::create_dir_all(&rt, folder.as_str())?;
+    assert!(rt; may_write(&rt, grid.as_str()));
+    let served = rt.try_lock(folder.as_str())?;
+    assert!(rt; served.is_some() && rt.try_lock(folder.as_str())?.is_none());
+    match lock_folders(&rt, grid.as_str(), &[7]) {
+        Ok(_) => return Err(Fail::from("written to while it is served")),
+        Err(fault) => assert!(rt; fault.number() == 105),
+    }
+    drop(served);
+    let writing = lock_folders(&rt, grid.as_str(), &[7]);
+    assert!(rt; rt.try_lock(folder.as_str())?.is_none() && may_write(&rt, grid.as_str()));
+    drop(writing);
     fs::remove_dir_all(&rt, grid.as_str())?;
     Ok(())
 }

@@ -2,7 +2,7 @@
 
 use grid_faults::Fault;
 use grid_marks::{
-    add_servers, adopt_grid, can_be_marked, grid_servers_count, known_grid, mark_grid,
+    AddressFile, add_servers, adopt_grid, can_be_marked, grid_servers_count, known_grid, mark_grid,
     replace_server, server_folder, try_mark,
 };
 use grid_servers::{draw_secret, grid_secret, keep_secret};
@@ -42,11 +42,11 @@ fn grids_grow_and_get_new_disks(rt: HostRuntime) -> Result<(), Fail> {
     let grid = grid.as_str();
     assert!(rt; fault_of(known_grid(&rt, grid)) == 101);
     assert!(rt; fault_of(replace_server(&rt, grid, 0)) == 101);
-    assert!(rt; fault_of(add_servers(&rt, grid, 1)) == 101);
-    assert!(rt; mark_grid(&rt, grid, 2).is_ok() && fault_of(can_be_marked(&rt, grid)) == 95);
+    assert!(rt; fault_of(add_servers(&rt, grid, 1, &[])) == 101);
+    assert!(rt; mark_grid(&rt, grid, 2, &[]).is_ok() && fault_of(can_be_marked(&rt, grid)) == 95);
     assert!(rt; has_names(&rt, grid, &["grid-mark", "server-000", "server-001"])?);
-    assert!(rt; matches!(add_servers(&rt, grid, 1), Ok(3)));
-    assert!(rt; fault_of(add_servers(&rt, grid, 254)) == 2);
+    assert!(rt; matches!(add_servers(&rt, grid, 1, &[]), Ok(3)));
+    assert!(rt; fault_of(add_servers(&rt, grid, 254, &[])) == 2);
     assert!(rt; matches!(grid_servers_count(&rt, grid), Ok(Some(3))));
     let folder = server_folder(rt.alloc(), grid, 2)?;
     let folder = folder.as_str();
@@ -70,7 +70,7 @@ fn grids_are_adopted_and_begun_again(rt: HostRuntime) -> Result<(), Fail> {
     let grid = grid(&rt, "adopted")?;
     let grid = grid.as_str();
     assert!(rt; fault_of(adopt_grid(&rt, grid, None)) == 101);
-    assert!(rt; mark_grid(&rt, grid, 3).is_ok() && fault_of(adopt_grid(&rt, grid, None)) == 95);
+    assert!(rt; mark_grid(&rt, grid, 3, &[]).is_ok() && fault_of(adopt_grid(&rt, grid, None)) == 95);
     let mark = format!(in rt.alloc(); "{grid}/grid-mark")?;
     let part = format!(in rt.alloc(); "{grid}/grid-mark.part")?;
     let text = fs::read(&rt, mark.as_str())?;
@@ -79,8 +79,8 @@ fn grids_are_adopted_and_begun_again(rt: HostRuntime) -> Result<(), Fail> {
     assert!(rt; matches!(adopt_grid(&rt, grid, None), Ok(3)));
     assert!(rt; fs::read(&rt, mark.as_str())? == text);
     fs::rename(&rt, mark.as_str(), part.as_str())?;
-    assert!(rt; fault_of(mark_grid(&rt, grid, 4)) == 95);
-    assert!(rt; mark_grid(&rt, grid, 3).is_ok() && fs::read(&rt, mark.as_str())? == text);
+    assert!(rt; fault_of(mark_grid(&rt, grid, 4, &[])) == 95);
+    assert!(rt; mark_grid(&rt, grid, 3, &[]).is_ok() && fs::read(&rt, mark.as_str())? == text);
     assert!(rt; !fs::exists(&rt, part.as_str())?);
     fs::remove_dir_all(&rt, grid)?;
     Ok(())
@@ -120,6 +120,34 @@ fn secrets_are_kept(rt: HostRuntime) -> Result<(), Fail> {
     fs::remove_file(&rt, path.as_str())?;
     assert!(rt; draw_secret(&rt, grid).is_ok());
     assert!(rt; fs::read(&rt, path.as_str())?.len() == 53);
+    fs::remove_dir_all(&rt, grid)?;
+    Ok(())
+}
+
+// Whether the file of a server has this text.
+fn has_text(rt: &HostRuntime, grid: &str, server: u16, text: &str) -> io::Result<bool> {
+    let path = server_folder(rt.alloc(), grid, server)?;
+    Ok(fs::read(rt, path.as_str())?.as_slice() == text.as_bytes())
+}
+
+fn file(server: u16, address: &str) -> AddressFile<'_> {
+    AddressFile { server, address }
+}
+
+// Servers elsewhere have files of one line, which are made with a grid and as it grows.
+#[test]
+fn servers_elsewhere_have_files(rt: HostRuntime) -> Result<(), Fail> {
+    let grid = grid(&rt, "elsewhere")?;
+    let grid = grid.as_str();
+    assert!(rt; fault_of(mark_grid(&rt, grid, 2, &[file(2, "unix:a")])) == 2);
+    assert!(rt; mark_grid(&rt, grid, 2, &[file(1, "unix:a")]).is_ok());
+    assert!(rt; has_text(&rt, grid, 1, "unix:a\n")?);
+    assert!(rt; fault_of(add_servers(&rt, grid, 1, &[file(1, "unix:a")])) == 2);
+    let path = server_folder(rt.alloc(), grid, 2)?;
+    fs::write(&rt, path.as_str(), "unix:b")?;
+    assert!(rt; fault_of(add_servers(&rt, grid, 1, &[file(2, "unix:c")])) == 90);
+    assert!(rt; matches!(add_servers(&rt, grid, 1, &[file(2, "unix:b")]), Ok(3)));
+    assert!(rt; has_text(&rt, grid, 2, "unix:b")?);
     fs::remove_dir_all(&rt, grid)?;
     Ok(())
 }

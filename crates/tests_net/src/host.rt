@@ -155,6 +155,10 @@ impl<'a> Locks for OddHost<'a> {
     fn try_lock(&self, _path: &str) -> io::Result<Option<()>> {
         Ok(Some(()))
     }
+
+    fn try_lock_shared(&self, _path: &str) -> io::Result<Option<()>> {
+        Ok(Some(()))
+    }
 }
 
 impl<'a> Clock for OddHost<'a> {

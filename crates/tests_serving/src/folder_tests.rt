@@ -2,6 +2,7 @@
 
 use crate::guest::{Guest, allocate, id, write};
 use connections::{Address, Listener, Socket};
+use grid_faults::Fault;
 use grid_serve::{Durability, Serve, ServeFault, ServedFolder};
 use std::alloc::{AllocError, Global};
 use std::os::unix::fs::symlink;
@@ -278,7 +279,7 @@ fn texts_of_refusals(rt: HostRuntime) -> Result<(), Fail> {
     assert!(rt; tells(alloc, &bad, "BadAddress a", 3)?);
     let other = ServeFault::NotLocal(String::from_str(alloc, "b")?);
     assert!(rt; tells(alloc, &other, "NotLocal b", 3)?);
-    let used = ServeFault::InUse(String::from_str(alloc, "c")?);
+    let used = ServeFault::from(Fault::InUse(String::from_str(alloc, "c")?));
     assert!(rt; tells(alloc, &used, "InUse c", 7)?);
     Ok(())
 }

@@ -1,5 +1,5 @@
 use Rattle.served_grid.specs.Served.{HearsAll, nothing}
-use Rattle.served_grid.proofs.served.ServedGridOutside.wait.Given as goal
+use Rattle.served_grid.proofs.served.ServedGrid.wait_for_any.Given as goal
 
 -- nothing was heard so far
 abbrev pub invariant-loop : goal.invariant-loop

@@ -2,7 +2,7 @@ use Rattle.std.proofs.Common.{◌≡◌, ℕ, Option, None, Some, rules, subst}
 use Rattle.wire.specs.declared.message.Message.{Message}
 use Rattle.served_grid.specs.Served.{Brings, nothing}
 use Rattle.served_grid.proofs.Hearing.{brings_after, heard_before, hears_both, passes}
-use Rattle.served_grid.proofs.served.ServedGridOutside.wait.Goals as goal
+use Rattle.served_grid.proofs.served.ServedGrid.wait_for_any.Goals as goal
 
 pub returns-then-passed-gt0-clause-ok : goal.returns-then-passed-gt0-clause-ok
 returns-then-passed-gt0-clause-ok g c =
