@@ -5,3 +5,4 @@ pub mod HeadLaws
 pub mod BelowLaws
 pub mod WholeLaws
 pub mod OneLaws
+mod PatternLaws

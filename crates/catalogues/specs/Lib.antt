@@ -5,9 +5,11 @@ pub mod Heads
 pub mod Catalogues
 pub mod Laws
 pub mod Below
+pub mod Patterns
 pub mod CatalogueError
 -- words of private clauses
 pub mod Pieces
 pub mod HeadParts
 pub mod PartsLeft
+pub mod Rows
 pub mod Unwritten

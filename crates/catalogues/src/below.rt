@@ -6,6 +6,7 @@ ghost use Rattle.std.specs.List.{AllByRecursion, join_with_byte};
 ghost use Rattle.std.specs.Option.{option_copied, option_to_list};
 ghost use Rattle.catalogues.specs.Below.{IsBelow, IsBelowBehind, IsLeading};
 ghost use Rattle.catalogues.specs.Below.{IsLeadingPiece, IsPart, parts_of};
+ghost use Rattle.catalogues.specs.Patterns.{behind_front};
 ghost use Rattle.catalogues.specs.Pieces.{Lacks};
 ghost use Rattle.catalogues.specs.PartsLeft.{parts_left};
 
@@ -129,8 +130,9 @@ fn is_part(part: &[u8]) -> bool
     }
 }
 
-// What is left of a name behind the slashes and `./` at its front.
-fn without_front(name: &[u8]) -> &[u8]
+/// What is left of a name behind the slashes and `./` at its front.
+pub(crate) fn without_front(name: &[u8]) -> &[u8]
+    ensures is { result.now ≡ behind_front name.entry.now }
     ensures front { (front : List ℕ)
         × (IsLeading front × (name.entry.now ≡ front ++ result.now)) }
     ensures only { (front rest : List ℕ) → IsBelowBehind name.entry.now front rest

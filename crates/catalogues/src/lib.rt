@@ -13,6 +13,7 @@ mod head;
 mod laws;
 mod lines;
 mod name;
+mod patterns;
 mod pieces;
 mod reading;
 
@@ -22,4 +23,5 @@ pub use head::{Head, MAX_SEGMENT_SIZE, MAX_SHARES, Moment, Numbers};
 pub use laws::{catalogues_are_one, lines_are_one, lines_are_read};
 pub use lines::{Line, line_of};
 pub use name::{Name, is_name};
+pub use patterns::chooses;
 pub use reading::{Catalogue, entry_count};

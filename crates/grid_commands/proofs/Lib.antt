@@ -1,4 +1,4 @@
-mod ElsewhereLemmas
+pub mod ElsewhereLemmas
 mod Faulting
 mod RunLemmas
 mod ScrubLemmas

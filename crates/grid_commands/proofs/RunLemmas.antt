@@ -1,6 +1,6 @@
 -- How each command ends.
 use Rattle.std.proofs.Common.{◌≡◌, ℕ, List, Option, None, Some, Result, Ok, Err, IfOk, IfErr, IfSome, Vec, Global, refl, ap, sym, subst, ◌∙◌}
-use Rattle.std.specs.Prelude.{IsOkAnd, ⊤}
+use Rattle.std.specs.Prelude.{◌⊎◌, IsOkAnd, ⊤}
 use Rattle.std.specs.Borrow.{Bor}
 use Rattle.std.specs.Io.KnownBytes.{Appends}
 use Rattle.std.specs.String.{string_bytes}
@@ -11,12 +11,16 @@ use Rattle.grid_faults.specs.declared.fault.Fault.{Fault}
 use Rattle.grid_gets.specs.Files.{FileAct, IsFileBy, MayBeFileBy}
 use Rattle.grid_gets.specs.Gets.{IsBegunBy, IsGotBy, UnlessWriter}
 use Rattle.grid_rules.specs.Ending.{world_status}
+use Rattle.grid_lists.specs.Gets.{IsGetFiles}
 use Rattle.grid_lists.specs.Puts.{IsPutDone, IsPutUndone, is_one}
 use Rattle.grid_repairs.specs.Checks.{IsCheckBy}
 use Rattle.grid_repairs.specs.Repairs.{IsRepairBy}
 use Rattle.grid_shares.specs.declared.Outcome.{Outcome}
 use Rattle.grid_servers.specs.Grids.{GridCalls}
+use Rattle.grid_faults.specs.declared.fault.Fault.TheVariants as faults
 use Rattle.grid_telling.specs.declared.outcome.Failure.{Failure}
+use Rattle.grid_telling.specs.declared.outcome.Failure.TheVariants as failures
+use Rattle.grid_words.specs.declared.catalogue_words.GetFilesWords.{GetFilesWords}
 use Rattle.grid_words.specs.declared.words.CheckWords.{CheckWords}
 use Rattle.grid_words.specs.declared.words.GetWords.{GetWords}
 use Rattle.grid_words.specs.declared.words.InitWords.{InitWords}
@@ -24,8 +28,8 @@ use Rattle.grid_words.specs.declared.words.PutWords.{PutWords}
 use Rattle.grid_words.specs.declared.words.RepairWords.{RepairWords}
 use Rattle.grid_words.specs.declared.words.ScrubWords.{ScrubWords}
 use Rattle.grid_words.specs.declared.words.Request.{Request}
-use Rattle.grid_words.specs.declared.words.Request.TheVariants.{Init, Put, Get, Check, Repair, Scrub, World, Describe}
-use Rattle.grid_commands.specs.Commands.{AreCapLines, AreFiled, ArePrinted, IsDone, IsGet, IsGetBegun, IsGetFiled, IsGotTo, IsRunBy, IsUndone, IsUnwritten, IsWorld, IsWrittenOf}
+use Rattle.grid_words.specs.declared.words.Request.TheVariants.{Init, Put, Get, GetFiles, Check, Repair, Scrub, World, Describe}
+use Rattle.grid_commands.specs.Commands.{AreCapLines, AreFiled, AreGetFiled, ArePrinted, IsDone, IsGet, IsGetBegun, IsGetFiled, IsGotTo, IsRunBy, IsUndone, IsUnwritten, IsWorld, IsWrittenOf}
 use Rattle.grid_commands.specs.Inits.{IsInitBy}
 use Rattle.grid_commands.specs.Scrubs.{IsScrub}
 use Rattle.grid_commands.specs.Texts.{IsEndOf}
@@ -95,6 +99,21 @@ module _ {F S : Type 0} (gives : Opened F → ℕ → List ℕ → Opened F → 
   pub get_run : (words : GetWords) → request ≡ Get words → IfOk r (λ status. IsGet calls words status before after) → IfErr r (λ failure. IsGetBegun calls words words.output failure before after)
       → IsGetFiled calls words words.output r old new → IsRunBy gives calls request r before after old new
   get_run words is done undone filed = by_request (Get words) is done undone filed
+
+  pub get_files_run : (words : GetFilesWords) → request ≡ GetFiles words → after ≡ before → IfOk r (λ status. IsGetFiles calls words status old new)
+      → IfErr r (λ failure. (failure ≡ failures.Fault faults.OutOfMemory) ⊎ (new ≡ old)) → IsRunBy gives calls request r before after old new
+  get_files_run words is none done undone = by_request (GetFiles words) is (always_ok r) (always_err r) (filed r done undone) where
+    always_ok : (r : Result ℕ Failure) → IfOk r (λ status. after ≡ before)
+    always_ok (Ok status) = none
+    always_ok (Err failure) = tt
+
+    always_err : (r : Result ℕ Failure) → IfErr r (λ failure. after ≡ before)
+    always_err (Ok status) = tt
+    always_err (Err failure) = none
+
+    filed : (r : Result ℕ Failure) → IfOk r (λ status. IsGetFiles calls words status old new) → IfErr r (λ failure. (failure ≡ failures.Fault faults.OutOfMemory) ⊎ (new ≡ old)) → AreGetFiled calls words r old new
+    filed (Ok status) done undone = done
+    filed (Err failure) done undone = undone
 
   -- a command that does nothing with files of a name
   module _ (same : new ≡ old) where

@@ -1,6 +1,7 @@
 -- What each command comes to: its exit status, what it adds to the bytes of `out`, and what it does
 -- with files of a name.
-use Rattle.std.specs.Prelude.{◌≡◌, ℕ, List, Option, None, Some, Result, Ok, Err, IfErr, IfOk, ⊤}
+use Rattle.std.specs.Prelude.{◌≡◌, ◌⊎◌, ℕ, List, Option, None, Some, Result, Ok, Err, IfErr, IfOk}
+use Rattle.std.specs.Prelude.{⊤}
 use Rattle.std.specs.Borrow.{Bor}
 use Rattle.std.specs.Io.KnownBytes.{Appends}
 use Rattle.std.specs.String.{string_bytes}
@@ -11,6 +12,7 @@ use Rattle.world_script.specs.Script.{lines_of}
 use Rattle.world_script.specs.declared.ending.Ending.{Ending}
 use Rattle.grid_gets.specs.Files.{FileAct, IsFileBy, MayBeFileBy}
 use Rattle.grid_gets.specs.Gets.{IsBegunBy, IsGotBy, UnlessWriter}
+use Rattle.grid_lists.specs.Gets.{IsGetFiles}
 use Rattle.grid_lists.specs.Puts.{IsPutDone, IsPutUndone, is_one}
 use Rattle.grid_repairs.specs.Checks.{IsCheckBy}
 use Rattle.grid_repairs.specs.Repairs.{IsRepairBy}
@@ -18,12 +20,15 @@ use Rattle.grid_rules.specs.CapLines.{cap_lines}
 use Rattle.grid_rules.specs.Ending.{world_status}
 use Rattle.grid_shares.specs.declared.Outcome.{Outcome}
 use Rattle.grid_servers.specs.Grids.{GridCalls}
+use Rattle.grid_faults.specs.declared.fault.Fault.TheVariants as faults
 use Rattle.grid_telling.specs.declared.outcome.Failure.{Failure}
 use Rattle.grid_telling.specs.declared.outcome.Failure.TheVariants as failures
+use Rattle.grid_words.specs.declared.catalogue_words.GetFilesWords.{GetFilesWords}
 use Rattle.grid_words.specs.declared.words.GetWords.{GetWords}
 use Rattle.grid_words.specs.declared.words.Request.{Request}
-use Rattle.grid_words.specs.declared.words.Request.TheVariants.{Init, Put, Get, Check, Repair}
-use Rattle.grid_words.specs.declared.words.Request.TheVariants.{Scrub, Serve, World, Describe}
+use Rattle.grid_words.specs.declared.words.Request.TheVariants.{Init, Put, Get, GetFiles, Check}
+use Rattle.grid_words.specs.declared.words.Request.TheVariants.{Repair, Scrub, Serve, World}
+use Rattle.grid_words.specs.declared.words.Request.TheVariants.{Describe}
 use Rattle.grid_commands.specs.Exit.{IsExit, IsServingEnd}
 use Rattle.grid_commands.specs.Inits.{IsInitBy}
 use Rattle.grid_commands.specs.Scrubs.{IsScrub}
@@ -76,6 +81,18 @@ IsGetFiled calls words (Some path) (Ok status) old new =
 IsGetFiled calls words (Some path) (Err failure) old new =
     MayBeFileBy calls words path.now old new
 
+-- What a get of the files of a catalogue did with them; where it ended with a fault it did nothing,
+-- unless memory ended.
+abbrev pub AreGetFiled : {S : Type 0} → GridCalls S → GetFilesWords → Result ℕ Failure
+    → Option (List FileAct) → Option (List FileAct) → Type 0
+AreGetFiled calls words (Ok status) old new = IsGetFiles calls words status old new
+AreGetFiled calls words (Err failure) old new =
+    (failure ≡ failures.Fault faults.OutOfMemory) ⊎ (new ≡ old)
+
+-- Nothing was written; the status stands with what was done with files.
+abbrev pub IsSilent : ℕ → Option (List ℕ) → Option (List ℕ) → Type 0
+IsSilent status before after = after ≡ before
+
 -- A script that some text spells was run, that of the file that was read; and how it ended was
 -- written.
 pub record IsWorld (status : ℕ) (before after : Option (List ℕ)) : Type 0 where
@@ -102,6 +119,7 @@ abbrev pub IsDone : {F S : Type 0} → (Opened F → ℕ → List ℕ → Opened
 IsDone gives calls (Init words) = ArePrinted (IsInitBy words)
 IsDone gives calls (Put words) = IsPutDone gives calls words
 IsDone gives calls (Get words) = IsGet calls words
+IsDone gives calls (GetFiles words) = IsSilent
 IsDone gives calls (Check words) = IsWrittenOf (IsCheckBy calls words)
 IsDone gives calls (Repair words) = IsWrittenOf (IsRepairBy calls words)
 IsDone gives calls (Scrub words) = IsScrub words
@@ -120,16 +138,18 @@ abbrev pub IsUndone : {S : Type 0} → GridCalls S → Request → Failure → O
     → Option (List ℕ) → Type 0
 IsUndone calls (Get words) failure before after =
     IsGetBegun calls words words.output failure before after
+IsUndone calls (GetFiles words) failure before after = after ≡ before
 IsUndone calls (Put words) failure before after =
     IsPutUndone (is_one words) failure before after
 IsUndone calls (Scrub words) failure before after = ⊤
 IsUndone calls (Serve words) failure before after = ⊥
 IsUndone calls request failure before after = IsUnwritten failure before after
 
--- Files of a name are what a get is asked for alone.
+-- Files of a name are what gets are asked for alone.
 abbrev pub AreFiled : {S : Type 0} → GridCalls S → Request → Result ℕ Failure
     → Option (List FileAct) → Option (List FileAct) → Type 0
 AreFiled calls (Get words) ended old new = IsGetFiled calls words words.output ended old new
+AreFiled calls (GetFiles words) ended old new = AreGetFiled calls words ended old new
 AreFiled calls request ended old new = new ≡ old
 
 -- A request ended so.

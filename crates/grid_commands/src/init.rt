@@ -9,8 +9,8 @@ ghost use Rattle.grid_commands.specs.Inits.{IsCountBy, IsInitBy, IsSecretText};
 use crate::elsewhere::{named_servers, refuse_any, refuse_others};
 use grid_faults::{Fault, Limit, told_path};
 use grid_marks::{
-    AddressFile, MAX_SERVERS, add_servers, adopt_grid, can_be_marked, grid_servers_count, make_grid, mark_grid,
-    replace_server,
+    AddressFile, MAX_SERVERS, add_servers, adopt_grid, can_be_marked, grid_servers_count,
+    make_grid, mark_grid, replace_server,
 };
 use grid_servers::{
     Durability, draw_secret, grid_secret, keep_secret, read_secret_file, refuse_no_address,
@@ -64,6 +64,7 @@ fn secret_text(alloc: Global, words: &InitWords<'_>) -> Result<String, Fault>
 }
 
 // Does what is asked of the marks, and gives how many servers the grid has then.
+#[tactic(auto, using(crate::proofs::ElsewhereLemmas::all_of_new, crate::proofs::ElsewhereLemmas::all_of_more, crate::proofs::ElsewhereLemmas::none_new))]
 fn mark<R, E>(
     rt: &R,
     words: &InitWords<'_>,
@@ -284,7 +285,11 @@ where
 }
 
 /// What was given for an option, which is told where it may not be.
-pub(crate) fn within<R, E>(rt: &R, limit: &Limit<'_>, progress: &mut Progress<'_, R, E>) -> Result<u16, Fault>
+pub(crate) fn within<R, E>(
+    rt: &R,
+    limit: &Limit<'_>,
+    progress: &mut Progress<'_, R, E>,
+) -> Result<u16, Fault>
 where
     R: Clock + AllocGlobal,
     E: Write + IsTerminal,

@@ -3,9 +3,9 @@
 //! `grid` takes the words of the command line and two writers, and gives the exit status. An `init`
 //! marks the folders of a grid and of its servers. A `put` stores shares, in `grid_shares`, of one
 //! file or of many, in `grid_lists`; a `check` and a `repair` look at those that are stored, in
-//! `grid_repairs`; a `get` is one download or several, in `grid_gets`; a `scrub` reads the servers'
-//! folders; a `serve` is one server of a grid, until the process is ended; `world` runs a script,
-//! whose text is read whole before anything runs.
+//! `grid_repairs`; a `get` is one download or several, in `grid_gets`, of the files of a catalogue
+//! in `grid_lists`; a `scrub` reads the servers' folders; a `serve` is one server of a grid, until
+//! the process is ended; `world` runs a script, whose text is read whole before anything runs.
 //! Which words there are stands in `grid_words`, and what is told in `grid_faults`, `grid_rules`
 //! and `grid_telling`.
 #![tactic(auto)]
@@ -35,7 +35,7 @@ use crate::serving::serve_folder;
 use grid_faults::Fault;
 use grid_gets::get;
 pub use grid_gets::{DiskFiles, NamedFiles};
-use grid_lists::put;
+use grid_lists::{get_files, put};
 use grid_repairs::{check, repair};
 use grid_rules::{cap_lines, read_cap};
 pub use grid_shares::Environment;
@@ -53,7 +53,7 @@ pub use user_files::Locks;
 /// Runs the command that `words` asks for, of which the first is the program's name. Its result
 /// goes to `out`, and a fault, as one line with its number and name, to `err`. A `get` writes as it
 /// reads, so that a beginning of its range may stand on `out` where it ends with a fault; with `-o`
-/// it goes to one of `files`, and nothing to `out`.
+/// it goes to one of `files`, and with `--caps` each file does, and nothing to `out`.
 ///
 /// Where `err` is a terminal, a command that takes more than a second tells there how far it is,
 /// and clears that line before it ends. With `-v` it tells a line of each server that serves badly.
@@ -182,6 +182,7 @@ where
         Request::Init(words) => printed(out, init::init(rt, words, progress)),
         Request::Put(words) => put(rt, words, environment, out, progress),
         Request::Get(words) => got(rt, words, environment, files, out, progress),
+        Request::GetFiles(words) => get_files(rt, words, environment, files, progress),
         Request::Check(words) => told(out, check(rt, words, environment, progress)),
         Request::Repair(words) => told(out, repair(rt, words, environment, progress)),
         Request::Scrub(words) => scrub::scrub(rt, words, environment, out, progress),

@@ -10,10 +10,9 @@ use Rattle.cap_text.specs.Cap.{ReadCapValue}
 use Rattle.download_core.specs.State.{DownloadState}
 use Rattle.download_file.specs.Whole.{joined}
 use Rattle.operation_loop.specs.Outside.{OutsideCalls}
-use Rattle.grid_rules.specs.declared.range.ByteRange.{ByteRange}
 use Rattle.grid_telling.specs.declared.outcome.Failure.{Failure}
 use Rattle.grid_telling.specs.declared.outcome.Failure.TheVariants.{Fault, Writer}
-use Rattle.grid_gets.specs.Gets.{AcceptsOnly, AllAccept, IsBegun, IsGot, Run, UnlessWriter, pieces_of}
+use Rattle.grid_gets.specs.Gets.{AcceptsOnly, AllAccept, Run, Standing, UnlessWriter, pieces_of}
 use Rattle.grid_gets.specs.Spans.{Leads, Spanning, StaysBlock, Stops, point_at, reached_by}
 use Rattle.grid_gets.specs.declared.tried.Tried.{Tried}
 use Rattle.grid_gets.specs.declared.tried.Tried.TheVariants.{Done, TooFew}
@@ -85,9 +84,9 @@ all_still {G = G} a b runs stays all = All-weaker (λ (r : Run G). AcceptsOnly a
 
 -- ---- spans
 
--- before the first span
-abbrev pub first_of : {G : Type 0} → G → Spanning G
-first_of grid = record { session = 1; grid = grid; block = None }
+-- before the first span of a file
+abbrev pub first_of : {G : Type 0} → Standing G → Spanning G
+first_of s = record { session = s.session; grid = s.grid; block = None }
 
 module _ {G : Type 0} (calls : OutsideCalls G) (cap : ReadCapValue) (servers : List ℕ) where
   pub leads_none : (s : Spanning G) (from : ℕ) (held : Option (List ℕ)) → Leads calls cap servers s from held s from held
@@ -180,23 +179,6 @@ module _ {G : Type 0} (calls : OutsideCalls G) (cap : ReadCapValue) (servers : L
 
     pub then_err : (r : Result (Unit {0}) Failure) → IfErr r (λ f. UnlessWriter f (Stops calls cap servers b at to middle holds)) → IfErr r (λ f. UnlessWriter f (Stops calls cap servers a from to held holds))
     then_err r known = if_err_weaker r (Stops calls cap servers b at to middle holds) (Stops calls cap servers a from to held holds) (λ s. stops_after a b from at to held middle holds first_to s) known
-
-  -- ---- of a range
-
-  pub got_of : (range : ByteRange) (grid : G) (new : Spanning G) (held holds : Option (List ℕ)) → Leads calls cap servers (first_of grid) range.from held new range.to holds → IsGot calls cap servers range grid held holds
-  got_of range grid new held holds l = record { runs = l.runs; after = point_at new range.to; written = l.written; whole = refl; block = new.block; one = l.one }
-
-  pub begun_of : (range : ByteRange) (grid : G) (held holds : Option (List ℕ)) → Stops calls cap servers (first_of grid) range.from range.to held holds → IsBegun calls cap servers range grid held holds
-  begun_of range grid held holds s = record {
-    runs = s.leads.runs;
-    last = s.last;
-    few = s.few;
-    after = s.after;
-    written = written_trans calls cap servers (point_at (first_of grid) range.from) (point_at s.mid s.at) s.after s.leads.runs s.last held s.middle holds s.leads.written s.written;
-    within = s.within;
-    block = s.mid.block;
-    one = s.leads.one;
-  }
 
 -- from some servers, and so from all
 module _ {G : Type 0} (calls : OutsideCalls G) (cap : ReadCapValue) (some all : List ℕ) (among : All (Contains all) some) (old : Spanning G) (from : ℕ) (held : Option (List ℕ)) where

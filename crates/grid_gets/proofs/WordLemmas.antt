@@ -1,5 +1,5 @@
 -- What a get writes by its words.
-use Rattle.std.proofs.Common.{◌≡◌, ◌↔◌, ℕ, List, Option, Result, Ok, Err, OnOk, OnErr, IfErr, sym, subst, inl, inr, ◌∙◌}
+use Rattle.std.proofs.Common.{◌≡◌, ◌↔◌, false, ℕ, List, Option, Result, Ok, Err, OnOk, OnErr, IfErr, sym, subst, inl, inr, ◌∙◌}
 use Rattle.cap_text.specs.Cap.{VerifyCapValue}
 use Rattle.cap_text.specs.CapText.{Spells}
 use Rattle.cap_text.specs.declared.cap.Cap.{Cap}
@@ -38,41 +38,41 @@ module _ {S : Type 0} (calls : GridCalls S) (words : GetWords) (cap : Cap) (rang
   fits : IsWithin (file_size cap) (range_by words cap)
   fits = subst (λ (r : ByteRange). IsWithin (file_size cap) r) is within
 
-  by_words : (held holds : Option (List ℕ)) → IsGotOf calls words cap range held holds → IsGotBy calls words held holds
-  by_words held holds g = record { cap = cap; spelled = spelled; within = fits; got = subst (λ (r : ByteRange). IsGotOf calls words cap r held holds) is g }
+  by_words : (held holds : Option (List ℕ)) → IsGotOf calls words.grid.now false cap range held holds → IsGotBy calls words held holds
+  by_words held holds g = record { cap = cap; spelled = spelled; within = fits; got = subst (λ (r : ByteRange). IsGotOf calls words.grid.now false cap r held holds) is g }
 
   -- to a writer
-  pub got_by : (r : Result (Unit {0}) Failure) (held holds : Option (List ℕ)) → OnOk r (IsGotOf calls words cap range held holds) → OnOk r (IsGotBy calls words held holds)
+  pub got_by : (r : Result (Unit {0}) Failure) (held holds : Option (List ℕ)) → OnOk r (IsGotOf calls words.grid.now false cap range held holds) → OnOk r (IsGotBy calls words held holds)
   got_by (Ok tt) held holds g = by_words held holds g
   got_by (Err f) held holds g = tt
 
-  begun_words : (held holds : Option (List ℕ)) → IsBegunOf calls words range held holds cap → IsBegunBy calls words held holds
-  begun_words held holds written = read cap spelled fits (subst (λ (x : ByteRange). IsBegunOf calls words x held holds cap) is written)
+  begun_words : (held holds : Option (List ℕ)) → IsBegunOf calls words.grid.now false range held holds cap → IsBegunBy calls words held holds
+  begun_words held holds written = read cap spelled fits (subst (λ (x : ByteRange). IsBegunOf calls words.grid.now false x held holds cap) is written)
 
-  pub begun_by : (r : Result (Unit {0}) Failure) (held holds : Option (List ℕ)) → IfErr r (λ f. UnlessWriter f (IsBegunOf calls words range held holds cap))
+  pub begun_by : (r : Result (Unit {0}) Failure) (held holds : Option (List ℕ)) → IfErr r (λ f. UnlessWriter f (IsBegunOf calls words.grid.now false range held holds cap))
       → IfErr r (λ f. UnlessWriter f (IsBegunBy calls words held holds))
-  begun_by r held holds b = if_err_weaker r (IsBegunOf calls words range held holds cap) (IsBegunBy calls words held holds) (begun_words held holds) b
+  begun_by r held holds b = if_err_weaker r (IsBegunOf calls words.grid.now false range held holds cap) (IsBegunBy calls words held holds) (begun_words held holds) b
 
   -- ---- to a file
 
   module _ (path : List ℕ) (old new : Option (List FileAct)) where
-    file_words : (outcome : Result (Unit {0}) Failure) → IsFileOf calls words cap range path outcome old new → IsFileBy calls words path outcome old new
+    file_words : (outcome : Result (Unit {0}) Failure) → IsFileOf calls words.grid.now false cap range path outcome old new → IsFileBy calls words path outcome old new
     file_words outcome h = record {
       held = h.held;
       holds = h.holds;
       acts = h.acts;
       whole = got_by outcome h.held h.holds h.whole;
-      begun = if_err_weaker outcome (IsBegunOf calls words range h.held h.holds cap) (IsBegunBy calls words h.held h.holds) (begun_words h.held h.holds) h.begun;
+      begun = if_err_weaker outcome (IsBegunOf calls words.grid.now false range h.held h.holds cap) (IsBegunBy calls words h.held h.holds) (begun_words h.held h.holds) h.begun;
     }
 
-    pub file_by : (r : Result (Unit {0}) Failure) → OnOk r (IsFileOf calls words cap range path (Ok tt) old new) → OnOk r (IsFileBy calls words path (Ok tt) old new)
+    pub file_by : (r : Result (Unit {0}) Failure) → OnOk r (IsFileOf calls words.grid.now false cap range path (Ok tt) old new) → OnOk r (IsFileBy calls words path (Ok tt) old new)
     file_by (Ok tt) h = file_words (Ok tt) h
     file_by (Err f) h = tt
 
-    may_be : MayBeFileOf calls words cap range path old new → MayBeFileBy calls words path old new
+    may_be : MayBeFileOf calls words.grid.now false cap range path old new → MayBeFileBy calls words path old new
     may_be (inl same) = inl same
     may_be (inr handed) = inr (handed.0, file_words handed.0 handed.1)
 
-    pub part_by : (r : Result (Unit {0}) Failure) → OnErr r (MayBeFileOf calls words cap range path old new) → OnErr r (MayBeFileBy calls words path old new)
+    pub part_by : (r : Result (Unit {0}) Failure) → OnErr r (MayBeFileOf calls words.grid.now false cap range path old new) → OnErr r (MayBeFileBy calls words path old new)
     part_by (Ok tt) h = tt
     part_by (Err f) h = may_be h

@@ -1,6 +1,6 @@
 -- What a get does with the file that a `-o` names.
-use Rattle.std.specs.Prelude.{◌≡◌, ◌⊎◌, ℕ, List, [], ◌∷◌, ◌++◌, Option, Some, None, Result, OnOk}
-use Rattle.std.specs.Prelude.{IfErr, ⊤}
+use Rattle.std.specs.Prelude.{◌≡◌, ◌⊎◌, ℕ, Bool, List, [], ◌∷◌, ◌++◌, Option, Some, None, Result}
+use Rattle.std.specs.Prelude.{IfErr, OnOk, ⊤}
 use Rattle.cap_text.specs.declared.cap.Cap.{Cap}
 use Rattle.grid_rules.specs.declared.range.ByteRange.{ByteRange}
 use Rattle.grid_servers.specs.Grids.{GridCalls}
@@ -48,15 +48,15 @@ abbrev pub MayBeFileBy : {S : Type 0} → GridCalls S → GetWords → List ℕ 
     → Option (List FileAct) → Type 0
 MayBeFileBy calls words = MayBeHanded (IsGotBy calls words) (IsBegunBy calls words)
 
--- ---- words of private clauses
+-- ---- of a cap
 
--- The same of a range of a cap's file.
-abbrev pub IsFileOf : {S : Type 0} → GridCalls S → GetWords → Cap → ByteRange → List ℕ
+-- A range of a cap's file was handed to a file of a path, of servers of a grid that stand so.
+abbrev pub IsFileOf : {S : Type 0} → GridCalls S → List ℕ → Bool → Cap → ByteRange → List ℕ
     → Result (Unit {0}) Failure → Option (List FileAct) → Option (List FileAct) → Type 0
-IsFileOf calls words cap range = IsHanded (IsGotOf calls words cap range)
-    (λ held holds. IsBegunOf calls words range held holds cap)
+IsFileOf calls grid kept cap range = IsHanded (IsGotOf calls grid kept cap range)
+    (λ held holds. IsBegunOf calls grid kept range held holds cap)
 
-abbrev pub MayBeFileOf : {S : Type 0} → GridCalls S → GetWords → Cap → ByteRange → List ℕ
+abbrev pub MayBeFileOf : {S : Type 0} → GridCalls S → List ℕ → Bool → Cap → ByteRange → List ℕ
     → Option (List FileAct) → Option (List FileAct) → Type 0
-MayBeFileOf calls words cap range = MayBeHanded (IsGotOf calls words cap range)
-    (λ held holds. IsBegunOf calls words range held holds cap)
+MayBeFileOf calls grid kept cap range = MayBeHanded (IsGotOf calls grid kept cap range)
+    (λ held holds. IsBegunOf calls grid kept range held holds cap)

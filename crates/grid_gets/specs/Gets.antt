@@ -1,7 +1,7 @@
 -- What a get writes: the bytes of a range of a file, in order, each from a segment that the cap
 -- proves.
 use Rattle.std.specs.Prelude.{◌≡◌, ℕ, ◌+◌, ◌-◌, ◌≤◌, All, Contains, List, [], ◌∷◌, ◌++◌, length}
-use Rattle.std.specs.Prelude.{◌⊎◌, Option, Some, None, drop, nat_eq, take, ⊤}
+use Rattle.std.specs.Prelude.{◌⊎◌, Bool, true, false, Option, Some, None, drop, nat_eq, take, ⊤}
 use Rattle.std.specs.Io.KnownBytes.{Appends, Keeps}
 use Rattle.std.specs.List.{IsDistinct, flat_map}
 use Rattle.cap_text.specs.Cap.{ReadCapValue}
@@ -83,29 +83,69 @@ AcceptsOnly (Some block) d =
 abbrev pub AllAccept : {G : Type 0} → Option (List ℕ) → List (Run G) → Type 0
 AllAccept {G = G} block runs = All (λ (r : Run G). AcceptsOnly block r.ended) runs
 
--- where a get of a range begins, over a grid whose servers were just opened
-abbrev pub beginning : {G : Type 0} → ByteRange → G → Point G
-beginning range grid = record { offset = range.from; session = 1; grid = grid }
+-- ---- the servers
+
+-- The servers of a grid as a get finds them: their numbers, the grid, and the session of the next
+-- download.
+pub record Standing (G : Type 0) : Type 0 where
+  pub servers : List ℕ
+  pub grid : G
+  pub session : ℕ
+
+-- where downloads over them begin
+abbrev pub begun_at : {G : Type 0} → Standing G → ℕ → Point G
+begun_at s offset = record { offset = offset; session = s.session; grid = s.grid }
+
+-- They were just opened, each over its own folder or elsewhere, and are distinct.
+pub record AreNew {S : Type 0} (grid : List ℕ) (s : Standing (FolderGridState S)) : Type 0 where
+  pub distinct : IsDistinct nat_eq s.servers
+  pub opened : AreOpened grid s.grid
+  pub first : s.session ≡ 1
+
+-- Downloads of a cap's file led from these to those.
+pub record AreReadTo {G : Type 0} (calls : OutsideCalls G) (old new : Standing G) : Type 0 where
+  pub cap : ReadCapValue
+  pub from : ℕ
+  pub runs : List (Run G)
+  pub after : Point G
+  pub runs_are : AreRuns calls cap old.servers (begun_at old from) runs after
+  pub is : new ≡ record { servers = old.servers; grid = after.grid; session = after.session }
+
+-- They were opened, and since then downloads were carried over them, one after another.
+pub data WereRead {S : Type 0} (calls : GridCalls S) (grid : List ℕ)
+    : Standing (FolderGridState S) → Type 0 where
+  were_new : (s : Standing (FolderGridState S)) → AreNew grid s → WereRead calls grid s
+  read_on : (old new : Standing (FolderGridState S)) → WereRead calls grid old
+      → AreReadTo calls old new → WereRead calls grid new
+
+-- They stand so: kept open since they were opened, or just opened.
+abbrev pub Stands : {S : Type 0} → GridCalls S → List ℕ → Bool → Standing (FolderGridState S)
+    → Type 0
+Stands calls grid true s = WereRead calls grid s
+Stands calls grid false s = AreNew grid s
+
+-- ---- a range
 
 -- A range of a cap's file was got of servers of a grid and written, to its end. All downloads
 -- accepted one extension block.
-pub record IsGot {G : Type 0} (calls : OutsideCalls G) (cap : ReadCapValue) (servers : List ℕ)
-    (range : ByteRange) (grid : G) (held holds : Option (List ℕ)) : Type 0 where
+pub record IsGot {G : Type 0} (calls : OutsideCalls G) (cap : ReadCapValue) (range : ByteRange)
+    (s : Standing G) (held holds : Option (List ℕ)) : Type 0 where
   pub runs : List (Run G)
   pub after : Point G
-  pub written : AreWritten calls cap servers (beginning range grid) held runs after holds
+  pub written : AreWritten calls cap s.servers (begun_at s range.from) held runs after holds
   pub whole : after.offset ≡ range.to
   pub block : Option (List ℕ)
   pub one : AllAccept block runs
 
 -- A beginning of it was. The last download may have been cut short, or have accepted another block.
-pub record IsBegun {G : Type 0} (calls : OutsideCalls G) (cap : ReadCapValue) (servers : List ℕ)
-    (range : ByteRange) (grid : G) (held holds : Option (List ℕ)) : Type 0 where
+pub record IsBegun {G : Type 0} (calls : OutsideCalls G) (cap : ReadCapValue) (range : ByteRange)
+    (s : Standing G) (held holds : Option (List ℕ)) : Type 0 where
   pub runs : List (Run G)
   pub last : List (Run G)
   pub few : length last ≤ 1
   pub after : Point G
-  pub written : AreWritten calls cap servers (beginning range grid) held (runs ++ last) after holds
+  pub written : AreWritten calls cap s.servers (begun_at s range.from) held (runs ++ last) after
+      holds
   pub within : after.offset ≤ range.to
   pub block : Option (List ℕ)
   pub one : AllAccept block runs
@@ -126,16 +166,19 @@ range_by words cap = asked_range words.from words.to (file_size cap)
 abbrev pub bytes_in : List ℕ → ByteRange → List ℕ
 bytes_in file range = take (range.to - range.from) (drop range.from file)
 
+-- all of it
+abbrev pub whole_range : Cap → ByteRange
+whole_range cap = record { from = 0; to = file_size cap }
+
 -- What is written of a cap's file: of one that the cap holds its bytes; of another what was got of
--- servers of the grid, which are distinct, and each of which was opened over its own folder. A
--- verify cap gives none.
-abbrev pub IsGotOf : {S : Type 0} → GridCalls S → GetWords → Cap → ByteRange → Option (List ℕ)
-    → Option (List ℕ) → Type 0
-IsGotOf {S = S} calls words (Chk cap) range held holds = (servers : List ℕ)
-    × IsDistinct nat_eq servers × (grid : FolderGridState S)
-    × AreOpened words.grid.now grid × IsGot calls cap servers range grid held holds
-IsGotOf calls words (Verify cap) range held holds = ⊥
-IsGotOf calls words (Lit file) range held holds = Appends held holds (bytes_in file range)
+-- servers of the grid, which stand so. A verify cap gives none.
+abbrev pub IsGotOf : {S : Type 0} → GridCalls S → List ℕ → Bool → Cap → ByteRange
+    → Option (List ℕ) → Option (List ℕ) → Type 0
+IsGotOf {S = S} calls grid kept (Chk cap) range held holds =
+    (s : Standing (FolderGridState S)) × Stands calls grid kept s
+    × IsGot calls cap range s held holds
+IsGotOf calls grid kept (Verify cap) range held holds = ⊥
+IsGotOf calls grid kept (Lit file) range held holds = Appends held holds (bytes_in file range)
 
 -- What a get writes by its words, whose text is that of a cap.
 pub record IsGotBy {S : Type 0} (calls : GridCalls S) (words : GetWords)
@@ -143,24 +186,23 @@ pub record IsGotBy {S : Type 0} (calls : GridCalls S) (words : GetWords)
   pub cap : Cap
   pub spelled : Spells words.cap.now cap
   pub within : IsWithin (file_size cap) (range_by words cap)
-  pub got : IsGotOf calls words cap (range_by words cap) held holds
+  pub got : IsGotOf calls words.grid.now false cap (range_by words cap) held holds
 
 -- What is written of a cap's file where a get does not end well: nothing, or what was got of the
 -- servers up to there.
-pub data IsBegunOf {S : Type 0} (calls : GridCalls S) (words : GetWords) (range : ByteRange)
-    (held holds : Option (List ℕ)) : Cap → Type 0 where
-  nothing : (cap : Cap) → Keeps held holds → IsBegunOf calls words range held holds cap
-  begun : (cap : ReadCapValue) → (servers : List ℕ) → IsDistinct nat_eq servers
-      → (grid : FolderGridState S) → AreOpened words.grid.now grid
-      → IsBegun calls cap servers range grid held holds
-      → IsBegunOf calls words range held holds (Chk cap)
+pub data IsBegunOf {S : Type 0} (calls : GridCalls S) (grid : List ℕ) (kept : Bool)
+    (range : ByteRange) (held holds : Option (List ℕ)) : Cap → Type 0 where
+  nothing : (cap : Cap) → Keeps held holds → IsBegunOf calls grid kept range held holds cap
+  begun : (cap : ReadCapValue) → (s : Standing (FolderGridState S)) → Stands calls grid kept s
+      → IsBegun calls cap range s held holds
+      → IsBegunOf calls grid kept range held holds (Chk cap)
 
 -- The same by its words, which may be refused.
 pub data IsBegunBy {S : Type 0} (calls : GridCalls S) (words : GetWords)
     (held holds : Option (List ℕ)) : Type 0 where
   refused : Keeps held holds → IsBegunBy calls words held holds
   read : (cap : Cap) → Spells words.cap.now cap → IsWithin (file_size cap) (range_by words cap)
-      → IsBegunOf calls words (range_by words cap) held holds cap
+      → IsBegunOf calls words.grid.now false (range_by words cap) held holds cap
       → IsBegunBy calls words held holds
 
 -- Where it was the writer that failed, nothing is known of what it holds.

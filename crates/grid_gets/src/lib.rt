@@ -4,11 +4,14 @@
 mod beside;
 mod output;
 mod range;
+mod sending;
 mod spans;
+mod standing;
 mod suspects;
 mod target;
 mod tried;
 mod watching;
 
 pub use output::{DiskFiles, NamedFiles};
-pub use range::get;
+pub use range::{get, get_file};
+pub use standing::{OpenGrid, Place};

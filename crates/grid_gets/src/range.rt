@@ -1,7 +1,7 @@
 //! `grid get`: bytes of a cap's file, from the servers of a grid.
 
-ghost use Rattle.std.specs.Prelude.{◌≡◌, Err, IfErr, IfOk, IfSome, None, Ok, OnErr, OnOk, length};
-ghost use Rattle.std.specs.Io.KnownBytes.{Appends};
+ghost use Rattle.std.specs.Prelude.{◌≡◌, Err, IfErr, IfOk, IfSome, None, Ok, OnErr, OnOk, is_some};
+ghost use Rattle.std.specs.Prelude.{length};
 ghost use Rattle.cap_text.specs.Cap.{VerifyCapValue};
 ghost use Rattle.cap_text.specs.CapText.{Spells};
 ghost use Rattle.cap_text.specs.declared.cap.Cap.TheVariants.{Chk, Verify, Lit};
@@ -11,16 +11,16 @@ ghost use Rattle.grid_servers.specs.Grids.{grid_calls};
 ghost use Rattle.grid_telling.specs.declared.outcome.Failure.TheVariants as failures;
 ghost use Rattle.grid_gets.specs.Files.{IsFileBy, IsFileOf, MayBeFileBy, MayBeFileOf};
 ghost use Rattle.grid_gets.specs.Gets.{IsBegunBy, IsBegunOf, IsGotBy, IsGotOf, UnlessWriter};
-ghost use Rattle.grid_gets.specs.Gets.{bytes_in, file_size, range_by};
+ghost use Rattle.grid_gets.specs.Gets.{WereRead, bytes_in, file_size, range_by, whole_range};
 
 use crate::output::NamedFiles;
-use crate::spans::Spans;
+use crate::sending::send;
+use crate::standing::{OpenGrid, Place};
 use cap_text::{Cap, ReadCap};
 use grid_faults::Fault;
-use grid_marks::{is_grid, known_grid};
+use grid_marks::known_grid;
 use grid_rules::{ByteRange, range_of, read_cap};
-use grid_servers::{Purpose, open_servers, standing_servers};
-use grid_telling::{Counting, Failure, Progress, Verb, note_servers, print};
+use grid_telling::{Failure, Progress};
 use grid_words::GetWords;
 use std::io::{IsTerminal, Write};
 use std::net::Net;
@@ -62,10 +62,50 @@ where
 {
     let asked = asked_by(words)?;
     may_get(rt, words, is_known, &asked.cap)?;
+    let place = Place {
+        grid: words.grid,
+        over_sockets: words.net,
+    };
+    let mut kept = None;
     match words.output {
-        None => write_bytes(rt, words, &asked.cap, &asked.range, out, progress),
-        Some(path) => write_file(rt, words, path, &asked, files, progress),
+        None => write_bytes(rt, &place, &asked, &mut kept, out, progress),
+        Some(path) => write_file(rt, &place, path, &asked, &mut kept, files, progress),
     }
+}
+
+/// Writes the whole file of a cap to a file of this path, as `get` does with `-o`: from the servers
+/// that are kept, or else from those of this place, which are opened. Those are kept from which it
+/// was got.
+pub fn get_file<'a, R, F, E>(
+    rt: &'a R,
+    place: &Place<'a>,
+    cap: Cap,
+    path: &str,
+    kept: &mut Option<OpenGrid<'a, R>>,
+    files: &mut F,
+    progress: &mut Progress<'_, R, E>,
+) -> Result<(), Failure>
+where
+    R: Files + Net + Clock + RandomSource + AllocGlobal + Clone + Drop,
+    F: NamedFiles,
+    E: Write + IsTerminal,
+    requires { IfSome kept.old
+        (WereRead (grid_calls R.Stream.contents R.Stream.remaining) place.now.grid.now) }
+    ensures file { OnOk result (IsFileOf (grid_calls R.Stream.contents R.Stream.remaining)
+        place.now.grid.now (is_some kept.old) cap (whole_range cap) path.now (Ok tt)
+        (F.acts files.old) (F.acts files.new)) }
+    ensures part { OnErr result (MayBeFileOf (grid_calls R.Stream.contents R.Stream.remaining)
+        place.now.grid.now (is_some kept.old) cap (whole_range cap) path.now
+        (F.acts files.old) (F.acts files.new)) }
+    ensures kept { IfSome kept.new
+        (WereRead (grid_calls R.Stream.contents R.Stream.remaining) place.now.grid.now) }
+    ensures verify { (verify : VerifyCapValue) → cap ≡ Verify verify
+        → result ≡ Err (failures.Fault faults.NeedsReadCap) }
+{
+    let to = size_of(&cap)?;
+    let range = ByteRange { from: 0, to };
+    let asked = Asked { cap, range };
+    write_file(rt, place, path, &asked, kept, files, progress)
 }
 
 // What is asked for: a range of a cap's file.
@@ -114,11 +154,12 @@ where
 }
 
 // Hands a range of a cap's file to a file of this path.
-fn write_file<R, F, E>(
-    rt: &R,
-    words: &GetWords<'_>,
+fn write_file<'a, R, F, E>(
+    rt: &'a R,
+    place: &Place<'a>,
     path: &str,
     asked: &Asked,
+    kept: &mut Option<OpenGrid<'a, R>>,
     files: &mut F,
     progress: &mut Progress<'_, R, E>,
 ) -> Result<(), Failure>
@@ -126,23 +167,29 @@ where
     R: Files + Net + Clock + RandomSource + AllocGlobal + Clone + Drop,
     F: NamedFiles,
     E: Write + IsTerminal,
-    requires { IsWithin (file_size asked.now.cap) asked.now.range }
-    ensures ok { OnOk result (IsFileOf (grid_calls R.Stream.contents R.Stream.remaining) words.now
-        asked.now.cap asked.now.range path.now (Ok tt) (F.acts files.old) (F.acts files.new)) }
+    requires within { IsWithin (file_size asked.now.cap) asked.now.range }
+    requires kept { IfSome kept.old
+        (WereRead (grid_calls R.Stream.contents R.Stream.remaining) place.now.grid.now) }
+    ensures ok { OnOk result (IsFileOf (grid_calls R.Stream.contents R.Stream.remaining)
+        place.now.grid.now (is_some kept.old) asked.now.cap asked.now.range path.now (Ok tt)
+        (F.acts files.old) (F.acts files.new)) }
     ensures err { OnErr result (MayBeFileOf (grid_calls R.Stream.contents R.Stream.remaining)
-        words.now asked.now.cap asked.now.range path.now (F.acts files.old) (F.acts files.new)) }
+        place.now.grid.now (is_some kept.old) asked.now.cap asked.now.range path.now
+        (F.acts files.old) (F.acts files.new)) }
+    ensures kept { IfSome kept.new
+        (WereRead (grid_calls R.Stream.contents R.Stream.remaining) place.now.grid.now) }
 {
     let mut file = files.open(path)?;
-    let written = write_bytes(rt, words, &asked.cap, &asked.range, &mut file, progress);
+    let written = write_bytes(rt, place, asked, kept, &mut file, progress);
     files.end(file, written)
 }
 
 // Writes a range of a cap's file.
-fn write_bytes<R, O, E>(
-    rt: &R,
-    words: &GetWords<'_>,
-    cap: &Cap,
-    range: &ByteRange,
+fn write_bytes<'a, R, O, E>(
+    rt: &'a R,
+    place: &Place<'a>,
+    asked: &Asked,
+    kept: &mut Option<OpenGrid<'a, R>>,
     out: &mut O,
     progress: &mut Progress<'_, R, E>,
 ) -> Result<(), Failure>
@@ -150,17 +197,22 @@ where
     R: Files + Net + Clock + RandomSource + AllocGlobal + Clone + Drop,
     O: Write,
     E: Write + IsTerminal,
-    requires { IsWithin (file_size cap.now) range.now }
-    ensures ok { OnOk result (IsGotOf (grid_calls R.Stream.contents R.Stream.remaining) words.now
-        cap.now range.now (O.contents out.old) (O.contents out.new)) }
-    ensures err { IfErr result (λ failure. UnlessWriter failure (IsBegunOf (grid_calls
-        R.Stream.contents R.Stream.remaining) words.now range.now (O.contents out.old)
-        (O.contents out.new) cap.now)) }
+    requires within { IsWithin (file_size asked.now.cap) asked.now.range }
+    requires kept { IfSome kept.old
+        (WereRead (grid_calls R.Stream.contents R.Stream.remaining) place.now.grid.now) }
+    ensures ok { OnOk result (IsGotOf (grid_calls R.Stream.contents R.Stream.remaining)
+        place.now.grid.now (is_some kept.old) asked.now.cap asked.now.range
+        (O.contents out.old) (O.contents out.new)) }
+    ensures err { IfErr result (λ failure. UnlessWriter failure (IsBegunOf
+        (grid_calls R.Stream.contents R.Stream.remaining) place.now.grid.now (is_some kept.old)
+        asked.now.range (O.contents out.old) (O.contents out.new) asked.now.cap)) }
+    ensures kept { IfSome kept.new
+        (WereRead (grid_calls R.Stream.contents R.Stream.remaining) place.now.grid.now) }
 {
-    match cap {
-        Cap::Chk(cap) => get_range(rt, words, cap, range, out, progress),
+    match &asked.cap {
+        Cap::Chk(cap) => get_range(rt, place, cap, &asked.range, kept, out, progress),
         Cap::Verify(_) => Err(Failure::Fault(Fault::NeedsReadCap)),
-        Cap::Lit(cap) => send(out, bytes_in(cap.data(), range)),
+        Cap::Lit(cap) => send(out, bytes_in(cap.data(), &asked.range)),
     }
 }
 
@@ -173,11 +225,12 @@ fn bytes_in<'a>(bytes: &'a [u8], range: &ByteRange) -> &'a [u8]
 }
 
 // Writes a range of a cap's file from what the servers answer.
-fn get_range<R, O, E>(
-    rt: &R,
-    words: &GetWords<'_>,
+fn get_range<'a, R, O, E>(
+    rt: &'a R,
+    place: &Place<'a>,
     cap: &ReadCap,
     range: &ByteRange,
+    kept: &mut Option<OpenGrid<'a, R>>,
     out: &mut O,
     progress: &mut Progress<'_, R, E>,
 ) -> Result<(), Failure>
@@ -185,44 +238,23 @@ where
     R: Files + Net + Clock + RandomSource + AllocGlobal + Clone + Drop,
     O: Write,
     E: Write + IsTerminal,
-    requires { IsWithin cap.now.size range.now }
-    ensures ok { OnOk result (IsGotOf (grid_calls R.Stream.contents R.Stream.remaining) words.now
-        (Chk cap.now) range.now (O.contents out.old) (O.contents out.new)) }
-    ensures err { IfErr result (λ failure. UnlessWriter failure (IsBegunOf (grid_calls
-        R.Stream.contents R.Stream.remaining) words.now range.now (O.contents out.old)
-        (O.contents out.new) (Chk cap.now))) }
+    requires within { IsWithin cap.now.size range.now }
+    requires kept { IfSome kept.old
+        (WereRead (grid_calls R.Stream.contents R.Stream.remaining) place.now.grid.now) }
+    ensures ok { OnOk result (IsGotOf (grid_calls R.Stream.contents R.Stream.remaining)
+        place.now.grid.now (is_some kept.old) (Chk cap.now) range.now (O.contents out.old)
+        (O.contents out.new)) }
+    ensures err { IfErr result (λ failure. UnlessWriter failure (IsBegunOf
+        (grid_calls R.Stream.contents R.Stream.remaining) place.now.grid.now (is_some kept.old)
+        range.now (O.contents out.old) (O.contents out.new) (Chk cap.now))) }
+    ensures kept { IfSome kept.new
+        (WereRead (grid_calls R.Stream.contents R.Stream.remaining) place.now.grid.now) }
 {
-    is_grid(rt, words.grid)?;
-    let standing = standing_servers(rt, words.grid)?;
-    let servers = standing.as_slice();
-    let nodes = open_servers(rt, words.grid, servers, Purpose::Reading, words.net)?;
-    progress.begin(
-        Verb::Get,
-        Counting::Added,
-        range.to.saturating_sub(range.from),
-    );
-    let mut spans = Spans::new(rt, words.grid, nodes);
-    let written = spans.write_range(servers, cap, range, out, progress);
-    let noted = note_servers(
-        rt,
-        words.grid,
-        servers,
-        spans.nodes(),
-        Purpose::Reading,
-        progress,
-    );
+    let mut open = OpenGrid::take(rt, place, kept)?;
+    let written = open.write_range(cap, range, out, progress);
+    let noted = open.note(rt, place, progress);
     written?;
     noted?;
-    send(out, &[])
-}
-
-// Writes bytes, and all that was written before them. It fails only where the writer does.
-fn send<O: Write>(out: &mut O, bytes: &[u8]) -> Result<(), Failure>
-    ensures ok { OnOk result (Appends (O.contents out.old) (O.contents out.new) bytes.now) }
-    ensures err { IfErr result (λ failure. failure ≡ failures.Writer) }
-{
-    match print(out, bytes) {
-        Ok(()) => Ok(()),
-        Err(_) => Err(Failure::Writer),
-    }
+    *kept = Some(open);
+    Ok(())
 }

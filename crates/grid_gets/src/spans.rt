@@ -83,6 +83,13 @@ where
         }
     }
 
+    /// Before the first span of another file. Servers that were blamed or silent stay suspects.
+    pub(crate) fn begin_file(&mut self)
+        ensures { self.new ≡ record self.old { block = None } }
+    {
+        self.extension_block = None;
+    }
+
     /// The servers.
     pub(crate) fn nodes(&self) -> &FolderGrid<R> {
         &self.nodes

@@ -1,5 +1,7 @@
 -- what public contracts rest on
 pub mod Names
 pub mod Puts
+pub mod Gets
 -- words of private clauses
 pub mod Ends
+pub mod GetEnds

@@ -7,7 +7,7 @@ ghost use Rattle.catalogues.specs.Lines.{line_text};
 ghost use Rattle.catalogues.specs.Names.{IsName};
 ghost use Rattle.grid_shares.specs.Puts.{put_status};
 
-use catalogues::{is_name, line_of};
+use catalogues::{CatalogueError, is_name, line_of};
 use grid_faults::{Fault, reason_line, told_path};
 use grid_shares::PutFile;
 use grid_telling::{Failure, Progress, print};
@@ -65,8 +65,8 @@ fn is_regular<R: Files>(rt: &R, path: &str) -> io::Result<()> {
 // Why a pipe or a device of a list is not stored.
 const NO_FILE: &str = "it is no regular file";
 
-// The fault of a name that is no path.
-fn unnamed(alloc: Global, name: &[u8], reason: ErrorKind) -> Fault {
+/// The fault of a name that is no path.
+pub(crate) fn unnamed(alloc: Global, name: &[u8], reason: ErrorKind) -> Fault {
     match told_name(alloc, name) {
         Ok(told) => Fault::File(told, io::Error::from(reason)),
         Err(error) => Fault::from(error),
@@ -123,3 +123,46 @@ where
     progress.tell(line.as_str());
     Ok(())
 }
+
+/// Tells why a text is no catalogue, or which line of it is none.
+pub(crate) fn tell_unread<R, E>(
+    alloc: Global,
+    error: CatalogueError,
+    progress: &mut Progress<'_, R, E>,
+) -> Result<(), AllocError>
+where
+    R: Clock + AllocGlobal,
+    E: Write + IsTerminal,
+{
+    let line = format!(in alloc; "grid: {} {error}\n", error.number())?;
+    progress.tell(line.as_str());
+    Ok(())
+}
+
+/// Tells a name that leads to no file below a folder.
+pub(crate) fn tell_misnamed<R, E>(
+    alloc: Global,
+    name: &[u8],
+    error: CatalogueError,
+    progress: &mut Progress<'_, R, E>,
+) -> Result<(), AllocError>
+where
+    R: Clock + AllocGlobal,
+    E: Write + IsTerminal,
+{
+    let name = told_name(alloc, name)?;
+    let line = format!(in alloc; "grid: {} {error} ({name})\n", error.number())?;
+    progress.tell(line.as_str());
+    Ok(())
+}
+
+/// Tells that no file of a catalogue has one of the names that are asked for.
+pub(crate) fn tell_unfound<R, E>(progress: &mut Progress<'_, R, E>)
+where
+    R: Clock + AllocGlobal,
+    E: Write + IsTerminal,
+{
+    progress.tell(UNFOUND);
+}
+
+const UNFOUND: &str = "no file of the catalogue has such a name\ngrid: 112 BadName\n";

@@ -12,7 +12,7 @@ use std::random::RandomSource;
 use std::rt::Files;
 use user_files::{Input, open_input};
 
-/// The greatest list, in bytes.
+/// The greatest list, and the greatest catalogue, in bytes.
 const MOST_LIST: u64 = 64 << 20;
 
 /// How many names it may have: each takes 16 bytes more as they are told apart.
@@ -34,8 +34,17 @@ where
         ListWords::Lines(path) => *path,
         ListWords::Nuls(path) => *path,
     };
+    bounded(read_text(rt, path, temporary)?, end_of(list))
+}
+
+/// The text of a list or of a catalogue, which is held. A fault of its file where that cannot be
+/// read, and `TooLarge` where it has more than 64 MiB.
+pub(crate) fn read_text<R>(rt: &R, path: &str, temporary: &str) -> Result<Vec<u8>, Fault>
+where
+    R: Files + io::Input + RandomSource + AllocGlobal,
+{
     match open_input(rt, path, temporary, MOST_LIST)? {
-        Input::Held(text) => bounded(text, end_of(list)),
+        Input::Held(text) => Ok(text),
         Input::Opened(_, _) => Err(Fault::TooLarge),
     }
 }

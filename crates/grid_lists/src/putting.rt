@@ -17,6 +17,7 @@ ghost use Rattle.grid_lists.specs.Puts.{IsPutUndone, is_one, is_unsaid, numbers_
 
 use crate::listed::{STANDARD_INPUT, may_be_listed, path_of, tell_refused, write_line};
 use crate::names::{end_of, names_in, read_list};
+use crate::statuses::{DONE, status_after};
 use catalogues::{Head, Moment, Numbers};
 use file_encoding::Params;
 use grid_faults::Fault;
@@ -32,9 +33,6 @@ use std::random::RandomSource;
 use std::rt::{Clock, Files};
 use std::time::SystemTime;
 use user_files::Locks;
-
-// The exit status of what is done.
-const DONE: u8 = 0;
 
 // What files are stored by.
 #[derive(Clone, Copy)]
@@ -251,13 +249,6 @@ where
         status = status_after(status, own);
     }
     Ok(status)
-}
-
-// The status of files by that of the first ones and that of one more.
-fn status_after(first: u8, status: u8) -> u8
-    ensures { result ≡ status_after first status }
-{
-    if first == DONE { status } else { first }
 }
 
 // Stores the file of a name and writes its line, or tells why it is refused. Gives its status.

@@ -51,7 +51,11 @@ where
 {
     for file in elsewhere {
         let path = server_folder(rt.alloc(), grid, file.server)?;
-        at_path(rt.alloc(), holds(rt, path.as_str(), file.address), path.as_str())?;
+        at_path(
+            rt.alloc(),
+            holds(rt, path.as_str(), file.address),
+            path.as_str(),
+        )?;
     }
     Ok(())
 }

@@ -24,4 +24,6 @@ pub use growing::{add_servers, replace_server};
 pub use init::{can_be_marked, mark_grid};
 pub use mark::{Identity, Kind, MAX_SERVERS, Mark, identity_of};
 pub use marking::publish_mark;
-pub use marks::{folder_mark, grid_mark, grid_servers_count, known_grid, mark_path, try_known, try_mark};
+pub use marks::{
+    folder_mark, grid_mark, grid_servers_count, known_grid, mark_path, try_known, try_mark,
+};

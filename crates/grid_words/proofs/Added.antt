@@ -1,11 +1,12 @@
 -- What a command is to which arguments are added.
 use Rattle.std.proofs.Common.{◌≡◌, ◌∙◌, ◌&&◌, ◌||◌, ◌++◌, Bool, true, false, not, rules, refl, sym, ap, ap₂, subst, List, [], ◌∷◌, append-nil, append_assoc}
 use Rattle.std.specs.Borrow.{Bor}
-use Rattle.clap.specs.Adds.{AddsConflicts}
+use Rattle.clap.specs.Adds.{AddsConflicts, AddsRequirements}
 use Rattle.clap.specs.Built.{AddsArg, AddsInTurn, AddsSubcommand}
 use Rattle.clap.specs.Simple.{App, Shape, with_rule, with_subcommand}
 use Rattle.clap.specs.Walk.{Rule, Text, is_empty, rule_of}
 use Rattle.clap.specs.declared.builder.arg.Arg.{Arg}
+use Rattle.clap.specs.declared.builder.arg.ArgPredicate.{ArgPredicate}
 use Rattle.clap.specs.declared.builder.command.Command.{Command}
 use Rattle.grid_words.specs.Builds.{HasRule, HasShape, HaveRules, IsApp, shape_named, with_named}
 use Rattle.grid_words.specs.CommandLine.{excluding}
@@ -48,6 +49,25 @@ conflicting old new other more rule adds has =
     let free : (rule_of (record old { conflicts = new.conflicts })).is_free ≡ false =
     not_free (not old.exclusive) (is_empty new.conflicts.items) (is_empty old.needs.items && (is_empty old.r_ifs.items
     && (is_empty old.r_ifs_all.items && (is_empty old.r_unless.items && is_empty old.r_unless_all.items)))) filled in (
+      ap rule_of adds.0
+          ∙ ap (λ (b : Bool). record (rule_of old) { is_free = b }) free
+          ∙ ap (λ (r : Rule). record r { is_free = false }) has.0,
+      ap (λ (a : Arg). a.global) adds.0 ∙ has.1,
+    )
+
+not_free_then : (a e b c : Bool) → b ≡ false → (a && (e && (b && c))) ≡ false
+not_free_then true true b c is = ap (λ (z : Bool). z && c) is
+not_free_then true false b c is = refl
+not_free_then false e b c is = refl
+
+-- an argument that asks for another
+pub requiring : (old new : Arg) (need : ArgPredicate × Bor Text) (rule : Rule)
+    → AddsRequirements old new (need ∷ []) → HasRule rule old → HasRule (excluding rule) new
+requiring old new need rule adds has =
+    let filled : is_empty new.needs.items ≡ false = ap is_empty adds.1 ∙ never_empty old.needs.items need [] in
+    let free : (rule_of (record old { needs = new.needs })).is_free ≡ false =
+    not_free_then (not old.exclusive) (is_empty old.conflicts.items) (is_empty new.needs.items) (is_empty old.r_ifs.items
+    && (is_empty old.r_ifs_all.items && (is_empty old.r_unless.items && is_empty old.r_unless_all.items))) filled in (
       ap rule_of adds.0
           ∙ ap (λ (b : Bool). record (rule_of old) { is_free = b }) free
           ∙ ap (λ (r : Rule). record r { is_free = false }) has.0,

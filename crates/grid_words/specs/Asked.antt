@@ -1,12 +1,15 @@
 -- What a command and the values of its arguments ask for.
 use Rattle.std.specs.Prelude.{◌≡◌, ◌≢◌, ◌&&◌, ℕ, Bool, true, false, List, [], ◌∷◌, Option, Some}
+use Rattle.std.specs.Prelude.{◌++◌}
 use Rattle.std.specs.Prelude.{codes, if◌then◌else◌, length, nat_lt, option_and_then, option_map}
 use Rattle.std.specs.Prelude.{None, map, unwrap_or}
 use Rattle.std.specs.List.{All, list_all}
+use Rattle.std.specs.Option.{option_to_list}
 use Rattle.std.specs.Str.Parse.{digits_value, without_leading_plus}
 use Rattle.std.specs.Char.{digit_value}
 use Rattle.clap.specs.Words.{Row, Text, all_of, first_of, found_of, one_of, rows_of}
 use Rattle.clap.specs.declared.parser.matches.ArgMatches.{ArgMatches}
+use Rattle.grid_words.specs.declared.catalogue_words.GetFilesWords.{GetFilesWords}
 use Rattle.grid_words.specs.declared.words.CheckWords.{CheckWords}
 use Rattle.grid_words.specs.declared.words.GetWords.{GetWords}
 use Rattle.grid_words.specs.declared.words.InitWords.{InitWords}
@@ -115,6 +118,17 @@ pub record AsksGet (rows : List Row) (words : GetWords) : Type 0 where
   pub known : IsFlag (one_of (codes "known") rows) words.known
   pub verbose : IsFlag (one_of (codes "verbose") rows) words.verbose
 
+pub record AsksGetFiles (rows : List Row) (words : GetFilesWords) : Type 0 where
+  pub caps : first_of (codes "caps") rows ≡ Some words.caps.now
+  pub into : words.into.now ≡ text_under (codes "into") rows
+  pub names : map (λ n. n.now) words.names.items
+      ≡ option_to_list (first_of (codes "CAP") rows) ++ texts_under (codes "NAME") rows
+  pub overwrite : IsFlag (one_of (codes "overwrite") rows) words.overwrite
+  pub grid : words.grid.now ≡ text_under (codes "grid") rows
+  pub net : IsFlag (one_of (codes "net") rows) words.net
+  pub known : IsFlag (one_of (codes "known") rows) words.known
+  pub verbose : IsFlag (one_of (codes "verbose") rows) words.verbose
+
 pub record AsksCheck (rows : List Row) (words : CheckWords) : Type 0 where
   pub cap : words.cap.now ≡ text_under (codes "CAP") rows
   pub grid : words.grid.now ≡ text_under (codes "grid") rows
@@ -161,7 +175,9 @@ other_names = codes "init" ∷ codes "put" ∷ codes "get" ∷ codes "check" ∷
 abbrev pub Asks : Text → List Row → Request → Type 0
 Asks name rows (requests.Init words) = (name ≡ codes "init") × AsksInit rows words
 Asks name rows (requests.Put words) = (name ≡ codes "put") × AsksPut rows words
-Asks name rows (requests.Get words) = (name ≡ codes "get") × AsksGet rows words
+Asks name rows (requests.Get words) = (name ≡ codes "get")
+    × (first_of (codes "caps") rows ≡ None) × AsksGet rows words
+Asks name rows (requests.GetFiles words) = (name ≡ codes "get") × AsksGetFiles rows words
 Asks name rows (requests.Check words) = (name ≡ codes "check") × AsksCheck rows words
 Asks name rows (requests.Repair words) = (name ≡ codes "repair") × AsksRepair rows words
 Asks name rows (requests.Scrub words) = (name ≡ codes "scrub") × AsksScrub rows words
@@ -181,6 +197,7 @@ abbrev pub asks_notes : Request → Bool
 asks_notes (requests.Init words) = words.verbose
 asks_notes (requests.Put words) = words.verbose
 asks_notes (requests.Get words) = words.verbose
+asks_notes (requests.GetFiles words) = words.verbose
 asks_notes (requests.Check words) = words.verbose
 asks_notes (requests.Repair words) = words.verbose
 asks_notes (requests.Scrub words) = words.verbose
@@ -192,6 +209,7 @@ asks_notes (requests.Describe cap) = false
 abbrev pub wants_known : Request → Bool
 wants_known (requests.Put words) = words.known
 wants_known (requests.Get words) = words.known
+wants_known (requests.GetFiles words) = words.known
 wants_known (requests.Check words) = words.known
 wants_known (requests.Repair words) = words.known
 wants_known (requests.Scrub words) = words.known

@@ -106,12 +106,35 @@ put_rules = files
     ∷ verbose
     ∷ []
 
+-- a cap, unless there is a catalogue
+abbrev pub one_cap : Rule
+one_cap = excluding (new_rule (codes "CAP"))
+
+-- names of the files of a catalogue
+abbrev pub chosen : Rule
+chosen = excluding (record (new_rule (codes "NAME")) {
+  range = Some (record { start_inclusive = 1; end_inclusive = usize_max });
+})
+
+abbrev pub caps : Rule
+caps = excluding (option (codes "caps"))
+
+abbrev pub into : Rule
+into = excluding (option (codes "into"))
+
+abbrev pub overwrite : Rule
+overwrite = excluding (flag (codes "overwrite"))
+
 abbrev pub get_rules : List Rule
-get_rules = operand (codes "CAP")
+get_rules = one_cap
+    ∷ chosen
     ∷ grid_folder
     ∷ number_or (codes "from") (codes "0")
     ∷ number (codes "to")
     ∷ output
+    ∷ caps
+    ∷ into
+    ∷ overwrite
     ∷ flag (codes "net")
     ∷ flag (codes "known")
     ∷ verbose

@@ -47,13 +47,6 @@ pub(crate) fn files0_from<'a>(alloc: Global) -> Arg<'a>
     )
 }
 
-/// The cap of a file that is to be read.
-pub(crate) fn read_cap<'a>(alloc: Global) -> Arg<'a>
-    ensures { HasRule (operand (codes "CAP")) result }
-{
-    operand(alloc, "CAP", "The cap that `put` printed")
-}
-
 /// The cap of a file whose shares are looked at.
 pub(crate) fn verify_cap<'a>(alloc: Global) -> Arg<'a>
     ensures { HasRule (operand (codes "CAP")) result }
@@ -420,8 +413,8 @@ fn repeated<'a>(alloc: Global, name: &'a str, value: &'a str, help: &'a str) -> 
     option(alloc, name, value, help).action(ArgAction::Append)
 }
 
-// A word with a value behind it.
-fn option<'a>(alloc: Global, name: &'a str, value: &'a str, help: &'a str) -> Arg<'a>
+/// A word with a value behind it.
+pub(crate) fn option<'a>(alloc: Global, name: &'a str, value: &'a str, help: &'a str) -> Arg<'a>
     ensures { HasRule (option name.entry.now) result }
 {
     Arg::new(alloc, name)

@@ -12,9 +12,10 @@ ghost use Rattle.grid_words.specs.CommandLine.{serve_rules, serve_shape, shape, 
 use crate::arguments::{
     add, adopt, anyone, files, files_from, files0_from, flag, grid_folder, happy, json,
     kept_secret, known, listen, mark, max_segment, mend, needed, net, new_grid, new_servers,
-    no_sync, number, operand, output, read_cap, replace, room, secret, secret_file, served_folder,
-    server, servers, total, verbose, verify_cap,
+    no_sync, number, operand, output, replace, room, secret, secret_file, served_folder, server,
+    servers, total, verbose, verify_cap,
 };
+use crate::catalogue_arguments::{caps, chosen, into, overwrite, read_cap};
 use clap::{Arg, Command};
 use std::alloc::{AllocError, Global};
 
@@ -179,7 +180,8 @@ fn get_command<'a>(alloc: Global) -> Result<Command<'a>, AllocError>
     command(
         alloc,
         "get",
-        "Writes the file of a cap, or a range of its bytes, to standard output or to a file.",
+        "Writes the file of a cap, or a range of its bytes, to standard output or to a file. With \
+--caps it writes the files of a catalogue below a folder, each under its name.",
         get_arguments(alloc)?,
     )
 }
@@ -188,7 +190,8 @@ fn get_arguments<'a>(alloc: Global) -> Result<Vec<Arg<'a>>, AllocError>
     ensures { IfOk result (λ arguments. HaveRules get_rules arguments.items) }
 {
     Ok(vec![in alloc;
-        read_cap(alloc),
+        read_cap(alloc)?,
+        chosen(alloc)?,
         grid_folder(alloc),
         number(alloc, "from", "OFFSET", "The offset of the first byte").default_value("0"),
         number(
@@ -198,6 +201,9 @@ fn get_arguments<'a>(alloc: Global) -> Result<Vec<Arg<'a>>, AllocError>
             "The offset behind the last byte [default: the file's size]",
         ),
         output(alloc),
+        caps(alloc)?,
+        into(alloc)?,
+        overwrite(alloc)?,
         net(alloc),
         known(alloc),
         verbose(alloc),

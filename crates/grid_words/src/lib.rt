@@ -3,9 +3,12 @@
 #![tactic(auto)]
 
 mod arguments;
+mod catalogue_arguments;
+mod catalogue_words;
 mod commands;
 mod words;
 
+pub use catalogue_words::GetFilesWords;
 pub use commands::VERSION;
 pub use words::{
     CheckWords, GetWords, InitWords, ListWords, Marking, PutWords, RepairWords, Request,

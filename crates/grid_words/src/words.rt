@@ -1,6 +1,6 @@
 //! What the words of the command line ask for.
 
-ghost use Rattle.std.specs.Prelude.{◌≡◌, IfErr, IfOk, map, option_map, true};
+ghost use Rattle.std.specs.Prelude.{◌≡◌, IfErr, IfOk, codes, map, option_map, true};
 ghost use Rattle.clap.specs.Words.{first_of, kind_of, one_of, subcommand_of, takes};
 ghost use Rattle.grid_words.specs.Asked.{Asks, AsksCheck, AsksGet, AsksInit, AsksPut, AsksRepair};
 ghost use Rattle.grid_words.specs.Asked.{AsksScrub, AsksServe, IsAsked, IsFlag, IsList};
@@ -8,6 +8,7 @@ ghost use Rattle.grid_words.specs.Asked.{IsMarking, IsSecret, asks_notes, number
 ghost use Rattle.grid_words.specs.Asked.{text_under, texts_under, wants_known};
 ghost use Rattle.grid_words.specs.CommandLine.{grid_app};
 
+use crate::catalogue_words::{GetFilesWords, get_files_words};
 use crate::commands::grid_command;
 use clap::error::ErrorKind;
 use clap::{ArgMatches, Error};
@@ -20,6 +21,7 @@ pub enum Request<'a> {
     Init(InitWords<'a>),
     Put(PutWords<'a>),
     Get(GetWords<'a>),
+    GetFiles(GetFilesWords<'a>),
     Check(CheckWords<'a>),
     Repair(RepairWords<'a>),
     Scrub(ScrubWords<'a>),
@@ -39,6 +41,7 @@ impl<'a> Request<'a> {
             Request::Init(words) => words.verbose,
             Request::Put(words) => words.verbose,
             Request::Get(words) => words.verbose,
+            Request::GetFiles(words) => words.verbose,
             Request::Check(words) => words.verbose,
             Request::Repair(words) => words.verbose,
             Request::Scrub(words) => words.verbose,
@@ -54,6 +57,7 @@ impl<'a> Request<'a> {
         match self {
             Request::Put(words) => words.known,
             Request::Get(words) => words.known,
+            Request::GetFiles(words) => words.known,
             Request::Check(words) => words.known,
             Request::Repair(words) => words.known,
             Request::Scrub(words) => words.known,
@@ -223,7 +227,7 @@ fn request_of<'a>(
     Ok(match name {
         "init" => Request::Init(init_words(alloc, found)?),
         "put" => Request::Put(put_words(alloc, found)?),
-        "get" => Request::Get(get_words(found)),
+        "get" => get_request(alloc, found)?,
         "check" => Request::Check(check_words(found)),
         "repair" => Request::Repair(repair_words(found)),
         "scrub" => Request::Scrub(scrub_words(found)),
@@ -309,6 +313,16 @@ fn secret_words<'a>(found: &ArgMatches<'a>) -> SecretWords<'a>
     }
 }
 
+// One cap is got, or the files of a catalogue.
+fn get_request<'a>(alloc: Global, found: &ArgMatches<'a>) -> Result<Request<'a>, AllocError>
+    ensures { IfOk result (Asks (codes "get") (rows_in found.now)) }
+{
+    match found_text(found, "caps") {
+        Some(caps) => Ok(Request::GetFiles(get_files_words(alloc, caps, found)?)),
+        None => Ok(Request::Get(get_words(found))),
+    }
+}
+
 fn get_words<'a>(found: &ArgMatches<'a>) -> GetWords<'a>
     ensures { AsksGet (rows_in found.now) result }
 {
@@ -381,15 +395,19 @@ fn serve_words<'a>(found: &ArgMatches<'a>) -> ServeWords<'a>
     }
 }
 
-// The text of an argument, where it has one.
-fn found_text<'a>(found: &ArgMatches<'a>, id: &str) -> Option<&'a str>
+/// The text of an argument, where it has one.
+pub(crate) fn found_text<'a>(found: &ArgMatches<'a>, id: &str) -> Option<&'a str>
     ensures { option_map (λ s. s.now) result ≡ first_of id.now (rows_in found.now) }
 {
     found.get_str(id)
 }
 
-// The texts of an argument that may have several.
-fn texts_of<'a>(alloc: Global, found: &ArgMatches<'a>, id: &str) -> Result<Vec<&'a str>, AllocError>
+/// The texts of an argument that may have several.
+pub(crate) fn texts_of<'a>(
+    alloc: Global,
+    found: &ArgMatches<'a>,
+    id: &str,
+) -> Result<Vec<&'a str>, AllocError>
     ensures { IfOk result
         (λ texts. map (λ s. s.now) texts.items ≡ texts_under id.now (rows_in found.now)) }
 {
@@ -399,8 +417,8 @@ fn texts_of<'a>(alloc: Global, found: &ArgMatches<'a>, id: &str) -> Result<Vec<&
     }
 }
 
-// The text of an argument that is required or has a default, so that it is always there.
-fn text_of<'a>(found: &ArgMatches<'a>, id: &str) -> &'a str
+/// The text of an argument that is required or has a default, so that it is always there.
+pub(crate) fn text_of<'a>(found: &ArgMatches<'a>, id: &str) -> &'a str
     ensures { result.now ≡ text_under id.now (rows_in found.now) }
 {
     found_text(found, id).unwrap_or("")
@@ -413,7 +431,8 @@ fn number_of(found: &ArgMatches<'_>, id: &str) -> Option<u64>
     found.get_one::<u64>(id)
 }
 
-fn is_set(found: &ArgMatches<'_>, id: &str) -> bool
+/// Whether a flag is set.
+pub(crate) fn is_set(found: &ArgMatches<'_>, id: &str) -> bool
     ensures { IsFlag (one_of id.now (rows_in found.now)) result }
 {
     found.get_flag(id)

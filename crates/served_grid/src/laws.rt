@@ -29,5 +29,4 @@ pub fn know_alone<S: Store, L: Link, W: Wire>()
         × (new.remotes ≡ []) }
     ensures wait_stops { (old new : ServedState S L W) → old.remotes ≡ []
         → ¬ ((served_calls S.calls L.carries L.gives_up W.calls).wait_stops old new) }
-{
-}
+{}

@@ -71,8 +71,10 @@ fn probes_that_cannot_be_made(rt: HostRuntime) -> Result<(), Fail> {
 
 // Whether commands may write to these folders at once.
 fn may_write(rt: &HostRuntime, grid: &str) -> bool {
-    let (Ok(first), Ok(second)) = (lock_folders(rt, grid, &[0, 7]), lock_folders(rt, grid, &[7]))
-    else {
+    let (Ok(first), Ok(second)) = (
+        lock_folders(rt, grid, &[0, 7]),
+        lock_folders(rt, grid, &[7]),
+    ) else {
         return false;
     };
     first.len() == 1 && second.len() == 1

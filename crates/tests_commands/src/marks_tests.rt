@@ -70,7 +70,9 @@ fn grids_are_adopted_and_begun_again(rt: HostRuntime) -> Result<(), Fail> {
     let grid = grid(&rt, "adopted")?;
     let grid = grid.as_str();
     assert!(rt; fault_of(adopt_grid(&rt, grid, None)) == 101);
-    assert!(rt; mark_grid(&rt, grid, 3, &[]).is_ok() && fault_of(adopt_grid(&rt, grid, None)) == 95);
+    assert!(rt;
+        mark_grid(&rt, grid, 3, &[]).is_ok() && fault_of(adopt_grid(&rt, grid, None)) == 95
+    );
     let mark = format!(in rt.alloc(); "{grid}/grid-mark")?;
     let part = format!(in rt.alloc(); "{grid}/grid-mark.part")?;
     let text = fs::read(&rt, mark.as_str())?;

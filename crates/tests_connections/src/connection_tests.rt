@@ -7,7 +7,9 @@ use crate::fake::{Behind, Fake};
 use crate::messages::{
     COUNTED_SIZE, Ears, counted, data, greeting_of, hear, heard_over, server_mark, three_messages,
 };
-use connections::{Connection, ConnectionFault, GREETING_SIZE, Greeting, MAX_WAITING, Sent, Side, greeting};
+use connections::{
+    Connection, ConnectionFault, GREETING_SIZE, Greeting, MAX_WAITING, Sent, Side, greeting,
+};
 use std::alloc::Global;
 use std::test::Fail;
 

@@ -1,14 +1,16 @@
 //! A client of the tests' own, and a server for it.
 
-use connections::{Address, Connection, Greeting, Heard, Nonblocking, Room, Side, Socket, greeting};
+use connections::{
+    Address, Connection, Greeting, Heard, Nonblocking, Room, Side, Socket, greeting,
+};
 use grid_serving::{News, Serving};
 use server_core::server::Server;
 use share_store::memory::MemoryStore;
 use std::alloc::{AllocError, Global};
-use std::{fs, io, process};
 use std::io::Write;
 use std::test::Fail;
 use std::time::Duration;
+use std::{fs, io, process};
 use wire::message::{Body, Message, ReadLength, ShareId, ShareLength, WriteData};
 
 // A share of a file of the tests' own.

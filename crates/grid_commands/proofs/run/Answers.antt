@@ -1,5 +1,5 @@
 use Rattle.std.proofs.Common.{refl}
-use Rattle.grid_commands.proofs.RunLemmas.{check_run, describe_run, get_run, init_run, put_run, repair_run, scrub_run, world_run}
+use Rattle.grid_commands.proofs.RunLemmas.{check_run, describe_run, get_files_run, get_run, init_run, put_run, repair_run, scrub_run, world_run}
 use Rattle.grid_commands.proofs.run.Goals as goal
 
 pub returns-in-Init : goal.returns-in-Init
@@ -10,6 +10,9 @@ returns-in-Put g c = put_run _ _ c.args.request.now c.put.result _ _ _ _ refl c.
 
 pub returns-in-Get : goal.returns-in-Get
 returns-in-Get g c = get_run _ _ c.args.request.now c.got.result _ _ _ _ c.in-Get.words c.in-Get.is c.got.ensures.done c.got.ensures.undone c.got.ensures.filed
+
+pub returns-in-GetFiles : goal.returns-in-GetFiles
+returns-in-GetFiles g c = get_files_run _ _ c.args.request.now c.get_files.result _ _ _ _ c.in-GetFiles.words c.in-GetFiles.is refl c.get_files.ensures.done c.get_files.ensures.undone
 
 pub returns-in-Check : goal.returns-in-Check
 returns-in-Check g c = check_run _ _ c.args.request.now c.told.result _ _ _ _ refl c.in-Check.words c.check.result c.in-Check.is c.check.ensures c.told.ensures.done c.told.ensures.undone

@@ -1,0 +1,15 @@
+use Rattle.std.proofs.Common.{IfSome, length}
+use Rattle.grid_gets.specs.Gets.{WereRead}
+use Rattle.grid_servers.specs.Grids.{grid_calls}
+use Rattle.grid_lists.proofs.GetLemmas.{SoFar}
+use Rattle.grid_lists.proofs.getting.get_lines.Given as goal
+
+-- what became of the lines so far, and the servers that are open
+abbrev pub invariant-loop-catalogue : goal.invariant-loop-catalogue
+invariant-loop-catalogue g l = record {
+  so_far : SoFar (grid_calls g.R.Stream.Write.contents g.R.Stream.Read.remaining) l.fn.words.now l.fn.catalogue.left l.catalogue.left l.tally.status l.tally.is_found (g.F.NamedFiles.acts l.fn.files) (g.F.NamedFiles.acts l.files);
+  kept : IfSome l.kept (WereRead (grid_calls g.R.Stream.Write.contents g.R.Stream.Read.remaining) l.fn.words.grid.now);
+}
+
+abbrev pub decreases-loop-catalogue : goal.decreases-loop-catalogue
+decreases-loop-catalogue g l = length l.catalogue.left

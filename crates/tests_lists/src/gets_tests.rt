@@ -1,0 +1,183 @@
+// Gets of the files of a catalogue: under their names, and nowhere else.
+
+use crate::runs::{Came, ONES, begins, path, removes_all, run};
+use std::alloc::AllocError;
+use std::fs;
+use std::os::unix::fs::symlink;
+use std::test::Fail;
+
+// The first line of a catalogue, and the cap of three bytes, which holds them in base32.
+const HEAD: &str = "# grid catalogue 1 begun 1764404400.123456789 k 3 n 10 segment 131072 \
+    under w3hm5rcm33g237wuaijiuuup7q\n";
+
+const ONE_CAP: &str = "URI:LIT:n5xgk";
+
+// Gets of this process's catalogue, with these words behind it.
+fn get(rt: &HostRuntime, names: &[&str], more: &[&str]) -> Result<Came, AllocError> {
+    let (grid, caps, into) = (path(rt, "/grid")?, path(rt, "/caps")?, path(rt, "/into")?);
+    let mut words = Vec::from_slice(
+        rt.alloc(),
+        &["--caps", caps.as_str(), "--into", into.as_str()],
+    )?;
+    words.extend_from_slice(more)?;
+    Ok(run(rt, "get", names, grid.as_str(), words.as_slice()))
+}
+
+// Whether a file below the folder into which files are got has these bytes.
+fn has(rt: &HostRuntime, name: &str, bytes: &[u8]) -> Result<bool, Fail> {
+    let path = format!(in rt.alloc(); "{}/{name}", path(rt, "/into")?)?;
+    match fs::read(rt, path.as_str()) {
+        Ok(found) => Ok(found.as_slice() == bytes),
+        Err(_) => Ok(false),
+    }
+}
+
+// Makes a catalogue of files that all hold the same three bytes, over a grid without a server.
+fn list(rt: &HostRuntime, names: &[&str]) -> Result<(), Fail> {
+    let mut text = String::from_str(rt.alloc(), HEAD)?;
+    for name in names {
+        text.push_str(format!(in rt.alloc(); "{ONE_CAP}  {name}\n")?.as_str())?;
+    }
+    fs::create_dir_all(rt, path(rt, "/grid")?.as_str())?;
+    fs::write(rt, path(rt, "/caps")?.as_str(), text.as_str())?;
+    Ok(())
+}
+
+// Files that were put come back below a folder, over servers that stay open from one to the next;
+// none is written in place of another unless that is asked for.
+#[test]
+fn files_come_back(rt: HostRuntime) -> Result<(), Fail> {
+    assert!(rt; begins(&rt));
+    let (zeros, ones) = (path(&rt, "/all zeros")?, path(&rt, "/ones")?);
+    let (odd, grid) = (path(&rt, "/o\\n\ne")?, path(&rt, "/grid")?);
+    fs::write(&rt, zeros.as_str(), [0; 56])?;
+    fs::write(&rt, ones.as_str(), [1; 56])?;
+    fs::write(&rt, odd.as_str(), "one")?;
+    let files = [zeros.as_str(), odd.as_str(), ones.as_str()];
+    let came = run(&rt, "put", &files, grid.as_str(), &ONES);
+    assert!(rt; came.status == 0);
+    fs::write(&rt, path(&rt, "/caps")?.as_str(), came.out.as_slice())?;
+    let got = get(&rt, &[], &[])?;
+    assert!(rt; got.status == 0 && got.out.is_empty() && got.told.is_empty());
+    assert!(rt; has(&rt, zeros.as_str(), &[0; 56])? && has(&rt, ones.as_str(), &[1; 56])?);
+    assert!(rt; has(&rt, odd.as_str(), b"one")?);
+    let into = format!(in rt.alloc(); "{}{ones}", path(&rt, "/into")?)?;
+    fs::write(&rt, into.as_str(), "another")?;
+    let refused = get(&rt, &[], &[])?;
+    let there = format!(in rt.alloc(); "grid: 90 FileFault {into} ({ones})")?;
+    assert!(rt; refused.status == 7 && refused.tells(there.as_bytes()));
+    assert!(rt; has(&rt, ones.as_str(), b"another")?);
+    let over = get(&rt, &[ones.as_str()], &["--overwrite"])?;
+    assert!(rt; over.status == 0 && over.told.is_empty());
+    assert!(rt; has(&rt, ones.as_str(), &[1; 56])?);
+    assert!(rt; removes_all(&rt));
+    Ok(())
+}
+
+// A name that leads outside is refused, and so is one through a link, and what is no line; the
+// files of other lines are written.
+#[test]
+fn nothing_is_written_outside(rt: HostRuntime) -> Result<(), Fail> {
+    assert!(rt; begins(&rt));
+    let (outside, link) = (path(&rt, "/outside")?, path(&rt, "/into/link")?);
+    list(&rt, &["../up", "link/file", "a/b/c", "a/b", "link"])?;
+    fs::create_dir_all(&rt, path(&rt, "/into")?.as_str())?;
+    fs::create_dir_all(&rt, outside.as_str())?;
+    symlink(&rt, outside.as_str(), link.as_str())?;
+    let got = get(&rt, &[], &["--overwrite"])?;
+    assert!(rt; got.status == 3 && got.tells(b"grid: 112 BadName (../up)"));
+    for name in ["link/file", "link"] {
+        let told = format!(in rt.alloc(); "grid: 90 FileFault {link} ({name})")?;
+        assert!(rt; got.tells(told.as_bytes()));
+    }
+    let folder = format!(in rt.alloc(); "grid: 90 FileFault {} (a/b)", path(&rt, "/into/a/b")?)?;
+    assert!(rt; got.tells(folder.as_bytes()) && has(&rt, "a/b/c", b"one")?);
+    assert!(rt; !fs::exists(&rt, path(&rt, "/up")?.as_str())?);
+    assert!(rt; !fs::exists(&rt, path(&rt, "/outside/file")?.as_str())?);
+    assert!(rt; removes_all(&rt));
+    Ok(())
+}
+
+// Names choose files as a shell's patterns do, and those below folders; that none is chosen is
+// told.
+#[test]
+fn names_choose(rt: HostRuntime) -> Result<(), Fail> {
+    assert!(rt; begins(&rt));
+    let names = [
+        "./a.jpg",
+        "/b.jpg",
+        "c/d.jpg",
+        "c/e*",
+        "c/e",
+        "c/\u{e9}f",
+        "c/g/h",
+    ];
+    list(&rt, &names)?;
+    let rows: [(&str, [bool; 7]); 9] = [
+        ("*", [true, true, true, true, true, true, true]),
+        ("*.jpg", [true, true, false, false, false, false, false]),
+        ("/?.jpg", [true, true, false, false, false, false, false]),
+        ("c/?f", [false, false, false, false, false, true, false]),
+        ("c/e\\*", [false, false, false, true, false, false, false]),
+        ("c/?*", [false, false, true, true, true, true, true]),
+        ("./c/g", [false, false, false, false, false, false, true]),
+        ("c/e", [false, false, false, false, true, false, false]),
+        ("*/*/*", [false, false, false, false, false, false, true]),
+    ];
+    for (pattern, chosen) in rows {
+        let got = get(&rt, &[pattern], &[])?;
+        assert!(rt; got.status == 0 && got.told.is_empty());
+        for (name, is_chosen) in names.iter().zip(chosen) {
+            assert!(rt; has(&rt, *name, b"one")? == is_chosen);
+        }
+        fs::remove_dir_all(&rt, path(&rt, "/into")?.as_str())?;
+    }
+    let got = get(&rt, &["x", "c/g", "y"], &[])?;
+    assert!(rt; got.status == 0 && has(&rt, "c/g/h", b"one")?);
+    let got = get(&rt, &["g", ""], &[])?;
+    assert!(rt; got.status == 3 && got.tells(b"grid: 112 BadName"));
+    assert!(rt; removes_all(&rt));
+    Ok(())
+}
+
+// A text that is no catalogue is refused, and nothing is made; what is no line ends one, and a
+// verify cap and a name that is no UTF-8 are told with their names.
+#[test]
+fn no_catalogue(rt: HostRuntime) -> Result<(), Fail> {
+    assert!(rt; begins(&rt));
+    let (caps, into) = (path(&rt, "/caps")?, path(&rt, "/into")?);
+    list(&rt, &[])?;
+    fs::write(&rt, caps.as_str(), "URI:LIT:n5xgk  one\n")?;
+    let got = get(&rt, &[], &[])?;
+    assert!(rt; got.status == 3 && got.tells(b"grid: 110 NotACatalogue"));
+    assert!(rt; !fs::exists(&rt, into.as_str())?);
+    let mut text = Vec::from_slice(rt.alloc(), HEAD.as_bytes())?;
+    text.extend_from_slice(b"URI:LIT:n5xgk  \xff\nURI:LIT:n5xgk  a\nURI:LIT:n5xgk  b")?;
+    fs::write(&rt, caps.as_str(), text.as_slice())?;
+    let got = get(&rt, &[], &[])?;
+    assert!(rt; got.status == 7 && got.tells(b"grid: 111 NotALine 4"));
+    assert!(rt; got.tells("grid: 90 FileFault \u{fffd} (\u{fffd})".as_bytes()));
+    assert!(rt; has(&rt, "a", b"one")? && !has(&rt, "b", b"one")?);
+    let got = get(&rt, &[], &["-o", "file"])?;
+    assert!(rt; got.status == 2);
+    assert!(rt; removes_all(&rt));
+    Ok(())
+}
+
+// The words that belong together.
+#[test]
+fn words_together(rt: HostRuntime) -> Result<(), Fail> {
+    let rows: [&[&str]; 5] = [
+        &["--caps", "caps"],
+        &[ONE_CAP, "--into", "into"],
+        &[ONE_CAP, "name"],
+        &[ONE_CAP, "--overwrite"],
+        &[],
+    ];
+    for words in rows {
+        assert!(rt; run(&rt, "get", words, "grid", &[]).status == 2);
+    }
+    let literal = run(&rt, "get", &[ONE_CAP], "grid", &[]);
+    assert!(rt; literal.status == 0 && literal.out.as_slice() == b"one".as_slice());
+    Ok(())
+}
