@@ -144,12 +144,14 @@ during() {
 
 # ---- five hosts
 
-mkdir g
+elsewhere=
 for host in 1 2 3 4 5; do
     makes_host $host
-    for server in $(servers_of $host); do echo "10.9.$host.2:700$server" > g/server-00$server; done
+    for server in $(servers_of $host); do
+        elsewhere="$elsewhere --server $server=10.9.$host.2:700$server"
+    done
 done
-sees 'a grid over five hosts' tells 'servers 10' 20 0 init g
+sees 'a grid over five hosts' tells 'servers 10' 20 0 init g $elsewhere
 letters=$(sed -n 's/^grid \([^ ]*\) .*/\1/p' g/grid-mark)
 for host in 1 2 3 4 5; do serves $host; done
 sleep 2

@@ -10,7 +10,7 @@ ghost use Rattle.connections.specs.Connections.{Hears, begun, put_behind};
 
 use crate::ends::{Arrival, Wire};
 use crate::fault::ConnectionFault;
-use crate::greeting::{GREETING_SIZE, Greeting, fits};
+use crate::greeting_text::{GREETING_SIZE, Greeting, fits};
 use crate::room::Room;
 use bytes::BytesMut;
 use std::alloc::{AllocError, Global};

@@ -1,5 +1,5 @@
 -- Servers of one process alone.
-use Rattle.std.proofs.Common.{◌≡◌, ◌≤◌, ℕ, zero, List, [], ◌∷◌, Option, Some, None, Bool, true, eqb, eqb-refl, refl, sym, ap, subst, ◌∙◌, if◌then◌else◌, map}
+use Rattle.std.proofs.Common.{◌≡◌, ◌≢◌, ◌≤◌, ℕ, zero, List, [], ◌∷◌, Option, Some, None, Bool, true, eqb, eqb-refl, refl, sym, ap, subst, ◌∙◌, if◌then◌else◌, map}
 use Rattle.std.specs.Prelude.{option_map, slice_get}
 use Rattle.wire.specs.declared.message.Message.{Message}
 use Rattle.share_store.specs.Calls.{Calls}
@@ -59,3 +59,8 @@ module _ {S L W : Type 0} (wires : WireCalls W) where
   pub ticks_alone : (old new : ServedState S L W) (second : ℕ) → new ≡ passed_all second old → second ≡ later old.here.clock → old.here.clock ≤ second → second ≤ later old.here.clock
       → Happens wires old (Second second) new × IsNextAlone old (Second second)
   ticks_alone old new second after next later_on soon = (passes wires old old new second (hears_itself wires old) after later_on soon, λ none. next)
+
+  -- what happens where there are servers elsewhere
+  pub happens_on : (old new : ServedState S L W) (happening : Happening) → old.remotes ≢ [] → Happens wires old happening new → Happens wires old happening new × IsNextAlone old happening
+  happens_on old new (Came node m) some happens = (happens, tt)
+  happens_on old new (Second second) some happens = (happens, λ none. absurd (some none))

@@ -8,8 +8,8 @@ use Rattle.grid_gets.proofs.GotLemmas.{begun_by, got_by, read_more, stands_disti
 use Rattle.grid_gets.proofs.SpanLemmas.{err_on, handed_on, if_err}
 use Rattle.grid_gets.proofs.range.get_range.Goals as goal
 
-pub write_range-written-requires-distinct : goal.write_range-written-requires-distinct
-write_range-written-requires-distinct g c = stands_distinct _ c.args.place.now.grid.now (is_some c.args.kept.now) c.in_ok-open.open c.in_ok-open.ensures.stand
+pub write_range-written-requires-clause-distinct : goal.write_range-written-requires-clause-distinct
+write_range-written-requires-clause-distinct g c = stands_distinct _ c.args.place.now.grid.now (is_some c.args.kept.now) c.in_ok-open.open c.in_ok-open.ensures.stand
 
 pub returns-in_err-open-clause-err : goal.returns-in_err-open-clause-err
 returns-in_err-open-clause-err g c = if_err _ _ (nothing (Chk c.args.cap.now) (Keeps-refl _))
@@ -33,12 +33,12 @@ returns-clause-kept g c = read_more _ c.args.place.now.grid.now (is_some c.args.
 -- none are kept
 pub returns-in_err-open-clause-kept : goal.returns-in_err-open-clause-kept
 returns-in_err-open-clause-kept g c =
-    subst (λ (o : Option (Standing _)). IfSome o (WereRead (grid_calls g.R.Stream.Write.contents g.R.Stream.Read.remaining) c.args.place.now.grid.now)) (sym c.take-open.ensures.kept) tt
+    subst (λ (o : Option (Standing _)). IfSome o (WereRead (grid_calls g.R.Stream.Write.contents g.R.Stream.Read.remaining) c.args.place.now.grid.now)) (sym c.take.ensures.kept) tt
 
 pub returns-in_err-written-clause-kept : goal.returns-in_err-written-clause-kept
 returns-in_err-written-clause-kept g c =
-    subst (λ (o : Option (Standing _)). IfSome o (WereRead (grid_calls g.R.Stream.Write.contents g.R.Stream.Read.remaining) c.args.place.now.grid.now)) (sym c.take-open.ensures.kept) tt
+    subst (λ (o : Option (Standing _)). IfSome o (WereRead (grid_calls g.R.Stream.Write.contents g.R.Stream.Read.remaining) c.args.place.now.grid.now)) (sym c.take.ensures.kept) tt
 
 pub returns-in_err-noted-clause-kept : goal.returns-in_err-noted-clause-kept
 returns-in_err-noted-clause-kept g c =
-    subst (λ (o : Option (Standing _)). IfSome o (WereRead (grid_calls g.R.Stream.Write.contents g.R.Stream.Read.remaining) c.args.place.now.grid.now)) (sym c.take-open.ensures.kept) tt
+    subst (λ (o : Option (Standing _)). IfSome o (WereRead (grid_calls g.R.Stream.Write.contents g.R.Stream.Read.remaining) c.args.place.now.grid.now)) (sym c.take.ensures.kept) tt

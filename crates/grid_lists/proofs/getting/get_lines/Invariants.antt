@@ -7,7 +7,7 @@ use Rattle.grid_lists.proofs.getting.get_lines.Given as goal
 -- what became of the lines so far, and the servers that are open
 abbrev pub invariant-loop-catalogue : goal.invariant-loop-catalogue
 invariant-loop-catalogue g l = record {
-  so_far : SoFar (grid_calls g.R.Stream.Write.contents g.R.Stream.Read.remaining) l.fn.words.now l.fn.catalogue.left l.catalogue.left l.tally.status l.tally.is_found (g.F.NamedFiles.acts l.fn.files) (g.F.NamedFiles.acts l.files);
+  so_far : SoFar (grid_calls g.R.Stream.Write.contents g.R.Stream.Read.remaining) l.fn.words l.fn.catalogue.left l.catalogue.left l.tally.status l.tally.is_found (g.F.NamedFiles.acts l.fn.files) (g.F.NamedFiles.acts l.files);
   kept : IfSome l.kept (WereRead (grid_calls g.R.Stream.Write.contents g.R.Stream.Read.remaining) l.fn.words.grid.now);
 }
 

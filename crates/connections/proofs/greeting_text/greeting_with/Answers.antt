@@ -1,6 +1,6 @@
 use Rattle.std.proofs.Common.{rules}
 use Rattle.connections.proofs.Lines.{put_line}
-use Rattle.connections.proofs.greeting.greeting_with.Goals as goal
+use Rattle.connections.proofs.greeting_text.greeting_with.Goals as goal
 
 pub returns : goal.returns
 returns c =
