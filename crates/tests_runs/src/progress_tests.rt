@@ -1,7 +1,7 @@
 //! The line on standard error that tells how far a command is.
 
 use crate::host::{Odd, OddHost, Plan};
-use crate::runs::{CAP_131074, Ended, HERE, begin, counted, path, remove, run};
+use crate::host_runs::{CAP_131074, Ended, HERE, begin, counted, path, remove, run};
 use grid_commands::{DiskFiles, grid};
 use std::alloc::AllocError;
 use std::io::{self, IsTerminal, Write};

@@ -1,6 +1,6 @@
 // Gets of the files of a catalogue: under their names, and nowhere else.
 
-use crate::runs::{Came, ONES, begins, path, removes_all, run};
+use crate::list_runs::{Came, ONES, begins, path, removes_all, run};
 use std::alloc::AllocError;
 use std::fs;
 use std::os::unix::fs::symlink;

@@ -1,6 +1,6 @@
 // Puts of several files over servers that stay open, under one secret.
 
-use crate::runs::{ONES, begins, path, removes_all, run, run_into};
+use crate::list_runs::{ONES, begins, path, removes_all, run, run_into};
 use std::fs;
 use std::io::{self, ErrorKind, Write};
 use std::test::Fail;

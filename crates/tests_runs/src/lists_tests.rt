@@ -1,6 +1,6 @@
 // Puts of several files: words and lists, odd names, and files that are refused.
 
-use crate::runs::{ONES, begins, path, removes_all, run};
+use crate::list_runs::{ONES, begins, path, removes_all, run};
 use catalogues::entry_count;
 use std::fs;
 use std::test::Fail;

@@ -2,7 +2,7 @@
 //! server is silent from then on, and the others go on.
 
 use crate::host::{Odd, Plan};
-use crate::runs::{CAP_131074, begin, counted, of_cap, put, remove};
+use crate::host_runs::{CAP_131074, begin, counted, of_cap, put, remove};
 use std::alloc::AllocError;
 use std::io;
 
