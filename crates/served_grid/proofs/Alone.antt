@@ -1,16 +1,17 @@
 -- Servers of one process alone.
-use Rattle.std.proofs.Common.{◌≡◌, ◌≢◌, ◌≤◌, ℕ, zero, List, [], ◌∷◌, Option, Some, None, Bool, true, eqb, eqb-refl, refl, sym, ap, subst, ◌∙◌, if◌then◌else◌, map}
+use Rattle.std.proofs.Common.{◌≡◌, ◌≢◌, ◌≤◌, ℕ, List, [], ◌∷◌, Option, Some, None, Bool, refl, sym, ap, subst, ◌∙◌, if◌then◌else◌, map}
+use Rattle.std.proofs.lemmas.Bool.{eq-eqb}
 use Rattle.std.specs.Prelude.{option_map, slice_get}
 use Rattle.wire.specs.declared.message.Message.{Message}
 use Rattle.share_store.specs.Calls.{Calls}
 use Rattle.connections.specs.Wires.{WireCalls}
 use Rattle.local_grid.specs.Nodes.{Carries}
-use Rattle.local_grid.specs.Turns.{Asks, GridState, Stops, later, passed_to}
+use Rattle.local_grid.specs.Turns.{Asks, Stops, later, passed_to}
 use Rattle.operation_loop.specs.Local.{IsNext}
 use Rattle.operation_loop.specs.declared.outside.Happening.{Happening}
 use Rattle.operation_loop.specs.declared.outside.Happening.TheVariants.{Came, Second}
 use Rattle.served_grid.specs.Remotes.{RemoteState, ticked_remote}
-use Rattle.served_grid.specs.Served.{AllGive, GivesAt, HandsAt, Happens, HearsAll, IsNextAlone, Passes, ServedState, StopsAt, nothing, only, passed_all}
+use Rattle.served_grid.specs.Served.{AllGive, GivesAt, HandsAt, Happens, IsNextAlone, ServedState, StopsAt, nothing, only, passed_all}
 use Rattle.served_grid.proofs.Hearing.{hears_itself, passes}
 
 emptied : {X : Type 0} (xs : List X) → slice_get xs 0 ≡ None → xs ≡ []
@@ -18,7 +19,7 @@ emptied [] e = refl
 emptied (x ∷ xs) e = absurd (let no : Some x ≡ None = e in cc)
 
 only_one : (node : ℕ) (m : Message) → only node m node ≡ m ∷ []
-only_one node m = ap (λ (b : Bool). if b then m ∷ [] else []) (eqb-refl node)
+only_one node m = ap (λ (b : Bool). if b then m ∷ [] else []) (eq-eqb node node refl)
 
 module _ {W : Type 0} (wires : WireCalls W) where
   -- where no server has a number nothing came of it
