@@ -4,9 +4,9 @@
 #
 #     tests/served-servers.sh
 #
-# Run by hand: the program is built first where it is not. It needs three free ports above 20000, and
-# leaves nothing. Each line that begins with `differs` tells what was otherwise than it has to be;
-# the last line counts them, and the status is 0 where there are none.
+# Run by hand: the program is built first where it is not. It needs three free ports above 20000,
+# and leaves nothing. Each line that begins with `differs` tells what was otherwise than it has to
+# be; the last line counts them, and the status is 0 where there are none.
 
 here=$(cd "$(dirname "$0")/.." && pwd) || exit 2
 grid=${GRID:-$here/grid}

@@ -2,7 +2,8 @@
 
 ghost use Rattle.answer_laws.specs.Downloads.Answers.{OwnBeginningsGoOn, OwnOrOther};
 ghost use Rattle.answer_laws.specs.Downloads.Downloads.{DownloadsBlameFairly, EncodedSharesServe};
-ghost use Rattle.answer_laws.specs.Downloads.FairBlame.{BlocksAreBlamedFairly, PartsAreBlamedFairly};
+ghost use Rattle.answer_laws.specs.Downloads.FairBlame.{BlocksAreBlamedFairly};
+ghost use Rattle.answer_laws.specs.Downloads.FairBlame.{PartsAreBlamedFairly};
 ghost use Rattle.answer_laws.specs.Downloads.OwnParts.{OwnPartsHaveLengths, OwnPiecesGoOn};
 ghost use Rattle.answer_laws.specs.Downloads.OwnParts.{OwnPiecesJoin};
 ghost use Rattle.answer_laws.specs.Downloads.OwnReaders.{OwnBlocksAreRight, OwnBytesAreTaken};

@@ -1,3 +1,4 @@
+pub mod Kept
 pub mod Streams
 pub mod ReadRuns
 pub mod OtherBytes

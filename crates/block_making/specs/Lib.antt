@@ -1,3 +1,4 @@
 -- what public contracts rest on
+pub mod Slots
 pub mod PieceError
 pub mod Making

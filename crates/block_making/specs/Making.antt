@@ -12,7 +12,7 @@ use Rattle.share_layout.specs.Pieces.{block_length, segment_at, segment_length, 
 use Rattle.share_verify.specs.Pieces.{block_hashes, joined}
 use Rattle.file_encoding.specs.Encoding.{block_of, blocks_of, padded_segment}
 use Rattle.sources.specs.Source.{IsRead}
-use Rattle.block_slots.specs.Slots.{Keeps, KeptBlock, Slots}
+use Rattle.block_making.specs.Slots.{Keeps, KeptBlock, Slots}
 
 -- ---- parts of a text that is seen from an offset on
 

@@ -20,8 +20,8 @@ use Rattle.download_core.specs.Right.{IsRight}
 use Rattle.download_core.specs.State.{DownloadState, Found, handed, handed_in, ready_in}
 use Rattle.local_grid.specs.declared.error.LoopError.TheVariants.{TurnLimit}
 use Rattle.local_grid.specs.Turns.{Course}
-use Rattle.operation_loop.specs.Outside.{OutsideCalls}
-use Rattle.operation_loop.specs.Turns.{LoopState, Turns}
+use Rattle.local_grid.specs.Outside.{OutsideCalls}
+use Rattle.local_grid.specs.OutsideTurns.{LoopState, Turns}
 use Rattle.local_grid.proofs.CourseLaws.{course_more}
 use Rattle.carried_operations.specs.Came.{Came}
 use Rattle.carried_operations.proofs.Runs.{course_goes, follows_both, follows_wider}

@@ -6,9 +6,9 @@ use Rattle.request_record.specs.Operations.{OperationCalls}
 use Rattle.share_store.specs.Calls.{Calls}
 use Rattle.local_grid.specs.Nodes.{Carries}
 use Rattle.local_grid.specs.Turns as one
-use Rattle.operation_loop.specs.Local.{local_calls, of_one}
-use Rattle.operation_loop.specs.Turns.{Finishes, LoopState, Turns}
-use Rattle.operation_loop.proofs.Same.{turns_back}
+use Rattle.local_grid.specs.Local.{local_calls, of_one}
+use Rattle.local_grid.specs.OutsideTurns.{Finishes, LoopState, Turns}
+use Rattle.local_grid.proofs.Same.{turns_back}
 use Rattle.carried_operations.specs.Came.{Brings, ComesFrom}
 use Rattle.carried_operations.specs.OneProcess.{IsAnswered}
 

@@ -7,10 +7,10 @@ use Rattle.request_record.specs.Operations.{OperationCalls}
 use Rattle.request_record.specs.Follow.{Follows, IsSaid, Nothing, Said}
 use Rattle.request_record.specs.Record.{RequestsState}
 use Rattle.local_grid.specs.Turns.{Course, Hears}
-use Rattle.operation_loop.specs.declared.outside.Happening.{Happening}
-use Rattle.operation_loop.specs.declared.outside.Happening.TheVariants as happening
-use Rattle.operation_loop.specs.Outside.{OutsideCalls}
-use Rattle.operation_loop.specs.Turns.{GoesOn, LoopState, Meets, Turns}
+use Rattle.local_grid.specs.declared.outside.Happening.{Happening}
+use Rattle.local_grid.specs.declared.outside.Happening.TheVariants as happening
+use Rattle.local_grid.specs.Outside.{OutsideCalls}
+use Rattle.local_grid.specs.OutsideTurns.{GoesOn, LoopState, Meets, Turns}
 use Rattle.carried_operations.specs.Came.{Brings, Came, ComesFrom}
 
 -- ---- records that go on

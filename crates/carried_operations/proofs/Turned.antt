@@ -8,10 +8,10 @@ use Rattle.download_core.specs.Moves.{found_handed}
 use Rattle.download_core.specs.Sending.{Takes}
 use Rattle.download_core.specs.State.{DownloadState, Found, handed, ready}
 use Rattle.local_grid.specs.Turns.{Course, Hears}
-use Rattle.operation_loop.specs.declared.outside.Happening.{Happening}
-use Rattle.operation_loop.specs.declared.outside.Happening.TheVariants as happening
-use Rattle.operation_loop.specs.Outside.{OutsideCalls}
-use Rattle.operation_loop.specs.Turns.{Finishes, GoesOn, GoesPast, LoopState, Meets, Turns, TurnsOften}
+use Rattle.local_grid.specs.declared.outside.Happening.{Happening}
+use Rattle.local_grid.specs.declared.outside.Happening.TheVariants as happening
+use Rattle.local_grid.specs.Outside.{OutsideCalls}
+use Rattle.local_grid.specs.OutsideTurns.{Finishes, GoesOn, GoesPast, LoopState, Meets, Turns, TurnsOften}
 use Rattle.carried_operations.specs.Written.{TurnsAndWrites, Writes, capped}
 use Rattle.carried_operations.specs.declared.downloads.Carried.{Carried}
 use Rattle.carried_operations.specs.declared.downloads.CutShort.{CutShort}

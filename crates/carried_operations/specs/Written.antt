@@ -14,8 +14,8 @@ use Rattle.download_core.specs.Moves.{Begins}
 use Rattle.download_core.specs.Right.{IsRight}
 use Rattle.download_core.specs.State.{DownloadState, handed, ready}
 use Rattle.local_grid.specs.Turns.{Course}
-use Rattle.operation_loop.specs.Outside.{OutsideCalls}
-use Rattle.operation_loop.specs.Turns.{LoopState, Turns}
+use Rattle.local_grid.specs.Outside.{OutsideCalls}
+use Rattle.local_grid.specs.OutsideTurns.{LoopState, Turns}
 use Rattle.carried_operations.specs.Came.{Came}
 use Rattle.carried_operations.specs.Handing.{Hands, handing_calls}
 use Rattle.carried_operations.specs.declared.downloads.Carried.{Carried}

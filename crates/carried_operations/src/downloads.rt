@@ -12,7 +12,7 @@ ghost use Rattle.carried_operations.specs.declared.downloads.CutShort.TheVariant
 use download_core::{Download, taken_follow};
 use local_grid::error::LoopError;
 use local_grid::watched::{Watch, Watched};
-use operation_loop::{Outside, carry_on};
+use local_grid::{Outside, carry_on};
 use request_record::operation::Operation;
 use std::alloc::Global;
 use std::io::{self, Write};

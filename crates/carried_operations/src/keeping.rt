@@ -5,7 +5,7 @@ ghost use Rattle.upload_core.specs.Calls.{upload_calls};
 ghost use Rattle.carried_operations.specs.Kept.{AcknowledgedAreKept, AllStay, AreSound};
 ghost use Rattle.carried_operations.specs.Kept.{memory_carries, memory_gives_up};
 ghost use Rattle.carried_operations.specs.Stored.{HasBegun, IsCarried};
-ghost use Rattle.operation_loop.specs.Local.{local_calls};
+ghost use Rattle.local_grid.specs.Local.{local_calls};
 
 use local_grid::error::LoopError;
 use local_grid::grid::LocalGrid;

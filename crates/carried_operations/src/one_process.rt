@@ -3,8 +3,8 @@
 ghost use Rattle.std.specs.Prelude.{◌↔◌, ℕ};
 ghost use Rattle.wire.specs.declared.message.Message.{Message};
 ghost use Rattle.local_grid.specs.Turns as one;
-ghost use Rattle.operation_loop.specs.Local.{local_calls, of_one};
-ghost use Rattle.operation_loop.specs.Turns.{LoopState};
+ghost use Rattle.local_grid.specs.Local.{local_calls, of_one};
+ghost use Rattle.local_grid.specs.OutsideTurns.{LoopState};
 ghost use Rattle.carried_operations.specs.Came.{Brings};
 ghost use Rattle.carried_operations.specs.OneProcess.{IsAnswered};
 

@@ -5,8 +5,8 @@ use Rattle.request_record.specs.Follow.{IsSaid, Nothing, Said}
 use Rattle.upload_core.specs.Calls.{upload_calls}
 use Rattle.download_core.specs.Calls.{download_calls}
 use Rattle.checker.specs.Calls.{check_calls}
-use Rattle.operation_loop.specs.Outside.{OutsideCalls}
-use Rattle.operation_loop.specs.Turns.{Finishes, LoopState}
+use Rattle.local_grid.specs.Outside.{OutsideCalls}
+use Rattle.local_grid.specs.OutsideTurns.{Finishes, LoopState}
 use Rattle.carried_operations.proofs.Runs.{IsLaw, IsWithin, course_goes, follows_both, follows_wider}
 use Rattle.world_operations.specs.declared.task.Task.{Task}
 use Rattle.world_operations.specs.declared.task.Task.TheVariants.{Uploading, Downloading, Checking, Gone}

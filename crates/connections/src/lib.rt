@@ -2,8 +2,8 @@
 //!
 //! Each end sends its greeting first, and frames behind it. Nothing is given out of what comes but
 //! messages, each once its frame is whole, and none before the greeting of the other end is whole
-//! and fits. A greeting has one length and is never parsed: two are compared. A fault ends a connection
-//! for good.
+//! and fits. A greeting has one length and is never parsed: two are compared. A fault ends a
+//! connection for good.
 #![tactic(auto)]
 
 mod address;

@@ -10,8 +10,8 @@ use Rattle.request_record.specs.Record.{RequestsState}
 use Rattle.request_record.specs.Follow.{Follows, IsSaid, Nothing, Said, WasAnswered}
 use Rattle.request_record.proofs.FollowLaws.{follows_asks, follows_itself, follows_message, follows_same, follows_tick}
 use Rattle.local_grid.specs.Turns.{Course}
-use Rattle.operation_loop.specs.Outside.{OutsideCalls}
-use Rattle.operation_loop.specs.Turns.{Finishes, LoopState, Turns}
+use Rattle.local_grid.specs.Outside.{OutsideCalls}
+use Rattle.local_grid.specs.OutsideTurns.{Finishes, LoopState, Turns}
 use Rattle.carried_operations.specs.Came.{Came}
 use Rattle.carried_operations.proofs.Runs.{IsLaw, course_goes, follows_both, follows_wider}
 use Rattle.fetched_shares.specs.Fetches.{Begins, FetchState, fetch_calls, with_record}

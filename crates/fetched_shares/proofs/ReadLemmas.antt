@@ -2,8 +2,8 @@
 use Rattle.std.proofs.Common.{◌≡◌, ◌⊎◌, ℕ, List, Some, Bool, refl, sym, subst, ap, inl, inr, ◌∙◌}
 use Rattle.std.specs.Prelude as prelude
 use Rattle.std.specs.Prelude.{slice_get, false}
-use Rattle.operation_loop.specs.Outside.{OutsideCalls}
-use Rattle.operation_loop.specs.Turns.{Finishes, GoesPast}
+use Rattle.local_grid.specs.Outside.{OutsideCalls}
+use Rattle.local_grid.specs.OutsideTurns.{Finishes, GoesPast}
 use Rattle.fetched_shares.specs.Fetches.{Begins, FetchState, IsFetched, fetch_calls}
 use Rattle.fetched_shares.specs.declared.range.SharePlace.{SharePlace}
 use Rattle.fetched_shares.specs.declared.range.ShareRange.{ShareRange}

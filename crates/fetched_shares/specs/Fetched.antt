@@ -5,8 +5,8 @@ use Rattle.wire.specs.declared.message.Body.{Body}
 use Rattle.request_record.specs.declared.requests.Outcome.TheVariants.{Answered}
 use Rattle.request_record.specs.declared.requests.Request.{Request}
 use Rattle.local_grid.specs.Turns.{Course}
-use Rattle.operation_loop.specs.Outside.{OutsideCalls}
-use Rattle.operation_loop.specs.Turns.{GoesPast, LoopState, Turns}
+use Rattle.local_grid.specs.Outside.{OutsideCalls}
+use Rattle.local_grid.specs.OutsideTurns.{GoesPast, LoopState, Turns}
 use Rattle.carried_operations.specs.Came.{Came}
 use Rattle.fetched_shares.specs.Fetches.{Begins, FetchState, IsFetched, fetch_calls}
 use Rattle.fetched_shares.specs.declared.range.SharePlace.{SharePlace}

@@ -1,1 +1,2 @@
+pub mod OneGoal
 pub mod OneLength

@@ -53,7 +53,8 @@ fn read_words<'a>(
     ensures distinct { IfOk result (λ read. IfSome read
         (λ files. IsDistinct nat_eq (map (λ f. f.server) files.items))) }
 {
-    let (mut files, mut servers) = (Vec::new(alloc), Vec::new(alloc));
+    let mut files = Vec::new(alloc);
+    let mut servers = Vec::new(alloc);
     for word in words {
         match read_word(alloc, *word)? {
             Some(file) if !servers.contains(&file.server) => {

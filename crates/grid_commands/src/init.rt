@@ -32,6 +32,7 @@ const NEW_SECRET: &str = "new";
 
 /// Marks a grid and the folders of its servers, and gives the line with how many there are; and one
 /// with where the grid's secret lies, where one was asked for.
+#[tactic(auto, using(crate::proofs::ElsewhereLemmas::all_servers))]
 pub(crate) fn init<R, E>(
     rt: &R,
     words: &InitWords<'_>,
@@ -76,8 +77,8 @@ where
     E: Write + IsTerminal,
     ensures marked { IfOk result (λ count. IsCountBy words.now.marking count) }
     ensures few { IfOk result (λ count. count ≤ 256) }
-    ensures new { IfOk result (λ count. All (λ file. IsNewServer words.now.marking count file.server)
-        elsewhere.now) }
+    ensures new { IfOk result (λ count.
+        All (λ file. IsNewServer words.now.marking count file.server) elsewhere.now) }
 {
     match words.marking {
         Marking::New(servers) => new_grid(rt, words, servers, elsewhere, progress),

@@ -6,7 +6,7 @@ use Rattle.std.specs.Io.KnownBytes.{Appends}
 use Rattle.std.proofs.lemmas.List.{append-nil}
 use Rattle.cap_text.specs.Cap.{ReadCapValue}
 use Rattle.cap_text.specs.declared.cap.Cap.TheVariants.{Chk}
-use Rattle.operation_loop.specs.Outside.{OutsideCalls}
+use Rattle.local_grid.specs.Outside.{OutsideCalls}
 use Rattle.grid_faults.specs.declared.fault.Fault.{Fault}
 use Rattle.grid_rules.specs.declared.range.ByteRange.{ByteRange}
 use Rattle.grid_servers.specs.Grids.{FolderGridState, GridCalls}

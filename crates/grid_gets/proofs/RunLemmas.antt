@@ -10,7 +10,7 @@ use Rattle.download_segments.specs.Pieces.{AreConsecutive}
 use Rattle.download_segments.specs.declared.piece.Piece.{Piece}
 use Rattle.download_file.specs.Whole.{joined}
 use Rattle.download_core.specs.State.{handed}
-use Rattle.operation_loop.specs.Outside.{OutsideCalls}
+use Rattle.local_grid.specs.Outside.{OutsideCalls}
 use Rattle.carried_operations.proofs.DownloadRuns.{consecutive_more, joined_more}
 use Rattle.grid_gets.specs.Gets.{AreRuns, AreWritten, IsRun, Point, Run, pieces_of}
 

@@ -9,7 +9,7 @@ use Rattle.std.specs.Io.KnownBytes.{Appends}
 use Rattle.cap_text.specs.Cap.{ReadCapValue}
 use Rattle.download_core.specs.State.{DownloadState}
 use Rattle.download_file.specs.Whole.{joined}
-use Rattle.operation_loop.specs.Outside.{OutsideCalls}
+use Rattle.local_grid.specs.Outside.{OutsideCalls}
 use Rattle.grid_telling.specs.declared.outcome.Failure.{Failure}
 use Rattle.grid_telling.specs.declared.outcome.Failure.TheVariants.{Fault, Writer}
 use Rattle.grid_gets.specs.Gets.{AcceptsOnly, AllAccept, Run, Standing, UnlessWriter, pieces_of}

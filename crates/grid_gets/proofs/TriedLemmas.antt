@@ -12,7 +12,7 @@ use Rattle.download_core.specs.Moves.{Begins}
 use Rattle.download_core.specs.State.{DownloadState, handed, ready}
 use Rattle.download_core.specs.declared.status.DownloadStatus.{DownloadStatus}
 use Rattle.download_core.specs.declared.status.DownloadStatus.TheVariants as downloads
-use Rattle.operation_loop.specs.Outside.{OutsideCalls}
+use Rattle.local_grid.specs.Outside.{OutsideCalls}
 use Rattle.carried_operations.specs.Written.{IsCarried, IsWritten, UnlessWriterFailed, capped}
 use Rattle.carried_operations.specs.declared.downloads.Carried.{Carried}
 use Rattle.carried_operations.specs.declared.downloads.CutShort.{CutShort}

@@ -14,7 +14,7 @@ use Rattle.download_file.specs.Whole.{joined}
 use Rattle.download_core.specs.Evidence.{IsAcceptedBlock}
 use Rattle.download_core.specs.Moves.{Begins}
 use Rattle.download_core.specs.State.{DownloadState, handed}
-use Rattle.operation_loop.specs.Outside.{OutsideCalls}
+use Rattle.local_grid.specs.Outside.{OutsideCalls}
 use Rattle.carried_operations.specs.Written.{IsCarried, capped}
 use Rattle.grid_rules.specs.Range.{IsWithin, asked_range}
 use Rattle.grid_rules.specs.declared.range.ByteRange.{ByteRange}

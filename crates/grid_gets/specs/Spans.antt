@@ -2,7 +2,7 @@
 use Rattle.std.specs.Prelude.{◌≡◌, ℕ, ◌≤◌, List, Option, Some, None, length}
 use Rattle.cap_text.specs.Cap.{ReadCapValue}
 use Rattle.download_core.specs.declared.status.DownloadStatus.TheVariants as downloads
-use Rattle.operation_loop.specs.Outside.{OutsideCalls}
+use Rattle.local_grid.specs.Outside.{OutsideCalls}
 use Rattle.carried_operations.specs.declared.downloads.Carried.{Carried}
 use Rattle.grid_gets.specs.Gets.{AllAccept, AreWritten, Point, Run}
 use Rattle.grid_gets.specs.declared.tried.Tried.{Tried}

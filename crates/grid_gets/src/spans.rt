@@ -21,7 +21,7 @@ use grid_rules::ByteRange;
 use grid_rules::becoming::fault_of_download;
 use grid_servers::{FIRST_SESSION, FolderGrid};
 use grid_telling::{Failure, Progress};
-use operation_loop::Outside;
+use local_grid::Outside;
 use std::alloc::Global;
 use std::io::{IsTerminal, Write};
 use std::marker::Model;

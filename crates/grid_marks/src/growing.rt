@@ -111,9 +111,9 @@ where
 /// number, and can be made again.
 ///
 /// `UnknownGrid` where the grid has no mark, `BadParameters` where the servers were more than 256,
-/// or one of the files is that of no new server, and the other faults as of `mark_grid`. `AlreadyGrid` where another call at the same
-/// time, or one that was cut off, adds another number of servers, and where another came to its end
-/// first.
+/// or one of the files is that of no new server, and the other faults as of `mark_grid`.
+/// `AlreadyGrid` where another call at the same time, or one that was cut off, adds another number
+/// of servers, and where another came to its end first.
 pub fn add_servers<R>(
     rt: &R,
     grid: &str,

@@ -1,7 +1,7 @@
 -- Why no piece of shares that are made anew came, told apart.
 use Rattle.std.proofs.Common.{◌≡◌, ℕ, Bool, true, false, List}
 use Rattle.sources.specs.Source.{HasFailedMore}
-use Rattle.streamed_upload.specs.RemadeStream.{GaveNoRemade, RemadeStreaming}
+use Rattle.file_upload.specs.RemadeStream.{GaveNoRemade, RemadeStreaming}
 use Rattle.upload_core.specs.declared.pieces.PieceFault.{PieceFault}
 use Rattle.upload_core.specs.declared.pieces.PieceFault.TheVariants.{OutOfMemory, SourceChanged, SourceFault}
 use Rattle.grid_repairs.specs.Remaking.{GaveNonePlaced, told_by}

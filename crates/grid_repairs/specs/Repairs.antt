@@ -9,7 +9,7 @@ use Rattle.placement.specs.Matching.{Pair}
 use Rattle.fetched_shares.specs.declared.range.SharePlace.{SharePlace}
 use Rattle.share_source.specs.Decoded.{Decoding, GivesDecoded}
 use Rattle.fetched_shares.specs.Fetched.{FetchedState, IsReadOver, IsUnread}
-use Rattle.streamed_upload.specs.RemadeStream.{RemadeStreaming}
+use Rattle.file_upload.specs.RemadeStream.{RemadeStreaming}
 use Rattle.upload_core.specs.Ready.{Ready}
 use Rattle.checker.specs.Report.{good_pairs}
 use Rattle.checker.specs.declared.status.Report.{Report}

@@ -20,7 +20,7 @@ use grid_servers::{FIRST_SESSION, FolderGrid, Purpose, asked_servers, open_serve
 use grid_shares::{Environment, Outcome};
 use grid_telling::{Counting, Progress, Verb, note_blame, note_servers};
 use grid_words::CheckWords;
-use operation_loop::Outside;
+use local_grid::Outside;
 use share_reading::Verdict;
 use std::alloc::Global;
 use std::io::{IsTerminal, Write};

@@ -3,14 +3,14 @@
 ghost use Rattle.std.specs.Prelude.{◌≡◌, ◌+◌, ◌<◌, ◌≤◌, length, IfErr, OnOk};
 ghost use Rattle.share_source.specs.Decoded.{Decoding, GivesDecoded};
 ghost use Rattle.fetched_shares.specs.Fetched.{FetchedState, IsReadOver, IsUnread};
-ghost use Rattle.streamed_upload.specs.RemadeStream.{GaveRemade, RemadeStreaming, remade_goal};
+ghost use Rattle.file_upload.specs.RemadeStream.{GaveRemade, RemadeStreaming, remade_goal};
 ghost use Rattle.grid_repairs.specs.Remaking.{GaveNonePlaced, lacks_memory, told_by};
 
 use fetched_shares::FetchedShares;
-use operation_loop::Outside;
+use file_upload::remade::RemadeStream;
+use local_grid::Outside;
 use share_source::ShareSource;
 use std::marker::Model;
-use streamed_upload::remade::RemadeStream;
 use upload_core::ReadyUpload;
 use upload_core::pieces::{PieceFault, Pieces};
 

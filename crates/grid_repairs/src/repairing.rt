@@ -20,7 +20,7 @@ use grid_servers::{FIRST_SESSION, FolderGrid, Purpose, asked_servers, open_serve
 use grid_shares::{Environment, Outcome, Placing, durability_of, place_shares};
 use grid_telling::{Counting, Progress, Verb, note_limits};
 use grid_words::RepairWords;
-use operation_loop::Outside;
+use local_grid::Outside;
 use std::alloc::{AllocError, Global};
 use std::io::{IsTerminal, Write};
 use std::net::Net;

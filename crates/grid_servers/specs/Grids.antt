@@ -1,7 +1,7 @@
 -- The servers of a grid, and what they do as an operation asks them.
 use Rattle.std.specs.Prelude.{ℕ, List, Option, None}
 use Rattle.share_folders.specs.Folder.{FolderState, folder_calls}
-use Rattle.operation_loop.specs.Outside.{OutsideCalls}
+use Rattle.local_grid.specs.Outside.{OutsideCalls}
 use Rattle.socket_links.specs.Ends.{pair_calls}
 use Rattle.socket_links.specs.Links.{IsCarriedOver, IsGivenUp}
 use Rattle.socket_links.specs.declared.ends.SocketPair.{SocketPair}

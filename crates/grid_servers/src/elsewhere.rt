@@ -1,6 +1,7 @@
 //! The servers of a grid that are served elsewhere.
 
-ghost use Rattle.std.specs.Prelude.{◌≡◌, ◌↔◌, ◌<◌, None, Some, get_or, length, IfOk, IfSome, IsTrue};
+ghost use Rattle.std.specs.Prelude.{◌≡◌, ◌↔◌, ◌<◌, None, Some, get_or, length, IfOk, IfSome};
+ghost use Rattle.std.specs.Prelude.{IsTrue};
 ghost use Rattle.std.specs.Prelude.{OnOk};
 ghost use Rattle.grid_servers.specs.Opened.{AllElsewhere, AreApart, IsNumberOf, StandsElsewhere};
 ghost use Rattle.grid_servers.specs.Opened.{greeting_to};

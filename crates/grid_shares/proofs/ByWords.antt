@@ -9,8 +9,8 @@ use Rattle.file_encoding.specs.Params.{UploadParameters, parameters_of}
 use Rattle.file_streaming.specs.Prepared.{IsPreparedFrom}
 use Rattle.file_upload.specs.Prepared.{prepared_of, upload_of}
 use Rattle.sources.specs.Opened.{Opened}
-use Rattle.streamed_upload.specs.Ready.{ready_stream}
-use Rattle.streamed_upload.specs.Streamed.{Streaming}
+use Rattle.file_upload.specs.Ready.{ready_stream}
+use Rattle.file_upload.specs.Streamed.{Streaming}
 use Rattle.grid_faults.specs.declared.fault.Fault.{Fault}
 use Rattle.grid_servers.specs.Grids.{GridCalls}
 use Rattle.grid_words.specs.declared.words.PutWords.{PutWords}

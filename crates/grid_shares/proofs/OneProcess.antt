@@ -3,9 +3,9 @@ use Rattle.std.proofs.Common.{inl, inr, refl}
 use Rattle.share_store.specs.Calls.{Calls}
 use Rattle.local_grid.specs.Nodes.{Carries}
 use Rattle.local_grid.specs.Turns.{GridState, later}
-use Rattle.operation_loop.specs.Local.{IsNext, local_calls}
-use Rattle.operation_loop.specs.declared.outside.Happening.{Happening}
-use Rattle.operation_loop.specs.declared.outside.Happening.TheVariants.{Came, Second}
+use Rattle.local_grid.specs.Local.{IsNext, local_calls}
+use Rattle.local_grid.specs.declared.outside.Happening.{Happening}
+use Rattle.local_grid.specs.declared.outside.Happening.TheVariants.{Came, Second}
 use Rattle.grid_shares.specs.Standing.{GoesOn, IsStep}
 
 module _ {S L : Type 0} (calls : Calls S) (carries : Carries L) (gives_up : L → L → Type 0) (old new : GridState S L) where

@@ -8,7 +8,7 @@ use Rattle.upload_core.specs.Right.{IsRight}
 use Rattle.upload_core.specs.Sending.{Uploading}
 use Rattle.upload_core.specs.declared.status.UploadStatus.{UploadStatus}
 use Rattle.upload_core.specs.declared.status.UploadStatus.TheVariants.{Running, Happy, Unhappy, Failed}
-use Rattle.operation_loop.specs.Outside.{OutsideCalls}
+use Rattle.local_grid.specs.Outside.{OutsideCalls}
 use Rattle.carried_operations.specs.Stored.{IsCarried, IsStored}
 use Rattle.carried_operations.proofs.Storing.{stored}
 use Rattle.grid_rules.specs.Ending.{ending_of}
@@ -23,8 +23,8 @@ use Rattle.file_encoding.specs.Params.{UploadParameters}
 use Rattle.file_upload.specs.Prepared.{Prepared, prepared_of, upload_of}
 use Rattle.file_upload.specs.declared.prepared.FileUpload.{FileUpload}
 use Rattle.file_upload.specs.declared.prepared.FileUpload.TheVariants.{Shares}
-use Rattle.streamed_upload.specs.Ready.{goal_of, ready_stream}
-use Rattle.streamed_upload.specs.Streamed.{Streaming}
+use Rattle.file_upload.specs.Ready.{goal_of, ready_stream}
+use Rattle.file_upload.specs.Streamed.{Streaming}
 use Rattle.upload_core.specs.State.{Goal}
 use Rattle.grid_shares.specs.Puts.{IsPutOf, IsToldOf, whole_calls}
 use Rattle.grid_shares.specs.declared.putting.PutFile.{PutFile}

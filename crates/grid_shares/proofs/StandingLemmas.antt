@@ -3,9 +3,9 @@ use Rattle.std.proofs.Common.{◌≡◌, ℕ, List, [], ◌∷◌, ◌++◌, Opt
 use Rattle.wire.specs.declared.message.Message.{Message}
 use Rattle.request_record.specs.Operations.{OperationCalls}
 use Rattle.local_grid.specs.Turns.{Course}
-use Rattle.operation_loop.specs.Outside.{OutsideCalls}
-use Rattle.operation_loop.specs.Turns.{LoopState, Turns}
-use Rattle.operation_loop.specs.Turns as turns
+use Rattle.local_grid.specs.Outside.{OutsideCalls}
+use Rattle.local_grid.specs.OutsideTurns.{LoopState, Turns}
+use Rattle.local_grid.specs.OutsideTurns as turns
 use Rattle.grid_servers.specs.Grids.{FolderGridState, GridCalls}
 use Rattle.grid_servers.specs.Opened.{AreOpened}
 use Rattle.grid_shares.specs.Standing.{GoesOn, Standing, WereOpened}

@@ -12,8 +12,8 @@ use Rattle.file_encoding.specs.Params.{UploadParameters, parameters_of}
 use Rattle.sources.specs.Opened.{Opened}
 use Rattle.file_streaming.specs.Prepared.{IsPreparedFrom}
 use Rattle.file_upload.specs.Prepared.{prepared_of, upload_of}
-use Rattle.streamed_upload.specs.Ready.{ready_stream}
-use Rattle.streamed_upload.specs.Streamed.{GaveBytes, GaveNone, Streaming}
+use Rattle.file_upload.specs.Ready.{ready_stream}
+use Rattle.file_upload.specs.Streamed.{GaveBytes, GaveNone, Streaming}
 use Rattle.request_record.specs.Operations.{OperationCalls}
 use Rattle.upload_core.specs.Calls.{upload_calls}
 use Rattle.upload_core.specs.Pieces.{piece_of}

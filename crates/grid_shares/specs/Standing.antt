@@ -4,8 +4,8 @@ use Rattle.wire.specs.declared.message.Message.{Message}
 use Rattle.share_store.specs.Calls.{Calls}
 use Rattle.local_grid.specs.Nodes.{Carries}
 use Rattle.local_grid.specs.Turns.{Asks, Course, GridState, passed}
-use Rattle.operation_loop.specs.Outside.{OutsideCalls}
-use Rattle.operation_loop.specs.declared.outside.Happening.{Happening}
+use Rattle.local_grid.specs.Outside.{OutsideCalls}
+use Rattle.local_grid.specs.declared.outside.Happening.{Happening}
 use Rattle.grid_servers.specs.Grids.{FolderGridState, GridCalls}
 use Rattle.grid_servers.specs.Opened.{AreOpened}
 

@@ -2,7 +2,7 @@
 
 ghost use Rattle.std.specs.Prelude.{◌↔◌};
 ghost use Rattle.local_grid.specs.Turns.{GridState};
-ghost use Rattle.operation_loop.specs.Local.{local_calls};
+ghost use Rattle.local_grid.specs.Local.{local_calls};
 ghost use Rattle.grid_shares.specs.Standing.{GoesOn, IsStep};
 
 use local_grid::link::Link;

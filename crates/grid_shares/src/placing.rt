@@ -21,7 +21,7 @@ use grid_rules::becoming::fault_of_loop;
 use grid_rules::{reached_happiness, turn_limit};
 use grid_servers::{Durability, Purpose, lock_folders, servers_without};
 use grid_telling::{Counting, Progress, Verb, note_servers};
-use operation_loop::Outside;
+use local_grid::Outside;
 use std::alloc::Global;
 use std::io::{IsTerminal, Write};
 use std::net::Net;
@@ -84,7 +84,8 @@ impl Stored {
 /// so that nothing counts which it holds. The files of the shares at these places stay, which are
 /// read for it. Nothing was changed in any folder before this. Their locks are held meanwhile.
 ///
-/// `InUse` where a process serves one of the folders: then nothing is changed. `Unhappy` where fewer servers than were wanted hold a share of their own.
+/// `InUse` where a process serves one of the folders: then nothing is changed. `Unhappy` where
+/// fewer servers than were wanted hold a share of their own.
 pub fn place_shares<R, P, E>(
     rt: &R,
     placing: &Placing<'_>,

@@ -1,3 +1,4 @@
+pub mod Same
 pub mod CourseLaws
 pub mod FrameLaws
 pub mod NodeLaws

@@ -1,4 +1,7 @@
 -- What public contracts rest on.
+pub mod Outside
+pub mod OutsideTurns
+pub mod Local
 pub mod Refusals
 pub mod Nodes
 pub mod Turns

@@ -1,11 +1,19 @@
-//! The loop of one process: it carries frames between one operation and the grid's servers, and has
-//! the clock. Which operation it is it does not know.
+//! The loop that carries messages between one operation and servers, and tells it the time: over
+//! whatever servers there are, and over those of one process. Which operation it is it does not
+//! know.
 #![tactic(auto)]
 
+mod carrying;
 pub mod error;
 pub mod frames;
 pub mod grid;
 pub mod link;
+mod local;
 pub mod node;
+mod outside;
 mod waiting;
 pub mod watched;
+
+pub use carrying::carry_on;
+pub use local::turns_of_one_process;
+pub use outside::{Happening, Outside};

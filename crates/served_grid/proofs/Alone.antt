@@ -7,9 +7,9 @@ use Rattle.share_store.specs.Calls.{Calls}
 use Rattle.connections.specs.Wires.{WireCalls}
 use Rattle.local_grid.specs.Nodes.{Carries}
 use Rattle.local_grid.specs.Turns.{Asks, Stops, later, passed_to}
-use Rattle.operation_loop.specs.Local.{IsNext}
-use Rattle.operation_loop.specs.declared.outside.Happening.{Happening}
-use Rattle.operation_loop.specs.declared.outside.Happening.TheVariants.{Came, Second}
+use Rattle.local_grid.specs.Local.{IsNext}
+use Rattle.local_grid.specs.declared.outside.Happening.{Happening}
+use Rattle.local_grid.specs.declared.outside.Happening.TheVariants.{Came, Second}
 use Rattle.served_grid.specs.Remotes.{RemoteState, ticked_remote}
 use Rattle.served_grid.specs.Served.{AllGive, GivesAt, HandsAt, Happens, IsNextAlone, ServedState, StopsAt, nothing, only, passed_all}
 use Rattle.served_grid.proofs.Hearing.{hears_itself, passes}

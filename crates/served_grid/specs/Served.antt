@@ -1,16 +1,17 @@
 -- Servers of this process and servers elsewhere, side by side.
-use Rattle.std.specs.Prelude.{◌≡◌, ◌≢◌, ◌≤◌, ◌⊎◌, ⊤, ℕ, ◌==◌, List, [], ◌∷◌, Option, Some, None, map}
+use Rattle.std.specs.Prelude.{◌≡◌, ◌≢◌, ◌≤◌, ◌⊎◌, ⊤, ℕ, ◌==◌, List, [], ◌∷◌, Option, Some, None}
+use Rattle.std.specs.Prelude.{map}
 use Rattle.std.specs.Prelude.{if◌then◌else◌, option_map, slice_get, slice_set}
 use Rattle.wire.specs.declared.message.Message.{Message}
 use Rattle.share_store.specs.Calls.{Calls}
 use Rattle.connections.specs.Wires.{WireCalls}
 use Rattle.local_grid.specs.Nodes.{Carries}
 use Rattle.local_grid.specs.Turns.{Asks, GridState, Stops, later, passed_to}
-use Rattle.operation_loop.specs.declared.outside.Happening.{Happening}
-use Rattle.operation_loop.specs.declared.outside.Happening.TheVariants as happening
+use Rattle.local_grid.specs.declared.outside.Happening.{Happening}
+use Rattle.local_grid.specs.declared.outside.Happening.TheVariants as happening
 use Rattle.served_grid.specs.declared.remote.Came.{Came}
 use Rattle.served_grid.specs.Heard.{messages_of}
-use Rattle.operation_loop.specs.Outside.{OutsideCalls}
+use Rattle.local_grid.specs.Outside.{OutsideCalls}
 use Rattle.served_grid.specs.Remotes.{Gives, IsAsked, Reaches, RemoteState, ticked_remote}
 
 -- the servers of this process and the clock, and the servers elsewhere by number

@@ -2,8 +2,8 @@
 
 ghost use Rattle.std.specs.Prelude.{◌≡◌, ℕ, [], Option};
 ghost use Rattle.wire.specs.declared.message.Message.{Message};
-ghost use Rattle.operation_loop.specs.Local.{local_calls};
-ghost use Rattle.operation_loop.specs.declared.outside.Happening.{Happening};
+ghost use Rattle.local_grid.specs.Local.{local_calls};
+ghost use Rattle.local_grid.specs.declared.outside.Happening.{Happening};
 ghost use Rattle.served_grid.specs.Served.{ServedState, served_calls};
 
 use connections::Wire;

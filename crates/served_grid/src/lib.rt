@@ -1,5 +1,5 @@
 //! Servers of this process and servers elsewhere, side by side, and the clock: what an operation
-//! has before it where it is carried on by `operation_loop`.
+//! has before it where it is carried on by `local_grid`.
 #![tactic(auto)]
 
 mod laws;

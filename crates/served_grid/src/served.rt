@@ -14,7 +14,7 @@ use crate::remote::{Came, RemoteServer};
 use connections::{Room, Wire};
 use local_grid::grid::LocalGrid;
 use local_grid::link::Link;
-use operation_loop::{Happening, Outside};
+use local_grid::{Happening, Outside};
 use share_store::store::Store;
 use std::alloc::{AllocError, Global};
 use std::marker::Model;

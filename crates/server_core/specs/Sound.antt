@@ -233,7 +233,8 @@ RestartsKeep =
 
 abbrev pub ForgettingKeeps : Type 0
 ForgettingKeeps =
-    (old : ServerState Shelf) (client : ℕ) → IsSound old → StaysSound old (without_client client old)
+    (old : ServerState Shelf) (client : ℕ) → IsSound old
+    → StaysSound old (without_client client old)
 
 abbrev pub LettingGoKeeps : Type 0
 LettingGoKeeps =

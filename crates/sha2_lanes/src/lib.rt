@@ -2,8 +2,8 @@
 //!
 //! `double_sha256_of_eight` hashes eight messages of one length side by side. `Sha256Stream` hashes
 //! one message that comes in pieces: it makes the schedules of eight blocks in a row side by side,
-//! and runs their rounds one block after the other. `update_eight` gives eight of them a piece each,
-//! side by side. The definition is that of the crate `sha2`. No call takes memory.
+//! and runs their rounds one block after the other. `update_eight` gives eight of them a piece
+//! each, side by side. The definition is that of the crate `sha2`. No call takes memory.
 #![tactic(auto)]
 
 ghost use Rattle.std.specs.Prelude.{◌≡◌, ◌<◌, ◌^◌, ◌++◌, All, length, map};

@@ -8,7 +8,7 @@ use Rattle.share_verify.specs.Pieces.{joined}
 use Rattle.file_encoding.specs.Encoding.{share_hashes}
 use Rattle.block_making.specs.Making.{AreSlots}
 use Rattle.block_making.specs.declared.encoder.Encoder.{Encoder}
-use Rattle.block_slots.specs.Slots.{Slots}
+use Rattle.block_making.specs.Slots.{Slots}
 use Rattle.share_gathering.specs.Buffers.{AreBuffers}
 use Rattle.share_gathering.specs.KeptFile.{IsKeptOf, KeptFile}
 use Rattle.share_gathering.specs.declared.buffers.Buffers.{Buffers}

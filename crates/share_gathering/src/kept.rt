@@ -5,8 +5,7 @@ ghost use Rattle.block_making.specs.Making.{AreSlots};
 ghost use Rattle.share_gathering.specs.KeptFile.{kept_length};
 
 use crate::buffers::Buffers;
-use block_making::Encoder;
-use block_slots::{BlockSlots, window_for};
+use block_making::{BlockSlots, Encoder, window_for};
 use merkle::Tree;
 use share_layout::{Geometry, Offsets};
 use std::alloc::{AllocError, Global};

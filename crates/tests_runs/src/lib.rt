@@ -1,5 +1,5 @@
-//! The tests of commands over many files, over sockets that do not do as they should, and of the line
-//! that tells how far a command is; and of what stands under the names of servers.
+//! The tests of commands over many files, over sockets that do not do as they should, and of the
+//! line that tells how far a command is; and of what stands under the names of servers.
 #![tactic(auto)]
 
 #[cfg(test)]

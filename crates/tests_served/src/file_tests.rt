@@ -3,7 +3,7 @@
 use crate::fake::Kind;
 use crate::files::{check, file_of, is_read, put};
 use crate::grids::fake_grid;
-use operation_loop::Outside;
+use local_grid::Outside;
 use std::test::Fail;
 
 #[test]

@@ -9,7 +9,7 @@ use download_core::Download;
 use download_core::status::DownloadStatus;
 use file_encoding::Params;
 use file_upload::prepared::{FileUpload, PreparedUpload, prepare};
-use operation_loop::{Outside, carry_on};
+use local_grid::{Outside, carry_on};
 use placement::ServerId;
 use request_record::operation::Operation;
 use served_grid::Network;

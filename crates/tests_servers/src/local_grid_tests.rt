@@ -4,11 +4,11 @@
 //! The test whose name begins with `refused_memory` passes too where any one allocation of its is
 //! refused.
 
+use local_grid::carry_on;
 use local_grid::error::LoopError;
 use local_grid::grid::LocalGrid;
 use local_grid::link::{Link, MemoryLink, Way};
 use local_grid::node::Node;
-use operation_loop::carry_on;
 use request_record::operation::Operation;
 use server_core::server::Server;
 use share_store::memory::MemoryStore;

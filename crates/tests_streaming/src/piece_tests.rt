@@ -1,7 +1,7 @@
 //! Pieces of shares, beside the shares of whole encodings.
 
 use crate::prepare_tests::{Halting, counted};
-use block_slots::BlockSlots;
+use block_making::BlockSlots;
 use file_encoding::{Params, Share, encode_all};
 use file_streaming::{PieceError, Prepared, prepare};
 use sources::{ChangingSource, FileSource, SliceSource, Source};

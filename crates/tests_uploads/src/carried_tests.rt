@@ -3,10 +3,10 @@
 use crate::kept_tests::{Nobody, ten_hold, ten_nodes};
 use crate::upload_rounds_tests::begun_ten;
 use carried_operations::uploads::carry_upload;
+use local_grid::{Happening, Outside};
 use local_grid::error::LoopError;
 use local_grid::grid::LocalGrid;
 use local_grid::link::MemoryLink;
-use operation_loop::{Happening, Outside};
 use share_store::memory::MemoryStore;
 use std::alloc::{AllocError, Global};
 use wire::message::{Message, NodeId};
@@ -20,7 +20,7 @@ struct LateServers {
 }
 
 impl Outside for LateServers {
-    ghost use Rattle.operation_loop.specs.Outside.{OutsideCalls};
+    ghost use Rattle.local_grid.specs.Outside.{OutsideCalls};
 
     ghost calls = { record {
       clock = λ s. s.grid.clock;

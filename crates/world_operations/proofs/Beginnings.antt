@@ -9,8 +9,8 @@ use Rattle.file_encoding.specs.Params.{IsEncodable, UploadParameters, parameters
 use Rattle.file_encoding.proofs.Encodable.{has_shape}
 use Rattle.file_streaming.specs.Prepared.{key_for, prepared_of as stream_of}
 use Rattle.file_upload.specs.Prepared.{goal_of, prepared_of}
-use Rattle.streamed_upload.specs.Ready.{goal_of as kept_goal}
-use Rattle.streamed_upload.proofs.OneGoal.{goals_are_one}
+use Rattle.file_upload.specs.Ready.{goal_of as kept_goal}
+use Rattle.file_upload.proofs.OneGoal.{goals_are_one}
 use Rattle.upload_core.specs.Sending.{Uploading as Uploading_state}
 use Rattle.answer_laws.proofs.Asking.Checks.{checks_ask_all}
 use Rattle.answer_laws.proofs.Asking.Downloads.{downloads_ask_all}

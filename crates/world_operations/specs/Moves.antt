@@ -7,8 +7,8 @@ use Rattle.sources.specs.Texts.{Changing as TwoTexts, GivesChanging}
 use Rattle.file_encoding.specs.Params.{UploadParameters, parameters_of}
 use Rattle.file_streaming.specs.Prepared.{IsPreparedFrom}
 use Rattle.file_upload.specs.Prepared.{goal_of, prepared_of}
-use Rattle.streamed_upload.specs.Ready.{goal_of as kept_goal}
-use Rattle.streamed_upload.specs.Streamed.{Streaming}
+use Rattle.file_upload.specs.Ready.{goal_of as kept_goal}
+use Rattle.file_upload.specs.Streamed.{Streaming}
 use Rattle.upload_core.specs.declared.status.ServerInfo.{ServerInfo}
 use Rattle.request_record.specs.Operations.{OperationCalls}
 use Rattle.upload_core.specs.Calls.{upload_calls}

@@ -6,7 +6,7 @@ use Rattle.file_streaming.specs.Prepared.{share_length}
 use Rattle.upload_core.specs.declared.pieces.PieceFault.{PieceFault}
 use Rattle.upload_core.specs.Pieces.{length_of, piece_of}
 use Rattle.upload_core.specs.Ready.{Ready}
-use Rattle.streamed_upload.specs.Streamed.{GaveBytes, GaveNone}
+use Rattle.file_upload.specs.Streamed.{GaveBytes, GaveNone}
 use Rattle.world_operations.specs.declared.upload_pieces.UploadPieces.{UploadPieces}
 use Rattle.world_operations.specs.declared.upload_pieces.UploadPieces.TheVariants.{Whole, Streamed}
 

@@ -4,8 +4,8 @@ ghost use Rattle.std.specs.Prelude.{◌≡◌, ◌+◌, ◌<◌, ◌≤◌, leng
 ghost use Rattle.world_operations.specs.UploadPieces.{digests_of, fails, gives, share_length_of};
 ghost use Rattle.world_operations.specs.UploadPieces.{ready_with};
 
+use file_upload::streamed::Streamed;
 use sources::ChangingSource;
-use streamed_upload::streamed::Streamed;
 use upload_core::ReadyUpload;
 use upload_core::pieces::{PieceFault, Pieces, WholeShares};
 

@@ -16,8 +16,8 @@ use Rattle.answer_laws.specs.Servers.Telling.{ListsShare}
 
 -- ---- later states
 
--- one move of a server: a message from a client, a tick, a client that is forgotten, shares that its
--- store lets go of, or a restart
+-- one move of a server: a message from a client, a tick, a client that is forgotten, shares that
+-- its store lets go of, or a restart
 pub data Moves (old new : ServerState Shelf) : Type 0 where
   by_message : (from now : ℕ) (request : Message) (outcome : Outcome)
       → Serves shelf_calls old from request now outcome new → Moves old new

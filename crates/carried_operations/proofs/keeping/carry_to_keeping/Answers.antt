@@ -1,6 +1,6 @@
 use Rattle.std.proofs.Common.{◌≡◌, Err, Some, ap}
 use Rattle.upload_core.specs.Calls.{upload_calls}
-use Rattle.operation_loop.specs.Local.{local_calls}
+use Rattle.local_grid.specs.Local.{local_calls}
 use Rattle.carried_operations.specs.Kept.{memory_carries, memory_gives_up}
 use Rattle.carried_operations.proofs.Carrying.{carried_as}
 use Rattle.carried_operations.proofs.Held.{kept_as}

@@ -1,7 +1,7 @@
 use Rattle.std.proofs.Common.{Ok, ap, ◌∙◌}
 use Rattle.std.specs.Prelude.{is_some}
 use Rattle.std.proofs.lemmas.Result.{IfOk-weaker}
-use Rattle.streamed_upload.specs.Streamed.{Streaming}
+use Rattle.file_upload.specs.Streamed.{Streaming}
 use Rattle.grid_shares.specs.Puts.{streamed_calls}
 use Rattle.grid_shares.proofs.Placed.{streamed_put}
 use Rattle.grid_shares.proofs.Told.{still_ok}

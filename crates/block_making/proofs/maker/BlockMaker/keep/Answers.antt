@@ -2,7 +2,7 @@ use Rattle.std.proofs.Common.{◌≡◌, ℕ, ◌<◌, List, [], length, get_or,
 use Rattle.std.proofs.lemmas.List.{get_or_default}
 use Rattle.merkle.proofs.PartialLemmas.{same_hash}
 use Rattle.share_layout.specs.Geometry.{segment_count}
-use Rattle.block_slots.specs.Slots.{KeptBlock}
+use Rattle.block_making.specs.Slots.{KeptBlock}
 use Rattle.block_making.specs.Making.{IsBlock, Making, leaf_at, making_with}
 use Rattle.block_making.proofs.MadeBlocks.{hash_count}
 use Rattle.block_making.proofs.maker.BlockMaker.keep.Goals as goal

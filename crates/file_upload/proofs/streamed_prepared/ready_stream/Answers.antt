@@ -1,0 +1,16 @@
+use Rattle.std.proofs.Common.{◌≡◌, ap, sym, ◌∙◌, arith}
+use Rattle.std.specs.List.{each_same}
+use Rattle.file_streaming.specs.Prepared.{share_length}
+use Rattle.file_upload.specs.Streamed.{Streaming}
+use Rattle.upload_core.specs.State.{Goal}
+use Rattle.file_upload.proofs.streamed_prepared.ready_stream.Goals as goal
+
+pub new-requires-2-clause-own : goal.new-requires-2-clause-own
+new-requires-2-clause-own g c =
+    sym (ap (λ (a : Goal). a.digests) c.new-goal.ensures ∙ c.in_ok-digests.ensures.items_if_clones_equal (λ x y same. each_same x y same.whole) ∙ c.digests.ensures.digests
+    ∙ ap (λ (s : Streaming _). s.kept.digests) c.pieces.view_is)
+
+pub new-requires-2-clause-long : goal.new-requires-2-clause-long
+new-requires-2-clause-long g c =
+    let long : c.unwrap-length.result ≡ c.share_length.result = grind (arith, c.new.ensures, c.unwrap-length.ensures, c.share_length.ensures.some, c.share_length.ensures.short) in
+    sym (ap (λ (a : Goal). a.share_length) c.new-goal.ensures ∙ long ∙ c.share_length.ensures.length ∙ ap (λ (s : Streaming _). share_length s.kept) c.pieces.view_is)

@@ -1,5 +1,0 @@
--- what public contracts rest on
-pub mod Streamed
-pub mod Ready
-pub mod Laws
-pub mod RemadeStream
