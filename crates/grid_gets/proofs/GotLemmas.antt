@@ -1,5 +1,5 @@
 -- What a get of a range comes to, over servers that stand so.
-use Rattle.std.proofs.Common.{◌≡◌, arith, ℕ, List, [], ◌++◌, Bool, true, false, Option, Some, None, Result, Ok, Err, OnOk, IfOk, IfErr, IfSome, nat_eq, refl, ap, sym, subst}
+use Rattle.std.proofs.Common.{◌≡◌, arith, ℕ, List, [], Bool, true, false, Option, Some, None, Result, Ok, Err, OnOk, IfOk, IfErr, IfSome, nat_eq, refl, sym, subst}
 use Rattle.std.specs.Prelude.{is_some}
 use Rattle.std.specs.List.{IsDistinct}
 use Rattle.std.specs.Io.KnownBytes.{Appends}
@@ -14,7 +14,7 @@ use Rattle.grid_telling.specs.declared.outcome.Failure.{Failure}
 use Rattle.grid_gets.specs.Gets.{AreNew, AreReadTo, AreWritten, IsBegun, IsBegunOf, IsGot, IsGotOf, Run, Standing, Stands, UnlessWriter, WereRead, begun, begun_at, read_on, were_new}
 use Rattle.grid_gets.specs.Spans.{Leads, Spanning, Stops, point_at}
 use Rattle.grid_gets.proofs.RunLemmas.{written_trans}
-use Rattle.grid_gets.proofs.SpanLemmas.{err_on, first_of, if_err, leads_flushed}
+use Rattle.grid_gets.proofs.SpanLemmas.{err_on, first_of, leads_flushed}
 
 -- ---- a range, over servers that were asked as they stood
 
@@ -71,8 +71,8 @@ module _ {G : Type 0} (calls : OutsideCalls G) (cap : ReadCapValue) (range : Byt
 
 module _ {S : Type 0} (calls : GridCalls S) (grid : List ℕ) where
   were_distinct : (s : Standing (FolderGridState S)) → WereRead calls grid s → IsDistinct nat_eq s.servers
-  were_distinct s (were_new s new) = new.distinct
-  were_distinct s (read_on old s were to) = subst (λ (x : Standing (FolderGridState S)). IsDistinct nat_eq x.servers) (sym to.is) (were_distinct old were)
+  were_distinct _ (were_new s new) = new.distinct
+  were_distinct _ (read_on old s were to) = subst (λ (x : Standing (FolderGridState S)). IsDistinct nat_eq x.servers) (sym to.is) (were_distinct old were)
 
   pub stands_distinct : (kept : Bool) (s : Standing (FolderGridState S)) → Stands calls grid kept s → IsDistinct nat_eq s.servers
   stands_distinct true s were = were_distinct s were
@@ -81,6 +81,9 @@ module _ {S : Type 0} (calls : GridCalls S) (grid : List ℕ) where
   pub stands_were : (kept : Bool) (s : Standing (FolderGridState S)) → Stands calls grid kept s → WereRead calls grid s
   stands_were true s were = were
   stands_were false s new = were_new s new
+
+  pub read_more : (kept : Bool) (s new : Standing (FolderGridState S)) → Stands calls grid kept s → AreReadTo calls s new → WereRead calls grid new
+  read_more kept s new stands to = read_on s new (stands_were kept s stands) to
 
   pub stand_kept : (o : Option (Standing (FolderGridState S))) (s : Standing (FolderGridState S)) → o ≡ Some s → IfSome o (WereRead calls grid) → Stands calls grid (is_some o) s
   stand_kept None s is were = absurd (none_some s is) where
@@ -105,6 +108,3 @@ module _ {S : Type 0} (calls : GridCalls S) (grid : List ℕ) where
 
     pub begun_by : IsBegun calls cap range s held holds → IsBegunOf calls grid kept range held holds (Chk cap)
     begun_by part = begun cap s stands part
-
-    pub read_more : (new : Standing (FolderGridState S)) → AreReadTo calls s new → WereRead calls grid new
-    read_more new to = read_on s new (stands_were kept s stands) to

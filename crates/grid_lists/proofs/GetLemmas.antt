@@ -20,7 +20,7 @@ use Rattle.grid_lists.specs.Puts.{status_after}
 use Rattle.grid_servers.specs.Grids.{GridCalls}
 use Rattle.grid_words.specs.declared.catalogue_words.GetFilesWords.{GetFilesWords}
 
-abbrev Acts : Type 0
+abbrev pub Acts : Type 0
 Acts = Option (List FileAct)
 
 module _ {S : Type 0} (calls : GridCalls S) (words : GetFilesWords) where

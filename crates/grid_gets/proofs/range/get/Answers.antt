@@ -13,10 +13,10 @@ pub returns-in-None-clause-begun : goal.returns-in-None-clause-begun
 returns-in-None-clause-begun g c = λ none.
     begun_by _ c.args.words.now c.in_ok-asked.asked.cap c.in_ok-asked.asked.range c.in_ok-asked.ensures.spelled c.in_ok-asked.ensures.range c.in_ok-asked.ensures.within c.write_bytes.result _ _ c.write_bytes.ensures.err
 
-pub returns-in-Some-clause-file : goal.returns-in-Some-clause-file
-returns-in-Some-clause-file g c = some_is c.args.words.now.output c.in-Some.path _ c.in-Some.is
+pub returns-clause-file : goal.returns-clause-file
+returns-clause-file g c = some_is c.args.words.now.output c.in-Some.path _ c.in-Some.is
     (file_by _ c.args.words.now c.in_ok-asked.asked.cap c.in_ok-asked.asked.range c.in_ok-asked.ensures.spelled c.in_ok-asked.ensures.range c.in_ok-asked.ensures.within _ _ _ c.write_file.result c.write_file.ensures.ok)
 
-pub returns-in-Some-clause-part : goal.returns-in-Some-clause-part
-returns-in-Some-clause-part g c = some_is c.args.words.now.output c.in-Some.path _ c.in-Some.is
+pub returns-clause-part : goal.returns-clause-part
+returns-clause-part g c = some_is c.args.words.now.output c.in-Some.path _ c.in-Some.is
     (part_by _ c.args.words.now c.in_ok-asked.asked.cap c.in_ok-asked.asked.range c.in_ok-asked.ensures.spelled c.in_ok-asked.ensures.range c.in_ok-asked.ensures.within _ _ _ c.write_file.result c.write_file.ensures.err)

@@ -28,7 +28,7 @@ pub returns-clause-ok : goal.returns-clause-ok
 returns-clause-ok g c = got_by _ c.args.place.now.grid.now (is_some c.args.kept.now) c.args.cap.now c.args.range.now c.in_ok-open.open c.in_ok-open.ensures.stand _ _ c.in_ok-written.ensures.ok
 
 pub returns-clause-kept : goal.returns-clause-kept
-returns-clause-kept g c = read_more _ c.args.place.now.grid.now (is_some c.args.kept.now) c.args.cap.now c.args.range.now c.in_ok-open.open c.in_ok-open.ensures.stand _ _ c.write_range-written.new.self c.in_ok-written.ensures.read
+returns-clause-kept g c = read_more _ c.args.place.now.grid.now (is_some c.args.kept.now) c.in_ok-open.open c.write_range-written.new.self c.in_ok-open.ensures.stand c.in_ok-written.ensures.read
 
 -- none are kept
 pub returns-in_err-open-clause-kept : goal.returns-in_err-open-clause-kept

@@ -13,8 +13,8 @@ loop-catalogue-preserved g c =
       kept = c.in_ok-came.ensures.kept;
     }
 
-pub loop-catalogue-decreases : goal.loop-catalogue-decreases
-loop-catalogue-decreases g c =
+pub loop-catalogue-smaller : goal.loop-catalogue-smaller
+loop-catalogue-smaller g c =
     let read = rw c.in-Ok-Some.field-0-is at c.in-Ok-Some.ensures in
     shorter c.loop-catalogue.catalogue.left c.next_line.new.self.left c.in-Ok-Some.line.cap c.in-Ok-Some.line.name read.line
 
