@@ -1,5 +1,5 @@
 -- The servers of an `init` that are served elsewhere.
-use Rattle.std.proofs.Common.{◌≡◌, ◌∙◌, ◌&&◌, ◌-◌, ◌+◌, ◌≤◌, ◌<◌, ◌++◌, ℕ, ◌||◌, Bool, Bor, false, map, true, true≢false, arith, eqb, subst, sym, take, List, [], ◌∷◌, All, Some, Option, ap, get_or, length, lt-ltb, nat_lt, refl}
+use Rattle.std.proofs.Common.{◌≡◌, ◌∙◌, ◌-◌, ◌+◌, ◌<◌, ◌++◌, ℕ, ◌||◌, Bool, Bor, false, map, true, true≢false, arith, eqb, subst, sym, take, List, [], ◌∷◌, All, Some, Option, ap, get_or, length, lt-ltb, nat_lt, refl}
 use Rattle.std.proofs.lemmas.Bool.{eq-eqb, eqb-true}
 use Rattle.std.proofs.lemmas.List.{take_more}
 use Rattle.std.proofs.lemmas.List.Elements.{All-map}
@@ -64,8 +64,8 @@ flipped (y ∷ ys) x e =
     by (eqb x y) refl parts.0 (flipped ys x parts.1)
   where
     by : (b : Bool) → eqb x y ≡ b → eqb y x ≡ false → list_any (eqb x) ys ≡ false → (eqb x y || list_any (eqb x) ys) ≡ false
-    by true is no rest = absurd (true≢false (sym (eq-eqb y x (sym (eqb-true x y is))) ∙ no))
-    by false is no rest = ap (λ (b : Bool). b || list_any (eqb x) ys) is ∙ rest
+    by true is other rest = absurd (true≢false (sym (eq-eqb y x (sym (eqb-true x y is))) ∙ other))
+    by false is other rest = ap (λ (b : Bool). b || list_any (eqb x) ys) is ∙ rest
 
 -- ---- of files and of their servers
 

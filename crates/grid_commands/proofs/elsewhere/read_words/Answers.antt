@@ -1,4 +1,4 @@
-use Rattle.std.proofs.Common.{◌≡◌, ◌∙◌, ◌+◌, ◌++◌, ◌<◌, ℕ, Bor, Bool, false, IfSome, List, Option, [], ◌∷◌, ap, eqb, get_or, length, map, rules, subst, sym, take}
+use Rattle.std.proofs.Common.{◌≡◌, ◌∙◌, ◌+◌, ◌++◌, ◌<◌, ℕ, Bor, false, IfSome, List, Option, [], ◌∷◌, ap, eqb, get_or, length, map, rules, subst, sym, take}
 use Rattle.std.specs.Cmp.{nat_eq_equiv}
 use Rattle.std.specs.List.{IsDistinct, list_any}
 use Rattle.std.proofs.lemmas.List.{get_or_default, map-append}
@@ -30,6 +30,6 @@ loop-word-preserved c =
     let absent : list_any (λ (y : ℕ). eqb y file.server) at.servers.items ≡ false = search rules in (
       subst (AreNamed (take (at.word-index + 1) words)) (sym mapped)
           (named_more words (map server_of at.files.items) at.word-index word file.server within (get_or_default words at.word-index _ word within) at.invariant.0 names),
-      one ∙ ap (λ (ss : List ℕ). ss ++ file.server ∷ []) at.invariant.1.0 ∙ sym mapped,
-      subst (IsDistinct eqb) (sym one) (IsDistinct-push nat_eq_equiv at.servers.items file.server at.invariant.1.1 (flipped at.servers.items file.server absent)),
+      one ∙ ap (λ (ss : List ℕ). ss ++ file.server ∷ []) at.invariant.1 ∙ sym mapped,
+      subst (IsDistinct eqb) (sym one) (IsDistinct-push nat_eq_equiv at.servers.items file.server at.invariant.2 (flipped at.servers.items file.server absent)),
     )
