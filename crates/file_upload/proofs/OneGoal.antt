@@ -60,6 +60,7 @@ goals_are_one file secret p shape =
       cap = verify_cap_of (ciphertext_encoding g key ciphertext).cap;
       digests = map share_digest (ciphertext_encoding g key ciphertext).shares;
       share_length = sym (ap length here ∙ length-share g s are) i;
+      ahead = 1;
     }
 
 -- the same of shares that are made anew
@@ -78,4 +79,5 @@ remade_goals_are_one cap block u text is =
       cap = cap;
       digests = map share_digest (padded_shares g text block);
       share_length = (long ∙ sym (ap length here ∙ length-share g s are)) i;
+      ahead = 1;
     }

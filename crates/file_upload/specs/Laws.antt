@@ -17,4 +17,5 @@ GoalsAreOne = (file secret : List ℕ) (p : Parameters)
       cap = verify_cap_of encoding.cap;
       digests = map share_digest encoding.shares;
       share_length = length_of encoding.shares;
+      ahead = 1;
     }

@@ -12,6 +12,7 @@ goal_of kept = record {
   cap = verify_cap_of kept.cap;
   digests = kept.digests;
   share_length = share_length kept;
+  ahead = 1;
 }
 
 -- the upload of what is kept, of which so many servers are to hold a share of their own

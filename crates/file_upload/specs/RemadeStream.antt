@@ -51,6 +51,7 @@ remade_goal remade = record {
   cap = remade.cap;
   digests = remade.kept.digests;
   share_length = kept_length remade.kept;
+  ahead = 1;
 }
 
 -- the upload of what is kept, of which so many servers are to hold a share of their own
@@ -66,4 +67,5 @@ RemadeGoalsAreOne = (cap : VerifyCapValue) (extension_block : List ℕ) (u : Con
       cap = cap;
       digests = map share_digest shares;
       share_length = length_of shares;
+      ahead = 1;
     }

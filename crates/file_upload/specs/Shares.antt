@@ -12,6 +12,7 @@ shares_goal cap shares = record {
   cap = cap;
   digests = map share_digest shares;
   share_length = length_of shares;
+  ahead = 1;
 }
 
 -- the upload of a cap's shares, of which so many servers are to hold one of their own

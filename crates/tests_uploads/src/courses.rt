@@ -37,13 +37,14 @@ pub(crate) fn asked_by(body: &Body) -> Asked {
     }
 }
 
-// What goes between an upload and its servers: the first answer to the request that is named is
-// lost on its way.
+// What goes between an upload and its servers: the first request that is named as unheard is lost
+// on its way, and so is the first answer to the one that is named as lost.
 #[derive(Drop)]
 pub(crate) struct Course<'a> {
     pub(crate) grid: Vec<Server<MemoryStore>>,
     conducts: &'a [Conduct],
     pub(crate) lost: Option<Asked>,
+    pub(crate) unheard: Option<Asked>,
     sent: Vec<Sent>,
 }
 
@@ -53,8 +54,18 @@ impl<'a> Course<'a> {
             grid: servers(alloc, conducts)?,
             conducts,
             lost: None,
+            unheard: None,
             sent: Vec::new(alloc),
         })
+    }
+
+    // Is this the request that is lost? A second one is not.
+    fn is_unheard(&mut self, asked: Asked) -> bool {
+        let is_unheard = self.unheard == Some(asked);
+        if is_unheard {
+            self.unheard = None;
+        }
+        is_unheard
     }
 
     // Is this the request whose answer is lost? A second one is not.
@@ -76,6 +87,9 @@ impl<'a> Course<'a> {
         };
         let asked = asked_by(&request.body);
         self.sent.push((now, node, asked)).ok()?;
+        if self.is_unheard(asked) {
+            return Some(now);
+        }
         if let Some(message) = answer(&mut self.grid, self.conducts, node, &request, now) {
             if !self.loses(asked) {
                 upload.on_message(node, message, now).ok()?;

@@ -14,3 +14,5 @@ mod placement_tests;
 mod upload_core_tests;
 #[cfg(test)]
 mod upload_rounds_tests;
+#[cfg(test)]
+mod windows_tests;

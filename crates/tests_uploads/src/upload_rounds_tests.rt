@@ -24,7 +24,7 @@ use upload_core::status::{ServerInfo, UploadGoal, UploadStatus};
 use upload_core::{ReadyUpload, Upload};
 use wire::message::{NodeId, ShareId, ShareLength};
 
-const ONE: [ServerInfo; 1] = [ServerInfo {
+pub(crate) const ONE: [ServerInfo; 1] = [ServerInfo {
     node: 0,
     id: ServerId([0; 20]),
 }];

@@ -1,15 +1,16 @@
 -- How many requests wait, as the record goes on.
 use Rattle.std.proofs.Common.{◌≡◌, ℕ, zero, suc, ◌+◌, Bool, true, false, cond, List, [], ◌∷◌, Option, Some, None, length, map, refl, sym, ap, ◌∙◌, arith, true≢false}
 use Rattle.std.specs.Prelude.{max, slice_get}
-use Rattle.request_record.proofs.StepLaws.{count_cons, waiting_one, all_quiet_ticked, uncounted}
+use Rattle.request_record.proofs.StepLaws.{count_cons, waiting_one, all_quiet_ticked}
 use Rattle.wire.specs.declared.message.Message.{Message}
 use Rattle.request_record.specs.declared.requests.Asked.TheVariants.{Allocation}
 use Rattle.request_record.specs.declared.requests.Request.{Request}
 use Rattle.request_record.specs.Record.{RequestsState, asked_all, asked_more, counts_at, first_request, is_outstanding, outstanding_count}
-use Rattle.request_record.specs.Asking.{after_message, after_tick}
+use Rattle.request_record.specs.Asking.{after_tick}
 use Rattle.request_record.proofs.RecordLaws.{count_push, counts_is}
 use Rattle.placement.specs.Matching.{Pair}
 use Rattle.upload_core.specs.Rounds.{IsSettled}
+use Rattle.upload_core.specs.Moves.{after_heard, heard, in_turn}
 
 -- room for each pair is waited for
 pub count_allocations : (len : ℕ) (pairs : List Pair) (r : RequestsState) → outstanding_count (asked_all (map (λ (pair : Pair). (pair.0, Allocation pair.1 len)) pairs) r).entries ≡ outstanding_count r.entries + length pairs
@@ -37,8 +38,11 @@ settled_none from m r settled (Some position) e =
     let a = counts_is from m r position e in
     absurd (true≢false (sym a.waits ∙ quiet_of r.entries settled position a.request a.there))
 
-pub message_settled : (from : ℕ) (m : Message) (now : ℕ) (r : RequestsState) → IsSettled r.entries → (after_message from m now r).entries ≡ r.entries
-message_settled from m now r settled = uncounted from m now r (settled_none from m r settled (counts_at from m r) refl)
+-- a message that a settled record hears moves the time alone
+pub message_settled : (from : ℕ) (m : Message) (now : ℕ) (r : RequestsState) → IsSettled r.entries → (after_heard from m now r).entries ≡ r.entries
+message_settled from m now r settled =
+    let none : counts_at from m r ≡ None = settled_none from m r settled (counts_at from m r) refl in
+    ap (λ (o : Option ℕ). (heard (in_turn r.entries o) from m now r).entries) none
 
 pub tick_settled : (now : ℕ) (r : RequestsState) → IsSettled r.entries → (after_tick now r).entries ≡ r.entries
 tick_settled now r settled = all_quiet_ticked (max r.clock now) r.entries settled

@@ -1,50 +1,50 @@
--- The ends of trails: what is answered or found lost is the last request of its trail.
-use Rattle.std.proofs.Common.{◌≡◌, ℕ, zero, suc, ◌+◌, ◌-◌, ◌<◌, ◌≤◌, inl, inr, Bool, true, false, cond, List, [], ◌∷◌, All, Contains, Some, length, map, take, max, get_or, eqb, refl, sym, ap, subst, ◌∙◌, arith, true≢false}
+-- What was answered or found lost, and what follows losses.
+use Rattle.std.proofs.Common.{◌≡◌, ℕ, suc, ◌+◌, ◌-◌, ◌<◌, ◌≤◌, inl, inr, Bool, true, false, cond, List, [], ◌∷◌, ◌++◌, All, Contains, Some, length, map, max, refl, sym, ap, subst, ◌∙◌, arith, true≢false}
 use Rattle.std.specs.Prelude.{slice_get, nat_le, option_map}
-use Rattle.std.specs.List.{AllByRecursion, IsDistinct}
-use Rattle.std.proofs.lemmas.Bool.{cases_lt, eq-eqb}
-use Rattle.std.proofs.lemmas.List.Elements.{All-contains, All-weaker, Contains-get_or}
+use Rattle.std.proofs.lemmas.List.Elements.{All-contains, All-head, All-tail, All-weaker, Contains-append_cases, Contains-append_right}
 use Rattle.std.proofs.lemmas.Option.{slice_get-map, slice_get_within}
 use Rattle.lemmas.proofs.Bools.{both}
 use Rattle.wire.specs.declared.message.Message.{Message}
 use Rattle.request_record.specs.declared.requests.Asked.{Asked}
+use Rattle.request_record.specs.declared.requests.Asked.TheVariants.{Holdings, Allocation, Writing, Closing, Reading, Aborting}
 use Rattle.request_record.specs.declared.requests.Outcome.TheVariants.{Answered, Lost}
 use Rattle.request_record.specs.declared.requests.Request.{Request}
 use Rattle.request_record.specs.Record.{RequestsState, asked_all, counts_at, is_lost_at, is_outstanding, is_resent_at, positions_from, resent_one, ticked_one, with_outcome}
 use Rattle.request_record.specs.Asking.{after_message, after_tick, lost_by_tick}
-use Rattle.placement.specs.Matching.{Pair}
-use Rattle.upload_core.specs.State.{Goal}
-use Rattle.upload_core.specs.Moves.{all_follow_ups, follow_ups_at}
-use Rattle.upload_core.specs.Course.{IsInside}
-use Rattle.upload_core.specs.Trails.{AreTrails, IsAbout, IsAtEnd, IsLostAt, share_of}
-use Rattle.upload_core.proofs.Follow.{follow_onward}
-use Rattle.upload_core.proofs.Lists.{all_of, contains_at, from_flat, get_either, get_front, get_mapped, taken_from}
 use Rattle.request_record.proofs.RecordLaws.{counts_is}
-use Rattle.placement.proofs.Best.{each_absent}
+use Rattle.request_record.proofs.StepLaws.{asked_joined}
 use Rattle.placement.proofs.Members.{Contains-nil, Contains-uncons}
+use Rattle.upload_core.specs.State.{Goal, UploadState, with_record}
+use Rattle.upload_core.specs.Transfers.{fails, given_up, has_failed}
+use Rattle.upload_core.specs.Course.{IsInside}
+use Rattle.upload_core.specs.Moves.{Stops, follow_ups_of, followed_all}
+use Rattle.upload_core.specs.Trails.{AreFailed, AreFollowed, AreTrails, HasFailed, IsAbout, IsFollowed, IsLostAt, IsPassed, IsWithin, is_abort, share_of}
+use Rattle.upload_core.proofs.Follow.{given_transfer, in_one, lost_given}
+use Rattle.upload_core.proofs.Lists.{all_of, contains_at, get_either, get_front, get_mapped}
 use Rattle.upload_core.proofs.Records.{Goes, about_was, was_goes}
-use Rattle.upload_core.proofs.Goes.{get_asked_all, message_goes, tick_goes}
-use Rattle.upload_core.proofs.Followed.{asked_after, entries_all, inside_at, message_there, new_of}
+use Rattle.upload_core.proofs.Goes.{get_asked_all, message_goes, stops_then, tick_goes}
+use Rattle.upload_core.proofs.Followed.{all_failed_goes, asked_from, entries_all, failed_more, followed_more, message_there, new_of, ticked_followed}
 
 -- what waited at a position and waits no more
-end_goes : (g : Goal) (es ns : List Request) → Goes es ns → AreTrails g es → (position : ℕ) (r n : Request) → slice_get es position ≡ Some r → is_outstanding r.outcome ≡ true → slice_get ns position ≡ Some n → is_outstanding n.outcome ≡ false → IsAtEnd ns position
-end_goes g es ns k trails position r n was waits there quiet = record {
+passed_goes : (g : Goal) (es ns : List Request) → Goes es ns → AreTrails g es → (position : ℕ) (r n : Request) → slice_get es position ≡ Some r → is_outstanding r.outcome ≡ true → slice_get ns position ≡ Some n → is_outstanding n.outcome ≡ false → IsPassed g ns position
+passed_goes g es ns k trails position r n was waits there quiet = record {
   request = n;
   there = there;
   quiet = quiet;
-  last = λ i q pair lt e about next.
+  behind = λ i q pair lt e about next unlike.
       let first = was_goes es ns k position n there in
       let second = was_goes es ns k i q e in
       let one : Some first.request ≡ Some r = sym first.there ∙ was in
       let same : first.request ≡ r = cc in
       let before = trails position i first.request second.request pair lt first.there second.there (about_was pair first.request n first.same about) (about_was pair second.request q second.same next) in
-      true≢false (sym waits ∙ ap (λ (x : Request). is_outstanding x.outcome) (sym same) ∙ before.quiet);
+      let within : IsWithin g first.request.asked second.request.asked = before.within (ap (λ (x : Request). is_outstanding x.outcome) same ∙ waits) in
+      subst (λ (x : Asked). IsWithin g x q.asked) (sym first.same.asked) (subst (IsWithin g first.request.asked) (sym second.same.asked) within);
 }
 
-pub answered_end : (g : Goal) (from : ℕ) (m : Message) (now : ℕ) (r : RequestsState) (position : ℕ) → counts_at from m r ≡ Some position → AreTrails g r.entries → IsAtEnd (after_message from m now r).entries position
-answered_end g from m now r position counts trails =
+pub answered_passed : (g : Goal) (from : ℕ) (m : Message) (now : ℕ) (r : RequestsState) (position : ℕ) → counts_at from m r ≡ Some position → AreTrails g r.entries → IsPassed g (after_message from m now r).entries position
+answered_passed g from m now r position counts trails =
     let a = counts_is from m r position counts in
-    end_goes g r.entries (after_message from m now r).entries (message_goes from m now r) trails position a.request (with_outcome a.request (Answered m.body)) a.there a.waits (message_there g from m now r position counts) refl
+    passed_goes g r.entries (after_message from m now r).entries (message_goes from m now r) trails position a.request (with_outcome a.request (Answered m.body)) a.there a.waits (message_there g from m now r position counts) refl
 
 -- ---- what is lost
 
@@ -72,18 +72,6 @@ position_from test first (r ∷ rs) p c = by (test r) refl c (λ d. position_beh
       | inr more ↦ later more
     ]
     by false e d later = later d
-
-positions_once : (test : Request → Bool) (first : ℕ) (rs : List Request) → IsDistinct eqb (positions_from test first rs)
-unfolding IsDistinct
-positions_once test first [] = tt
-positions_once test first (r ∷ rs) = by (test r) (positions_once test (first + 1) rs)
-  where
-    by : (b : Bool) → IsDistinct eqb (positions_from test (first + 1) rs) → IsDistinct eqb (cond b (first ∷ positions_from test (first + 1) rs) (positions_from test (first + 1) rs))
-    by true d = (each_absent first (positions_from test (first + 1) rs) (λ c. let w = position_from test (first + 1) rs first c in absurd (omega (arith, w.behind))), d)
-    by false d = d
-
-pub lost_once : (now : ℕ) (r : RequestsState) → IsDistinct eqb (lost_by_tick now r)
-lost_once now r = positions_once (is_lost_at (max r.clock now)) 0 r.entries
 
 lost_one : (now : ℕ) (r : Request) → is_lost_at now r ≡ true → ticked_one now r ≡ with_outcome r Lost
 lost_one now r e = by (is_lost_at now r) e
@@ -128,75 +116,147 @@ lost_are now r = all_of (IsLostAt (after_tick now r).entries) (lost_by_tick now 
 pub lost_within : (es : List Request) (positions : List ℕ) → All (IsLostAt es) positions → All (λ (p : ℕ). p < length es) positions
 lost_within es positions all = All-weaker (IsLostAt es) (λ (p : ℕ). p < length es) (λ p l. slice_get_within es p l.request l.there) positions all
 
--- and it is so while what follows others is asked
-pub lost_after : (g : Goal) (r : RequestsState) (lost : List ℕ) (i : ℕ) → i < length lost → All (IsLostAt r.entries) lost → IsLostAt (asked_all (all_follow_ups g r.entries (take i lost)) r).entries (get_or lost i 0)
-lost_after g r lost i lt all =
-    let l = all i 0 lt in
-    record { request = l.request; there = get_asked_all (all_follow_ups g r.entries (take i lost)) r (get_or lost i 0) (slice_get_within r.entries (get_or lost i 0) l.request l.there) ∙ l.there; lost = l.lost }
-
-pub lost_ends : (g : Goal) (now : ℕ) (r : RequestsState) → AreTrails g r.entries → All (IsAtEnd (after_tick now r).entries) (lost_by_tick now r)
-lost_ends g now r trails = all_of (IsAtEnd (after_tick now r).entries) (lost_by_tick now r) each
+pub lost_passed : (g : Goal) (now : ℕ) (r : RequestsState) → AreTrails g r.entries → All (IsPassed g (after_tick now r).entries) (lost_by_tick now r)
+lost_passed g now r trails = all_of (IsPassed g (after_tick now r).entries) (lost_by_tick now r) each
   where
-    each : (p : ℕ) → Contains (lost_by_tick now r) p → IsAtEnd (after_tick now r).entries p
+    each : (p : ℕ) → Contains (lost_by_tick now r) p → IsPassed g (after_tick now r).entries p
     each p c =
         let w = was_lost now r p c in
-        end_goes g r.entries (after_tick now r).entries (tick_goes now r) trails p w.request (with_outcome w.request Lost) w.there w.waited w.after refl
+        passed_goes g r.entries (after_tick now r).entries (tick_goes now r) trails p w.request (with_outcome w.request Lost) w.there w.waited w.after refl
 
--- ---- one of several is followed up
+-- ---- what follows losses
 
-taken_apart : (xs : List ℕ) (i : ℕ) → IsDistinct eqb xs → i < length xs → (q : ℕ) → Contains (take i xs) q → q ≡ get_or xs i 0 → ⊥
-unfolding IsDistinct
-taken_apart [] i d lt q c e = absurd (omega (arith, lt))
-taken_apart (x ∷ xs) zero d lt q c e = absurd (Contains-nil q c)
-taken_apart (x ∷ xs) (suc i) d lt q c e = elim (Contains-uncons x (take i xs) q c) [
-  | inl same ↦ (
-      let there : Contains xs (get_or xs i 0) = Contains-get_or xs i 0 (omega (arith, lt)) in
-      absurd (true≢false (sym (eq-eqb x (get_or xs i 0) (same ∙ e)) ∙ absent_at x xs d.0 (get_or xs i 0) there)))
-  | inr more ↦ taken_apart xs i d.1 (omega (arith, lt)) q more e
-]
-  where
-    absent_at : (y : ℕ) (ys : List ℕ) → AllByRecursion (λ z. eqb y z ≡ false) ys → (z : ℕ) → Contains ys z → eqb y z ≡ false
-    absent_at y [] all z k = absurd (Contains-nil z k)
-    absent_at y (w ∷ ws) all z k = elim (Contains-uncons w ws z k) [ inl is ↦ subst (λ (v : ℕ). eqb y v ≡ false) is all.0 | inr m ↦ absent_at y ws all.1 z m ]
+-- what is asked of a server gives up a transfer, of which the request at one of these positions was
+-- lost
+pub record IsAfterLoss (es : List Request) (positions : List ℕ) (ask : ℕ × Asked) : Type 0 where
+  pub position : ℕ
+  pub among : Contains positions position
+  pub request : Request
+  pub there : slice_get es position ≡ Some request
+  pub lost : request.outcome ≡ Lost
+  pub server : request.server ≡ ask.0
+  pub given : Contains (given_up request.asked) ask.1
 
-module _ (g : Goal) (r : RequestsState) (lost : List ℕ) (i : ℕ) (lt : i < length lost) (once : IsDistinct eqb lost) (inside : All (λ (q : Request). IsInside g q.asked) r.entries) (ends : All (IsAtEnd r.entries) lost) where
-  abbrev p : ℕ
-  p = get_or lost i 0
+-- so is all that follows losses
+pub record Adds (g : Goal) (positions : List ℕ) (r new : RequestsState) : Type 0 where
+  pub asks : List (ℕ × Asked)
+  pub is : new ≡ asked_all asks r
+  pub each : (ask : ℕ × Asked) → Contains asks ask → IsAfterLoss r.entries positions ask
 
-  abbrev asks : List (ℕ × Asked)
-  asks = all_follow_ups g r.entries (take i lost)
+lost_front : (r : RequestsState) (asks : List (ℕ × Asked)) (p : ℕ) → IsLostAt r.entries p → IsLostAt (asked_all asks r).entries p
+lost_front r asks p l = record { request = l.request; there = get_asked_all asks r p (slice_get_within r.entries p l.request l.there) ∙ l.there; lost = l.lost }
 
-  end : IsAtEnd r.entries p
-  end = ends i 0 lt
+pub losses_add : (g : Goal) (positions : List ℕ) (r : RequestsState) → All (IsLostAt r.entries) positions → Adds g positions r (followed_all g positions r)
+losses_add g [] r all = record { asks = []; is = refl; each = λ ask c. absurd (Contains-nil ask c) }
+losses_add g (p ∷ ps) r all =
+    let l : IsLostAt r.entries p = All-head (IsLostAt r.entries) p ps all in
+    let first : List (ℕ × Asked) = follow_ups_of g r.entries (slice_get r.entries p) in
+    let mid : RequestsState = asked_all first r in
+    let others : All (IsLostAt r.entries) ps = All-tail (IsLostAt r.entries) p ps all in
+    let rest = losses_add g ps mid (All-weaker (IsLostAt r.entries) (IsLostAt mid.entries) (lost_front r first) ps others) in
+    record {
+      asks = first ++ rest.asks;
+      is = rest.is ∙ sym (asked_joined first rest.asks r);
+      each = λ ask c. elim (Contains-append_cases first rest.asks ask c) [
+        | inl here ↦ (
+            let by = asked_from g r.entries (slice_get r.entries p) ask here in
+            let one : Some by.0 ≡ Some l.request = sym by.1 ∙ l.there in
+            let same : by.0 ≡ l.request = cc in
+            let lost : by.0.outcome ≡ Lost = ap (λ (q : Request). q.outcome) same ∙ l.lost in
+            record { position = p; among = (0, omega arith, refl); request = by.0; there = by.1; lost = lost; server = by.3; given = lost_given g r.entries by.0 ask.1 lost by.2 })
+        | inr there ↦ (
+            let w = rest.each ask there in
+            let k : IsLostAt r.entries w.position = All-contains (IsLostAt r.entries) ps w.position others w.among in
+            let at : slice_get r.entries w.position ≡ Some w.request = sym (get_asked_all first r w.position (slice_get_within r.entries w.position k.request k.there)) ∙ w.there in
+            record { position = w.position; among = Contains-append_right (p ∷ []) ps w.position w.among; request = w.request; there = at; lost = w.lost; server = w.server; given = w.given })
+      ];
+    }
 
-  -- what follows another is no request of the trail
-  others : (k : ℕ) (q : Request) (pair : Pair) → slice_get (map (new_of r.clock) asks) k ≡ Some q → IsAbout pair end.request → IsAbout pair q → ⊥
-  others k q pair e about next =
-      let n = get_mapped (new_of r.clock) asks k q e in
-      let f = from_flat (λ (x : ℕ). follow_ups_at g (slice_get r.entries x)) (take i lost) n.0 (contains_at asks k n.0 n.1) in
-      let by = asked_after g (slice_get r.entries f.0) n.0 f.2 in
-      let within : IsInside g by.0.asked = inside_at g r.entries f.0 by.0 inside by.1 in
-      let share : share_of n.0.1 ≡ share_of by.0.asked = (follow_onward g by.0 n.0.1 within by.2).same in
-      let about-new : IsAbout pair (new_of r.clock n.0) = subst (IsAbout pair) (sym n.2) next in
-      let here : IsAbout pair by.0 = (by.3 ∙ about-new.0, sym share ∙ about-new.1) in
-      let first : IsAtEnd r.entries f.0 = All-contains (IsAtEnd r.entries) lost f.0 ends (taken_from i lost f.0 f.1) in
-      let one : Some first.request ≡ Some by.0 = sym first.there ∙ by.1 in
-      let same : first.request ≡ by.0 = cc in
-      elim (cases_lt f.0 p) [
-        | inl less ↦ first.last p end.request pair less end.there (subst (IsAbout pair) (sym same) here) about
-        | inr le ↦ (elim (cases_lt p f.0) [
-          | inl more ↦ end.last f.0 by.0 pair more by.1 about here
-          | inr ge ↦ taken_apart lost i once lt f.0 f.1 (let is : f.0 ≡ p = omega (arith, le, ge) in is)
-        ])
-      ]
+given_abort : (a x : Asked) → Contains (given_up a) x → is_abort x ≡ true
+given_abort Holdings x c = absurd (Contains-nil x c)
+given_abort (Allocation share len) x c = absurd (Contains-nil x c)
+given_abort (Writing share offset len) x c = ap is_abort (sym (in_one (Aborting share) x c))
+given_abort (Closing share) x c = ap is_abort (sym (in_one (Aborting share) x c))
+given_abort (Reading share offset len) x c = absurd (Contains-nil x c)
+given_abort (Aborting share) x c = absurd (Contains-nil x c)
 
-  pub end_after : IsAtEnd (asked_all asks r).entries p
-  end_after = subst (λ (es : List Request). IsAtEnd es p) (sym (entries_all asks r)) (record {
-    request = end.request;
-    there = get_front r.entries (map (new_of r.clock) asks) p end.request end.there;
-    quiet = end.quiet;
-    last = λ j q pair behind e about next. elim (get_either r.entries (map (new_of r.clock) asks) j q e) [
-      | inl front ↦ end.last j q pair behind front about next
-      | inr new ↦ others new.0 q pair new.1 about next
+-- what waits no more is so while what follows losses is asked
+module _ (g : Goal) (positions : List ℕ) (r : RequestsState) (lost : All (IsLostAt r.entries) positions) (p : ℕ) where
+  abbrev more : Adds g positions r (followed_all g positions r)
+  more = losses_add g positions r lost
+
+  abbrev next : List Request
+  next = map (new_of r.clock) more.asks
+
+  entries_are : (followed_all g positions r).entries ≡ r.entries ++ next
+  entries_are = ap (λ (q : RequestsState). q.entries) more.is ∙ entries_all more.asks r
+
+  pub lost_after : IsLostAt r.entries p → IsLostAt (followed_all g positions r).entries p
+  lost_after l = subst (λ (q : RequestsState). IsLostAt q.entries p) (sym more.is) (lost_front r more.asks p l)
+
+  pub passed_after : IsPassed g r.entries p → IsPassed g (followed_all g positions r).entries p
+  passed_after w = subst (λ (es : List Request). IsPassed g es p) (sym entries_are) (record {
+    request = w.request;
+    there = get_front r.entries next p w.request w.there;
+    quiet = w.quiet;
+    behind = λ i q pair lt e about same unlike. elim (get_either r.entries next i q e) [
+      | inl front ↦ w.behind i q pair lt front about same unlike
+      | inr back ↦ (
+          let n = get_mapped (new_of r.clock) more.asks back.0 q back.1 in
+          let a = more.each n.0 (contains_at more.asks back.0 n.0 n.1) in
+          let abort : is_abort q.asked ≡ true = ap (λ (x : Request). is_abort x.asked) (sym n.2) ∙ given_abort a.request.asked n.0.1 a.given in
+          absurd (true≢false (sym abort ∙ unlike)))
     ];
   })
+
+given_share : (a x : Asked) → Contains (given_up a) x → share_of x ≡ share_of a
+given_share Holdings x c = absurd (Contains-nil x c)
+given_share (Allocation share len) x c = absurd (Contains-nil x c)
+given_share (Writing share offset len) x c = ap share_of (sym (in_one (Aborting share) x c))
+given_share (Closing share) x c = ap share_of (sym (in_one (Aborting share) x c))
+given_share (Reading share offset len) x c = absurd (Contains-nil x c)
+given_share (Aborting share) x c = absurd (Contains-nil x c)
+
+-- what became of each transfer, after a tick
+module _ (g : Goal) (now : ℕ) (r : RequestsState) (inside : All (λ (q : Request). IsInside g q.asked) r.entries) (positions : List ℕ) (lost : All (IsLostAt (after_tick now r).entries) positions) where
+  abbrev after : RequestsState
+  after = after_tick now r
+
+  abbrev losses : Adds g positions after (followed_all g positions after)
+  losses = losses_add g positions after lost
+
+  abbrev asked : List Request
+  asked = map (new_of after.clock) losses.asks
+
+  parts : (followed_all g positions after).entries ≡ after.entries ++ asked
+  parts = ap (λ (q : RequestsState). q.entries) losses.is ∙ entries_all losses.asks after
+
+  pub followed_tick : AreFollowed g r.entries → AreFollowed g (followed_all g positions after).entries
+  followed_tick followed i q pair e about =
+      subst (λ (es : List Request). IsFollowed g es pair) (sym parts) (followed_more g after.entries asked pair
+      (elim (get_either after.entries asked i q (sym (ap (λ (es : List Request). slice_get es i) parts) ∙ e)) [
+        | inl front ↦ ticked_followed g now r inside followed i q pair front about
+        | inr back ↦ (
+            let n = get_mapped (new_of after.clock) losses.asks back.0 q back.1 in
+            let a = losses.each n.0 (contains_at losses.asks back.0 n.0 n.1) in
+            let about-new : IsAbout pair (new_of after.clock n.0) = subst (IsAbout pair) (sym n.2) about in
+            ticked_followed g now r inside followed a.position a.request pair a.there (a.server ∙ about-new.0, sym (given_share a.request.asked n.0.1 a.given) ∙ about-new.1))
+      ]))
+
+  pub failed_tick : AreFailed g r.entries → AreFailed g (followed_all g positions after).entries
+  failed_tick failed i q e abort =
+      subst (λ (es : List Request). HasFailed g es q.server) (sym parts)
+      (elim (get_either after.entries asked i q (sym (ap (λ (es : List Request). slice_get es i) parts) ∙ e)) [
+        | inl front ↦ failed_more g after.entries asked q.server (all_failed_goes g r.entries after.entries (tick_goes now r) failed i q front abort)
+        | inr back ↦ (
+            let n = get_mapped (new_of after.clock) losses.asks back.0 q back.1 in
+            let a = losses.each n.0 (contains_at losses.asks back.0 n.0 n.1) in
+            let so : has_failed g a.request ≡ true = ap (fails g a.request.asked) a.lost ∙ given_transfer g a.request.asked n.0.1 a.given in
+            record { position = a.position; request = a.request; there = get_front after.entries asked a.position a.request a.there; server_is = a.server ∙ ap (λ (x : Request). x.server) n.2; failed = so })
+      ])
+
+-- a step that found no memory, after some of what follows losses
+pub losses_stop : (v : UploadState) (r : RequestsState) (positions : List ℕ) (mid new : UploadState) → All (IsLostAt r.entries) positions → mid ≡ with_record v (followed_all v.goal positions r) → Stops mid.requests mid new → Stops r v new
+losses_stop v r positions mid new lost is stops =
+    let add = losses_add v.goal positions r lost in
+    stops_then v r add.asks mid new (is ∙ ap (with_record v) add.is) stops

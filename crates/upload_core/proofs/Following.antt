@@ -6,13 +6,13 @@ use Rattle.wire.specs.declared.message.Message.{Message}
 use Rattle.request_record.specs.declared.requests.Asked.{Asked}
 use Rattle.request_record.specs.Asking.{after_message, after_tick, lost_by_tick}
 use Rattle.request_record.specs.Follow.{Follows, IsSaid, Nothing, Said}
-use Rattle.request_record.specs.Record.{RequestsState, asked_all, counts_at}
+use Rattle.request_record.specs.Record.{RequestsState, asked_all, at}
 use Rattle.request_record.proofs.FollowLaws.{follows_asks, follows_itself, follows_message, follows_on, follows_same, follows_tick}
 use Rattle.upload_core.specs.declared.pieces.PieceFault.{PieceFault}
 use Rattle.upload_core.specs.declared.pieces.PieceFault.TheVariants.{OutOfMemory}
 use Rattle.upload_core.specs.declared.status.UploadStatus.TheVariants.{Failed}
-use Rattle.upload_core.specs.State.{UploadState, with_record}
-use Rattle.upload_core.specs.Moves.{Advances, AdvancesAt, FailsAt, GoesOn, Stops, StopsAt, TicksOn, TicksWith, all_follow_ups, at_once, ends, follow_ups_at, later, positions, waits}
+use Rattle.upload_core.specs.State.{Goal, UploadState, with_record}
+use Rattle.upload_core.specs.Moves.{Advances, AdvancesAt, FailsAt, GoesOn, Stops, StopsAt, TicksOn, TicksWith, after_heard, at_once, ends, follow_ups_of, followed_all, followed_at, heard, heard_at, later, positions, waits}
 use Rattle.upload_core.specs.Rounds.{transfers_of}
 use Rattle.upload_core.specs.Sending.{Takes, Uploading, ceases, nothing, sends}
 use Rattle.upload_core.proofs.Stands.{is_running}
@@ -46,14 +46,15 @@ placed New old new r f (ends status settled over so is) = subst (Continues New o
 answered : (New : Said) (old new : UploadState) (o : Option ℕ) (r : RequestsState) → Follows New old.requests r → AdvancesAt o r old new → Continues New old new
 answered New old new None r f a = recorded New old new r a f
 answered New old new (Some position) r f a =
-    let asks : List (ℕ × Asked) = follow_ups_at old.goal (slice_get r.entries position) in
-    placed New old new (asked_all asks r) (asks_more New old.requests r asks f) a
+    placed New old new (followed_at old.goal position r) (asks_more New old.requests r (follow_ups_of old.goal r.entries (slice_get r.entries position)) f) a
+
+followed_continue : (New : Said) (g : Goal) (positions : List ℕ) (old r : RequestsState) → Follows New old r → Follows New old (followed_all g positions r)
+followed_continue New g [] old r f = f
+followed_continue New g (p ∷ ps) old r f = followed_continue New g ps old (followed_at g p r) (asks_more New old r (follow_ups_of g r.entries (slice_get r.entries p)) f)
 
 lost : (New : Said) (old new : UploadState) (positions : List ℕ) (r : RequestsState) → Follows New old.requests r → TicksWith positions r old new → Continues New old new
 lost New old new [] r f a = recorded New old new r a f
-lost New old new (q ∷ qs) r f a =
-    let asks : List (ℕ × Asked) = all_follow_ups old.goal r.entries (q ∷ qs) in
-    placed New old new (asked_all asks r) (asks_more New old.requests r asks f) a
+lost New old new (q ∷ qs) r f a = placed New old new (followed_all old.goal (q ∷ qs) r) (followed_continue New old.goal (q ∷ qs) old.requests r f) a
 
 -- a step that found no memory
 pub stops_continue : (New : Said) (r : RequestsState) (old new : UploadState) → Follows New old.requests r → Stops r old new → Continues New old new
@@ -71,10 +72,14 @@ failed_continue New (Err x) old mid new g e n = subst (Continues New old) (sym n
 -- ---- a message
 
 module _ (from : ℕ) (m : Message) (now : ℕ) (old new : UploadState) where
+  heard_follows : (o : Option ℕ) → Follows (IsSaid from m old.requests.session) old.requests (heard o from m now old.requests)
+  heard_follows None = follows_same (IsSaid from m old.requests.session) old.requests (at now old.requests) refl refl
+  heard_follows (Some position) = follows_message from now m old.requests
+
   pub advances_continue : Advances from m now old new → Continues (IsSaid from m old.requests.session) old new
   advances_continue a = elim (is_running old.status) [
-    | inl running ↦ answered (IsSaid from m old.requests.session) old new (counts_at from m old.requests) (after_message from m now old.requests) (follows_message from now m old.requests) (a.running running)
-    | inr over ↦ recorded (IsSaid from m old.requests.session) old new (after_message from m now old.requests) (a.ended over) (follows_message from now m old.requests)
+    | inl running ↦ answered (IsSaid from m old.requests.session) old new (heard_at from m old.requests) (after_heard from m now old.requests) (heard_follows (heard_at from m old.requests)) (a.running running)
+    | inr over ↦ recorded (IsSaid from m old.requests.session) old new (after_heard from m now old.requests) (a.ended over) (heard_follows (heard_at from m old.requests))
   ]
 
   -- whatever came of the call

@@ -1,16 +1,15 @@
 -- How an upload goes on from its record.
 use Rattle.std.proofs.Common.{◌≡◌, ◌≢◌, ℕ, zero, suc, ◌+◌, ◌<◌, ◌≤◌, inl, inr, Bool, true, false, ◌&&◌, List, [], ◌∷◌, ◌++◌, All, Option, Some, None, Result, Ok, Err, length, take, map, get_or, eqb, nat_lt, IsPermutation, refl, sym, ap, subst, ◌∙◌, arith, true≢false}
-use Rattle.std.specs.Prelude.{IfSome, MatchOption, max, slice_get}
+use Rattle.std.specs.Prelude.{max, slice_get}
 use Rattle.std.specs.Result.{IfOk}
 use Rattle.std.specs.List.{AllByRecursion, IsDistinct, range_with_len}
 use Rattle.std.specs.Cmp.{nat_eq_equiv}
-use Rattle.std.proofs.lemmas.Grind.{flat_map-append}
 use Rattle.std.proofs.lemmas.List.Sorted.{IsPermutation-map}
 use Rattle.std.proofs.lemmas.Map.Keys.{IsDistinct-IsPermutation}
 use Rattle.std.proofs.lemmas.Bool.{cases_lt, eq-eqb, ltb-true, ltb-false}
 use Rattle.std.proofs.lemmas.List.{append-nil, append_assoc, length-append, length-map, map-append, take_more}
 use Rattle.std.proofs.lemmas.List.Elements.{All-cons, All-head, All-nil, All-tail, All-take}
-use Rattle.std.proofs.lemmas.Option.{slice_get-get_or, slice_get_within}
+use Rattle.std.proofs.lemmas.Option.{slice_get_within}
 use Rattle.lemmas.proofs.Positions.{get_last, get_push}
 use Rattle.request_record.proofs.StepLaws.{asked_joined, sent_entries}
 use Rattle.lemmas.proofs.Bools.{both}
@@ -27,79 +26,11 @@ use Rattle.placement.specs.Plan.{IsPlan}
 use Rattle.upload_core.specs.declared.status.ServerInfo.{ServerInfo}
 use Rattle.upload_core.specs.State.{Goal, UploadState, with_record}
 use Rattle.upload_core.specs.Acknowledged.{acked_pairs}
-use Rattle.upload_core.specs.Transfers.{follow_up}
 use Rattle.upload_core.specs.Rounds.{IsToPlace, has_failed_since}
-use Rattle.upload_core.specs.Moves.{AreInOrder, GoesOn, Stops, TicksWith, all_follow_ups, asks_after, ends, follow_ups_at, positions, waits}
-use Rattle.upload_core.specs.Course.{IsCourse, IsInside, IsOfTold, IsWaitedFor, MayPlace, allocations, asked_servers, is_holdings}
-use Rattle.upload_core.specs.Trails.{AreFollowed, AreTrails, IsAbout, IsAtEnd, IsBefore, IsNew, rank_of, share_of}
-use Rattle.upload_core.proofs.Follow.{IsOnward, follow_none, follow_onward}
+use Rattle.upload_core.specs.Moves.{AreInOrder, GoesOn, Stops, TicksWith, ends, followed_all, followed_at, positions, waits}
+use Rattle.upload_core.specs.Course.{IsCourse, IsInside, IsOfTold, IsWaitedFor, MayPlace, allocations, asked_servers}
+use Rattle.upload_core.specs.Trails.{AreFailed, AreFollowed, AreTrails, IsAbout, IsNew, is_abort, share_of}
 use Rattle.upload_core.proofs.Records.{Goes, MayAsk, course_asked, course_goes, told_push, goes_refl, goes_settled, goes_ticked}
-
-holdings_is : (a : Asked) → is_holdings a ≡ true → a ≡ Holdings
-holdings_is Holdings h = refl
-holdings_is (Allocation share len) h = absurd (true≢false (sym h))
-holdings_is (Writing share offset len) h = absurd (true≢false (sym h))
-holdings_is (Closing share) h = absurd (true≢false (sym h))
-holdings_is (Reading share offset len) h = absurd (true≢false (sym h))
-holdings_is (Aborting share) h = absurd (true≢false (sym h))
-
--- ---- what follows a request
-
-module _ (u : UploadState) (position : ℕ) (r : Request) (is : r ≡ get_or u.requests.entries position r) (lt : position < length u.requests.entries) where
-  there : slice_get u.requests.entries position ≡ Some r
-  there = slice_get-get_or u.requests.entries position r lt ∙ ap Some (sym is)
-
-  onward : (asked : Asked) → IsCourse u → follow_up u.goal r ≡ Some asked → IsOnward u.goal r.asked asked
-  onward asked c e = follow_onward u.goal r asked (subst (λ (q : Request). IsInside u.goal q.asked) (sym is) (c.inside position r lt)) e
-
-  pub may_follow : (asked : Asked) → IsCourse u → IsAtEnd u.requests.entries position → follow_up u.goal r ≡ Some asked → MayAsk u (r.server, asked)
-  may_follow asked c end e =
-      let of-told : IsOfTold u.requests.entries r = subst (IsOfTold u.requests.entries) (sym is) (c.of_told position r lt) in
-      let on = onward asked c e in
-      record {
-        good = on.good;
-        told = elim of-told [
-          | inl h ↦ absurd (follow_none u.goal r asked (holdings_is r.asked h) e)
-          | inr t ↦ t
-        ];
-        further = λ i a share first about has. further i a share c end on first about (sym on.same ∙ has);
-      }
-    where
-      further : (i : ℕ) (a : Request) (share : ℕ) → IsCourse u → IsAtEnd u.requests.entries position → IsOnward u.goal r.asked asked → slice_get u.requests.entries i ≡ Some a → IsAbout (r.server, share) a → share_of r.asked ≡ Some share → IsBefore u.goal a asked
-      further i a share c end on first about has =
-          let one : Some end.request ≡ Some r = sym end.there ∙ there in
-          let same : end.request ≡ r = cc in
-          elim (cases_lt i position) [
-            | inl before ↦ (let b = c.trails i position a r (r.server, share) before first there about (refl, has) in record { quiet = b.quiet; further = omega (arith, b.further, on.further) })
-            | inr le ↦ (elim (cases_lt position i) [
-              | inl behind ↦ absurd (end.last i a (r.server, share) behind first (ap (λ (q : Request). q.server) same, ap (λ (q : Request). share_of q.asked) same ∙ has) about)
-              | inr ge ↦ (
-                  let at : i ≡ position = omega (arith, le, ge) in
-                  let two : Some a ≡ Some end.request = sym first ∙ ap (slice_get u.requests.entries) at ∙ end.there in
-                  let is-end : a ≡ end.request = cc in
-                  let is-r : a ≡ r = is-end ∙ same in
-                  record { quiet = ap (λ (q : Request). is_outstanding q.outcome) is-end ∙ end.quiet; further = subst (λ (q : Request). rank_of u.goal q.asked < rank_of u.goal asked) (sym is-r) on.further })
-            ])
-          ]
-
-  pub follows : (o : Option Asked) → follow_up u.goal r ≡ o → follow_ups_at u.goal (slice_get u.requests.entries position) ≡ asks_after r o
-  follows o e = ap (follow_ups_at u.goal) there ∙ ap (asks_after r) e
-
-  pub follow_asks : (asked : Asked) (new : RequestsState) → follow_up u.goal r ≡ Some asked → new ≡ asked_more r.server asked u.requests → with_record u new ≡ with_record u (asked_all (follow_ups_at u.goal (slice_get u.requests.entries position)) u.requests)
-  follow_asks asked new e n = ap (with_record u) (n ∙ sym (ap (λ (asks : List (ℕ × Asked)). asked_all asks u.requests) (follows (Some asked) e)))
-
-  pub follow_nothing : follow_up u.goal r ≡ None → u ≡ with_record u (asked_all (follow_ups_at u.goal (slice_get u.requests.entries position)) u.requests)
-  follow_nothing e = ap (with_record u) (sym (ap (λ (asks : List (ℕ × Asked)). asked_all asks u.requests) (follows None e)))
-
-  -- what follows may be asked
-  pub next_may : (next : Option Asked) → next ≡ follow_up u.goal r → IsCourse u → IsAtEnd u.requests.entries position → IfSome next (λ asked. IsCourse (with_record u (asked_more r.server asked u.requests)))
-  next_may None e c end = tt
-  next_may (Some asked) e c end = course_asked u (r.server, asked) (may_follow asked c end (sym e)) c
-
-  pub next_follows : (next : Option Asked) (new : UploadState) → next ≡ follow_up u.goal r → MatchOption next (new ≡ u) (λ asked. new ≡ with_record u (asked_more r.server asked u.requests))
-      → new ≡ with_record u (asked_all (follow_ups_at u.goal (slice_get u.requests.entries position)) u.requests)
-  next_follows None new e n = n ∙ follow_nothing (sym e)
-  next_follows (Some asked) new e n = n ∙ follow_asks asked (asked_more r.server asked u.requests) (sym e) refl
 
 -- ---- the record
 
@@ -228,7 +159,7 @@ pub round_course : (u : UploadState) (pairs : List Pair) (k round : ℕ) (new : 
 round_course u pairs k round new le e may once c =
     let asks : List (ℕ × Asked) = allocations u.goal.share_length (take k pairs) in
     let t : IsCourse (with_record u new) = subst (λ (r : RequestsState). IsCourse (with_record u r)) (sym e) (course_pairs u (take k pairs) (All-take (MayPlace u) k pairs may) (distinct_front k pairs once) c) in
-    record { few = t.few; distinct = t.distinct; inside = t.inside; of_told = t.of_told; waited = t.waited; trails = t.trails; begun = omega (arith, le, length_asked asks u.requests, ap (λ (r : RequestsState). length r.entries) e) }
+    record { few = t.few; some = t.some; long = t.long; distinct = t.distinct; inside = t.inside; of_told = t.of_told; waited = t.waited; trails = t.trails; begun = omega (arith, le, length_asked asks u.requests, ap (λ (r : RequestsState). length r.entries) e) }
 
 pub plan_at : (ro ro2 w w2 : List ℕ) (held held2 : List Pair) (n n2 : ℕ) (m1 m2 m3 left : List Pair) (un : List ℕ) → ro ≡ ro2 → w ≡ w2 → held ≡ held2 → n ≡ n2 → IsPlan ro w held n m1 m2 m3 left un → IsPlan ro2 w2 held2 n2 m1 m2 m3 left un
 plan_at ro ro2 w w2 held held2 n n2 m1 m2 m3 left un a b c d p =
@@ -266,19 +197,13 @@ get_asked_all (ask ∷ asks) r p lt =
     let more : p < length new.entries = omega (arith, lt, length-append r.entries (first_request ask.0 ask.1 r.clock ∷ [])) in
     get_asked_all asks new p more ∙ get_push r.entries (first_request ask.0 ask.1 r.clock) p lt
 
+pub followed_joined : (g : Goal) (xs ys : List ℕ) (r : RequestsState) → followed_all g (xs ++ ys) r ≡ followed_all g ys (followed_all g xs r)
+followed_joined g [] ys r = refl
+followed_joined g (x ∷ xs) ys r = followed_joined g xs ys (followed_at g x r)
+
 -- one more of the lost requests is followed up
-pub follow_more : (g : Goal) (r : RequestsState) (lost : List ℕ) (i : ℕ) → i < length lost → All (λ (p : ℕ). p < length r.entries) lost
-    → asked_all (follow_ups_at g (slice_get (asked_all (all_follow_ups g r.entries (take i lost)) r).entries (get_or lost i 0))) (asked_all (all_follow_ups g r.entries (take i lost)) r)
-    ≡ asked_all (all_follow_ups g r.entries (take (i + 1) lost)) r
-follow_more g r lost i lt there =
-    let f : ℕ → List (ℕ × Asked) = λ (p : ℕ). follow_ups_at g (slice_get r.entries p) in
-    let before : List (ℕ × Asked) = all_follow_ups g r.entries (take i lost) in
-    let p : ℕ = get_or lost i 0 in
-    let old : slice_get (asked_all before r).entries p ≡ slice_get r.entries p = get_asked_all before r p (there i 0 lt) in
-    let split : all_follow_ups g r.entries (take (i + 1) lost) ≡ before ++ f p = ap (all_follow_ups g r.entries) (take_more lost i 0 lt) ∙ flat_map-append f (take i lost) (p ∷ []) ∙ ap (λ (l : List (ℕ × Asked)). before ++ l) (append-nil (f p)) in
-    ap (λ (o : Option Request). asked_all (follow_ups_at g o) (asked_all before r)) old
-    ∙ sym (asked_joined before (f p) r)
-    ∙ ap (λ (asks : List (ℕ × Asked)). asked_all asks r) (sym split)
+pub follow_more : (g : Goal) (r : RequestsState) (lost : List ℕ) (i : ℕ) → i < length lost → followed_at g (get_or lost i 0) (followed_all g (take i lost) r) ≡ followed_all g (take (i + 1) lost) r
+follow_more g r lost i lt = sym (ap (λ (l : List ℕ). followed_all g l r) (take_more lost i 0 lt) ∙ followed_joined g (take i lost) (get_or lost i 0 ∷ []) r)
 
 -- ---- the beginning
 
@@ -318,14 +243,27 @@ none_about now servers i r pair e about = let none : None ≡ Some pair.1 = sym 
 trails_begun : (g : Goal) (now : ℕ) (servers : List ℕ) → AreTrails g (asks_at now servers)
 trails_begun g now servers i j a b pair lt first second about next = absurd (none_about now servers i a pair first about)
 
+pub failed_begun : (g : Goal) (session now : ℕ) (servers : List ℕ) → AreFailed g (begun servers session now).entries
+failed_begun g session now servers i r e abort = absurd (by r.asked (none_begun now servers i r (sym (ap (λ (es : List Request). slice_get es i) (begun_from servers (fresh session now))) ∙ e)) abort)
+  where
+    by : (a : Asked) → share_of a ≡ None → is_abort a ≡ true → ⊥
+    by (Aborting share) none h = cc
+    by Holdings none h = true≢false (sym h)
+    by (Allocation share len) none h = true≢false (sym h)
+    by (Writing share offset len) none h = true≢false (sym h)
+    by (Closing share) none h = true≢false (sym h)
+    by (Reading share offset len) none h = true≢false (sym h)
+
 pub followed_begun : (g : Goal) (session now : ℕ) (servers : List ℕ) → AreFollowed g (begun servers session now).entries
 followed_begun g session now servers i r pair e about = absurd (none_about now servers i r pair (sym (ap (λ (es : List Request). slice_get es i) (begun_from servers (fresh session now))) ∙ e) about)
 
-pub begun_course : (u : UploadState) (servers : List ℕ) (session now : ℕ) → u.requests ≡ begun servers session now → u.round ≡ 0 → length u.goal.digests ≤ 256 → IsDistinct eqb servers → IsCourse u
-begun_course u servers session now e first few d =
+pub begun_course : (u : UploadState) (servers : List ℕ) (session now : ℕ) → u.requests ≡ begun servers session now → u.round ≡ 0 → length u.goal.digests ≤ 256 → 1 ≤ u.goal.ahead → 1 ≤ u.goal.share_length → IsDistinct eqb servers → IsCourse u
+begun_course u servers session now e first few some long d =
     let is : u.requests.entries ≡ asks_at now servers = ap (λ (r : RequestsState). r.entries) e ∙ begun_from servers (fresh session now) in
     record {
       few = few;
+      some = some;
+      long = long;
       distinct = subst (IsDistinct eqb) (sym (ap asked_servers is ∙ asked_begun now servers)) d;
       inside = subst (All (λ (r : Request). IsInside u.goal r.asked)) (sym is) (inside_begun u.goal now servers);
       of_told = subst (All (IsOfTold u.requests.entries)) (sym is) (of_told_begun u.requests.entries now servers);
@@ -363,7 +301,7 @@ pub nil_of : {X : Type 0} (xs : List X) → length xs ≡ 0 → xs ≡ []
 nil_of [] e = refl
 nil_of (x ∷ xs) e = absurd (omega (arith, e))
 
-pub ticks_with : (v : UploadState) (r : RequestsState) (lost : List ℕ) (new : UploadState) → lost ≢ [] → GoesOn v (asked_all (all_follow_ups v.goal r.entries lost) r) new → TicksWith lost r v new
+pub ticks_with : (v : UploadState) (r : RequestsState) (lost : List ℕ) (new : UploadState) → lost ≢ [] → GoesOn v (followed_all v.goal lost r) new → TicksWith lost r v new
 ticks_with v r [] new some g = absurd (some refl)
 ticks_with v r (p ∷ ps) new some g = g
 

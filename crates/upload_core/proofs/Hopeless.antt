@@ -1,12 +1,11 @@
 -- Where an upload ends Unhappy, no placing would be enough.
-use Rattle.std.proofs.Common.{◌≡◌, ℕ, zero, suc, ◌<◌, inl, inr, Bool, true, false, not, List, [], ◌∷◌, ◌++◌, All, Contains, Some, length, map, filter, drop, eqb, refl, sym, ap, subst, ◌∙◌, arith, true≢false}
+use Rattle.std.proofs.Common.{◌≡◌, ℕ, suc, ◌<◌, inl, inr, Bool, true, false, not, List, [], ◌∷◌, ◌++◌, All, Contains, Some, length, map, filter, drop, eqb, refl, sym, ap, subst, ◌∙◌, arith, true≢false}
 use Rattle.std.specs.Prelude.{slice_get}
 use Rattle.std.specs.List.{IsDistinct, flat_map, list_any}
 use Rattle.std.specs.Set.{is_member}
 use Rattle.std.proofs.lemmas.Grind.{flat_map-append}
 use Rattle.std.proofs.lemmas.List.Elements.{All-contains, Contains-append_cases, Contains-append_left, Contains-append_right}
 use Rattle.std.proofs.lemmas.List.{append-nil}
-use Rattle.std.proofs.lemmas.Bool.{or_left, or_right}
 use Rattle.lemmas.proofs.Ranges.{range_has}
 use Rattle.lemmas.proofs.Bools.{not_both}
 use Rattle.request_record.specs.declared.requests.Asked.TheVariants.{Allocation}
@@ -22,7 +21,7 @@ use Rattle.upload_core.specs.Transfers.{failed_servers, has_failed}
 use Rattle.upload_core.specs.Rounds.{HasEnough, IsHopeless, IsOver, IsPlacing, IsSettled, IsUnhappy, Placing, answered_as, has_answered_as, has_failed_since, readonly_servers, transfers_of, writable_servers}
 use Rattle.upload_core.specs.Course.{CanGoOn, IsOfRound, IsOfTold, IsRound, asked_servers}
 use Rattle.upload_core.specs.Trails.{AreFollowed, by_answer, by_failure, by_waiting}
-use Rattle.upload_core.proofs.Lists.{all_of, contains_at, from_flat, get_either, position_of, to_flat}
+use Rattle.upload_core.proofs.Lists.{all_of, any_of, contains_at, from_flat, get_either, position_of, to_flat}
 use Rattle.upload_core.proofs.Servers.{answered_ask}
 use Rattle.upload_core.proofs.Acked.{outcome_acked}
 use Rattle.upload_core.proofs.Counts.{quiet_of}
@@ -140,11 +139,6 @@ none_of f (y ∷ ys) x e c = absurd cc
 get_behind : {X : Type 0} (xs ys : List X) (i : ℕ) (y : X) → slice_get ys i ≡ Some y → (k : ℕ) × (slice_get (xs ++ ys) k ≡ Some y)
 get_behind [] ys i y e = (i, e)
 get_behind (x ∷ xs) ys i y e = let r = get_behind xs ys i y e in (suc r.0, r.1)
-
-any_of : (p : Request → Bool) (xs : List Request) (i : ℕ) (x : Request) → slice_get xs i ≡ Some x → p x ≡ true → list_any p xs ≡ true
-any_of p [] i x e h = absurd cc
-any_of p (y ∷ ys) zero x e h = let same : y ≡ x = cc in or_left (p y) (list_any p ys) (ap p same ∙ h)
-any_of p (y ∷ ys) (suc i) x e h = or_right (p y) (list_any p ys) (any_of p ys i x e h)
 
 drop_front : (xs ys : List Request) → drop (length xs) (xs ++ ys) ≡ ys
 drop_front [] ys = refl

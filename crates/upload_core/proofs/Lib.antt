@@ -9,6 +9,7 @@ pub mod Acked
 pub mod Goes
 pub mod Followed
 pub mod Ends
+pub mod Asks
 pub mod Placed
 pub mod Placings
 pub mod Hopeless

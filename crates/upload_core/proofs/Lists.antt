@@ -1,10 +1,13 @@
 -- Elements of lists, by their positions.
-use Rattle.std.proofs.Common.{◌≡◌, ℕ, zero, suc, ◌⊎◌, inl, inr, List, [], ◌∷◌, ◌++◌, All, Contains, Some, map, take, get_or, refl, ap, ◌∙◌, arith}
+use Rattle.std.proofs.Common.{◌≡◌, Bool, true, false, ◌||◌, sym, true≢false, ℕ, zero, suc, ◌⊎◌, inl, inr, List, [], ◌∷◌, ◌++◌, All, Contains, Some, map, take, get_or, refl, ap, ◌∙◌, arith}
 use Rattle.std.specs.Prelude.{slice_get}
-use Rattle.std.specs.List.{flat_map}
+use Rattle.std.specs.List.{flat_map, list_any}
+use Rattle.std.proofs.lemmas.Bool.{or_left, or_right}
 use Rattle.std.proofs.lemmas.List.Elements.{Contains-append_cases, Contains-append_left, Contains-append_right, Contains-get_or}
 use Rattle.std.proofs.lemmas.Option.{get_or_from_slice_get, slice_get-get_or, slice_get_within}
 use Rattle.placement.proofs.Members.{Contains-nil, Contains-uncons}
+use Rattle.request_record.specs.declared.entries.Entry.{Entry}
+use Rattle.request_record.specs.declared.requests.Request.{Request}
 
 module _ {X : Type 0} where
   pub get_front : (xs ys : List X) (i : ℕ) (x : X) → slice_get xs i ≡ Some x → slice_get (xs ++ ys) i ≡ Some x
@@ -54,3 +57,28 @@ module _ {X Y : Type 0} where
     | inl same ↦ Contains-append_left (f z) (flat_map f zs) y (rw same d)
     | inr more ↦ Contains-append_right (f z) (flat_map f zs) y (to_flat f zs x y more d)
   ]
+
+-- whether the request of an entry passes a test
+pub any_entries : (test : Request → Bool) (es : List Entry) → list_any (λ (e : Entry). test e.request) es ≡ list_any test (map (λ (e : Entry). e.request) es)
+any_entries test [] = refl
+any_entries test (e ∷ es) = ap (λ (b : Bool). test e.request || b) (any_entries test es)
+
+-- what passes a test, and that something does
+pub any_of : {X : Type 0} (p : X → Bool) (xs : List X) (i : ℕ) (x : X) → slice_get xs i ≡ Some x → p x ≡ true → list_any p xs ≡ true
+any_of p [] i x e h = absurd cc
+any_of p (y ∷ ys) zero x e h = let same : y ≡ x = cc in or_left (p y) (list_any p ys) (ap p same ∙ h)
+any_of p (y ∷ ys) (suc i) x e h = or_right (p y) (list_any p ys) (any_of p ys i x e h)
+
+pub record Passes {X : Type 0} (p : X → Bool) (xs : List X) : Type 0 where
+  pub position : ℕ
+  pub item : X
+  pub there : slice_get xs position ≡ Some item
+  pub passes : p item ≡ true
+
+pub passing : {X : Type 0} (p : X → Bool) (xs : List X) → list_any p xs ≡ true → Passes p xs
+passing p [] h = absurd (true≢false (sym h))
+passing {X} p (y ∷ ys) h = by (passing p ys) (p y) refl h
+  where
+    by : (list_any p ys ≡ true → Passes p ys) → (b : Bool) → p y ≡ b → (b || list_any p ys) ≡ true → Passes p (y ∷ ys)
+    by rest true e k = record { position = 0; item = y; there = refl; passes = e }
+    by rest false e k = let w = rest k in record { position = suc w.position; item = w.item; there = w.there; passes = w.passes }

@@ -20,18 +20,18 @@ use Rattle.placement.proofs.Members.{untaken-append}
 use Rattle.upload_core.specs.State.{Goal, UploadState, with_record}
 use Rattle.upload_core.specs.Acknowledged.{acked_pairs}
 use Rattle.upload_core.specs.Rounds.{IsPlacing, IsSettled, Placing, readonly_servers, writable_servers}
-use Rattle.upload_core.specs.Moves.{all_follow_ups, follow_ups_at}
+use Rattle.upload_core.specs.Moves.{follow_ups_of, followed_all, followed_at}
 use Rattle.upload_core.specs.Course.{HasTrail, IsInside, IsOfRound, IsOfTold, IsRound, allocations, asked_servers, has_told, is_holdings, is_told}
 use Rattle.upload_core.specs.Trails.{share_of}
-use Rattle.upload_core.proofs.Lists.{contains_at, from_flat, get_either, get_front, get_mapped, position_of}
-use Rattle.upload_core.proofs.Follow.{follow_onward}
+use Rattle.upload_core.proofs.Lists.{contains_at, get_either, get_front, get_mapped, position_of}
+use Rattle.upload_core.proofs.Follow.{follow_onward, given_onward}
 use Rattle.upload_core.proofs.Records.{Goes, becomes_goes, was_goes}
 use Rattle.upload_core.proofs.Servers.{servers_distinct}
 use Rattle.upload_core.proofs.Acked.{acked_known}
 use Rattle.upload_core.proofs.Goes.{message_goes, tick_goes}
 use Rattle.upload_core.proofs.Counts.{quiet_of}
-use Rattle.upload_core.proofs.Followed.{asked_after, entries_all, inside_at, new_of}
-use Rattle.upload_core.proofs.Ends.{lost_waits}
+use Rattle.upload_core.proofs.Followed.{asked_from, entries_all, inside_at, new_of}
+use Rattle.upload_core.proofs.Ends.{losses_add, lost_are, lost_waits}
 use Rattle.upload_core.proofs.Placed.{to_do}
 
 -- a plan's three matchings are best
@@ -97,35 +97,35 @@ module _ (g : Goal) (round : ℕ) where
       subst (IsOfRound g before) is (subst (Contains (writable_servers g before)) server of_it.0, share)
 
   pub round_message : (from : ℕ) (m : Message) (now : ℕ) (r : RequestsState) (position : ℕ) → counts_at from m r ≡ Some position → All (λ (q : Request). IsInside g q.asked) r.entries → IsRound g round r.entries
-      → IsRound g round (asked_all (follow_ups_at g (slice_get (after_message from m now r).entries position)) (after_message from m now r)).entries
+      → IsRound g round (followed_at g position (after_message from m now r)).entries
   round_message from m now r position counts inside k =
       let after : RequestsState = after_message from m now r in
-      let asks : List (ℕ × Asked) = follow_ups_at g (slice_get after.entries position) in
+      let asks : List (ℕ × Asked) = follow_ups_of g after.entries (slice_get after.entries position) in
       subst (IsRound g round) (sym (entries_all asks after)) (round_step g round r.entries k after.entries (message_goes from m now r) (map (new_of after.clock) asks) (λ i q e.
       let a = counts_is from m r position counts in
       let n = get_mapped (new_of after.clock) asks i q e in
-      let by = asked_after g (slice_get after.entries position) n.0 (contains_at asks i n.0 n.1) in
+      let by = asked_from g after.entries (slice_get after.entries position) n.0 (contains_at asks i n.0 n.1) in
       let w = was_goes r.entries after.entries (message_goes from m now r) position by.0 by.1 in
       let one : Some a.request ≡ Some w.request = sym a.there ∙ w.there in
       let same : a.request ≡ w.request = cc in
       let within : IsInside g by.0.asked = subst (IsInside g) (sym w.same.asked) (inside_at g r.entries position w.request inside w.there) in
-      next_of_it k.before after.clock a.request q n.0 (waiting_of_it g round r.entries k position a.request a.there a.waits) (ap (λ (x : Request). x.server) same ∙ sym w.same.server ∙ by.3) (follow_onward g by.0 n.0.1 within by.2).good.share n.2))
+      next_of_it k.before after.clock a.request q n.0 (waiting_of_it g round r.entries k position a.request a.there a.waits) (ap (λ (x : Request). x.server) same ∙ sym w.same.server ∙ by.3) (follow_onward g after.entries by.0 n.0.1 within by.2).good.share n.2))
 
   pub round_tick : (now : ℕ) (r : RequestsState) → All (λ (q : Request). IsInside g q.asked) r.entries → IsRound g round r.entries
-      → IsRound g round (asked_all (all_follow_ups g (after_tick now r).entries (lost_by_tick now r)) (after_tick now r)).entries
+      → IsRound g round (followed_all g (lost_by_tick now r) (after_tick now r)).entries
   round_tick now r inside k =
       let after : RequestsState = after_tick now r in
       let lost : List ℕ = lost_by_tick now r in
-      let asks : List (ℕ × Asked) = all_follow_ups g after.entries lost in
-      subst (IsRound g round) (sym (entries_all asks after)) (round_step g round r.entries k after.entries (tick_goes now r) (map (new_of after.clock) asks) (λ i q e.
+      let add = losses_add g lost after (lost_are now r) in
+      let asks : List (ℕ × Asked) = add.asks in
+      subst (IsRound g round) (sym (ap (λ (x : RequestsState). x.entries) add.is ∙ entries_all asks after)) (round_step g round r.entries k after.entries (tick_goes now r) (map (new_of after.clock) asks) (λ i q e.
       let n = get_mapped (new_of after.clock) asks i q e in
-      let f = from_flat (λ (p : ℕ). follow_ups_at g (slice_get after.entries p)) lost n.0 (contains_at asks i n.0 n.1) in
-      let by = asked_after g (slice_get after.entries f.0) n.0 f.2 in
-      let w = was_goes r.entries after.entries (tick_goes now r) f.0 by.0 by.1 in
-      let waits : is_outstanding w.request.outcome ≡ true = lost_waits now r f.0 w.request f.1 w.there in
-      let within : IsInside g by.0.asked = subst (IsInside g) {x = w.request.asked} (sym w.same.asked) (inside_at g r.entries f.0 w.request inside w.there) in
-      let server : w.request.server ≡ n.0.0 = ◌∙◌ {a = w.request.server} (sym w.same.server) by.3 in
-      next_of_it k.before after.clock w.request q n.0 (waiting_of_it g round r.entries k f.0 w.request w.there waits) server (follow_onward g by.0 n.0.1 within by.2).good.share n.2))
+      let a = add.each n.0 (contains_at asks i n.0 n.1) in
+      let w = was_goes r.entries after.entries (tick_goes now r) a.position a.request a.there in
+      let waits : is_outstanding w.request.outcome ≡ true = lost_waits now r a.position w.request a.among w.there in
+      let within : IsInside g a.request.asked = subst (IsInside g) {x = w.request.asked} (sym w.same.asked) (inside_at g r.entries a.position w.request inside w.there) in
+      let server : w.request.server ≡ n.0.0 = ◌∙◌ {a = w.request.server} (sym w.same.server) a.server in
+      next_of_it k.before after.clock w.request q n.0 (waiting_of_it g round r.entries k a.position w.request w.there waits) server (given_onward g a.request.asked n.0.1 within a.given).good.share n.2))
 
 -- ---- a new placing
 

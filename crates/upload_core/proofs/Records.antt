@@ -16,7 +16,7 @@ use Rattle.upload_core.specs.State.{Goal, UploadState, with_record}
 use Rattle.upload_core.specs.Rounds.{asked_answered_as, has_answered_as}
 use Rattle.upload_core.specs.Course.{IsCourse, IsInside, IsOfTold, IsWaitedFor, asked_servers, has_told, is_holdings, is_told, is_unawaited}
 use Rattle.upload_core.specs.Transfers.{is_transfer}
-use Rattle.upload_core.specs.Trails.{AreTrails, GoesFurther, IsAbout, IsBefore, rank_of, share_of}
+use Rattle.upload_core.specs.Trails.{AreTrails, GoesFurther, IsAbout, IsBefore, IsWithin, rank_of, reach_of, share_of}
 use Rattle.placement.specs.Matching.{Pair}
 use Rattle.std.proofs.lemmas.Bool.{cases_lt, or_left, or_right}
 use Rattle.std.proofs.lemmas.Option.{slice_get_within}
@@ -207,19 +207,29 @@ first_waited (Aborting share) t = absurd (true≢false (sym t))
 pub about_was : (pair : Pair) (r n : Request) → IsSame r n → IsAbout pair n → IsAbout pair r
 about_was pair r n s a = (sym s.server ∙ a.0, ap share_of (sym s.asked) ∙ a.1)
 
+-- what waits now waited before
+pub waits_was : (r n : Request) → IsSame r n → is_outstanding n.outcome ≡ true → is_outstanding r.outcome ≡ true
+waits_was r n s w = by (is_outstanding r.outcome) refl
+  where
+    by : (b : Bool) → is_outstanding r.outcome ≡ b → is_outstanding r.outcome ≡ true
+    by true e = e
+    by false e = absurd (true≢false (sym w ∙ ap (λ (q : Request). is_outstanding q.outcome) (s.still e) ∙ e))
+
 trails_goes : (g : Goal) (es ns : List Request) → Goes es ns → AreTrails g es → AreTrails g ns
 trails_goes g es ns k trails i j a b pair lt first second about next =
     let f = was_goes es ns k i a first in
     let s = was_goes es ns k j b second in
     let before = trails i j f.request s.request pair lt f.there s.there (about_was pair f.request a f.same about) (about_was pair s.request b s.same next) in
     record {
-      quiet = ap (λ (r : Request). is_outstanding r.outcome) (f.same.still before.quiet) ∙ before.quiet;
-      further = subst (λ (x : Asked). rank_of g a.asked < rank_of g x) (sym s.same.asked) (subst (λ (x : Asked). rank_of g x < rank_of g s.request.asked) (sym f.same.asked) before.further);
+      further = subst (λ (x : Asked). reach_of g a.asked < rank_of g x) (sym s.same.asked) (subst (λ (x : Asked). reach_of g x < rank_of g s.request.asked) (sym f.same.asked) before.further);
+      within = λ waits. subst (IsWithin g a.asked) (sym s.same.asked) (subst (λ (x : Asked). IsWithin g x s.request.asked) (sym f.same.asked) (before.within (waits_was f.request a f.same waits)));
     }
 
 pub course_goes : (u : UploadState) (r : RequestsState) → Goes u.requests.entries r.entries → IsCourse u → IsCourse (with_record u r)
 course_goes u r k c = record {
   few = c.few;
+  some = c.some;
+  long = c.long;
   distinct = subst (IsDistinct eqb) (sym (asked_goes u.requests.entries r.entries k)) c.distinct;
   inside = inside_goes u.goal u.requests.entries r.entries k c.inside;
   of_told = of_told_goes u.requests.entries r.entries u.requests.entries r.entries (λ s h. told_goes s u.requests.entries r.entries k h) k c.of_told;
@@ -271,6 +281,8 @@ course_asked u ask may c =
     let new : Request = first_request ask.0 ask.1 u.requests.clock in
     record {
       few = c.few;
+      some = c.some;
+      long = c.long;
       distinct = subst (IsDistinct eqb) (sym (asked_push es new may.good.share)) c.distinct;
       inside = All-push (IsIn u.goal) es new c.inside may.good.inside;
       of_told = All-push (IsOfTold (es ++ new ∷ [])) es new

@@ -1,16 +1,15 @@
 -- What holds of each upload, as it goes on.
-use Rattle.std.proofs.Common.{◌≡◌, ◌≢◌, ℕ, zero, suc, ◌<◌, ◌⊎◌, inl, inr, Bool, true, false, cond, List, [], ◌∷◌, ◌++◌, Option, Some, None, Result, Ok, Err, length, map, max, filter, eqb, refl, sym, ap, subst, ◌∙◌, arith, true≢false}
+use Rattle.std.proofs.Common.{◌≡◌, ◌≢◌, ℕ, zero, suc, ◌<◌, ◌≤◌, ◌⊎◌, inl, inr, Bool, true, false, cond, List, [], ◌∷◌, ◌++◌, Option, Some, None, Result, Ok, Err, length, map, max, filter, eqb, refl, sym, ap, subst, ◌∙◌, arith, true≢false}
 use Rattle.std.specs.Prelude.{slice_get}
 use Rattle.std.specs.Result.{OnErr, OnOk}
 use Rattle.std.specs.List.{AllByRecursion, IsDistinct}
 use Rattle.std.proofs.lemmas.Bool.{eq-eqb}
-use Rattle.request_record.proofs.StepLaws.{uncounted}
 use Rattle.lemmas.proofs.Results.{on_ok}
 use Rattle.wire.specs.declared.message.Message.{Message}
 use Rattle.request_record.specs.declared.requests.Asked.{Asked}
 use Rattle.request_record.specs.declared.requests.Asked.TheVariants.{Holdings, Allocation, Writing, Closing, Reading, Aborting}
 use Rattle.request_record.specs.declared.requests.Request.{Request}
-use Rattle.request_record.specs.Record.{IsRecord, RequestsState, asked_all, counts_at}
+use Rattle.request_record.specs.Record.{IsRecord, RequestsState, counts_at}
 use Rattle.request_record.specs.Asking.{AreApart, AsksOnce, after_message, after_tick, begun, lost_by_tick, one_sent}
 use Rattle.upload_core.specs.declared.status.ServerInfo.{ServerInfo}
 use Rattle.upload_core.specs.declared.status.UploadStatus.{UploadStatus}
@@ -19,11 +18,13 @@ use Rattle.upload_core.specs.declared.pieces.PieceFault.{PieceFault}
 use Rattle.upload_core.specs.declared.pieces.PieceFault.TheVariants.{OutOfMemory}
 use Rattle.upload_core.specs.State.{Goal, UploadState, with_record}
 use Rattle.upload_core.specs.Right.{IsRight}
-use Rattle.upload_core.specs.Moves.{Advances, AdvancesAt, Begins, FailsAt, GoesOn, Stops, StopsAt, TicksOn, TicksWith, all_follow_ups, at_once, ends, follow_ups_at, initial, later, positions, waits}
+use Rattle.upload_core.specs.Moves.{Advances, AdvancesAt, Begins, FailsAt, GoesOn, Stops, StopsAt, TicksOn, TicksWith, after_heard, at_once, ends, followed_all, followed_at, heard_at, initial, later, positions, waits}
 use Rattle.upload_core.specs.Course.{CanGoOn, IsCourse, IsInside, IsKept, IsRound, Stands, asked_servers, is_holdings}
-use Rattle.upload_core.specs.Trails.{AreFollowed, rank_of, share_of}
-use Rattle.upload_core.proofs.Followed.{inside_at, followed_message, followed_placed, followed_tick}
-use Rattle.upload_core.proofs.Goes.{followed_begun}
+use Rattle.upload_core.specs.Trails.{AreFailed, AreFollowed, rank_of, reach_of, share_of}
+use Rattle.upload_core.proofs.Followed.{failed_message, failed_placed, followed_message, followed_placed, inside_at}
+use Rattle.upload_core.proofs.Ends.{failed_tick, followed_tick, lost_are}
+use Rattle.upload_core.proofs.Answering.{heard_after, heard_counts, unheard_after}
+use Rattle.upload_core.proofs.Goes.{failed_begun, followed_begun}
 use Rattle.upload_core.proofs.Stands.{ended_stands, goes_stand, is_running, same_entries, stands_failed, stands_sent, waits_stands}
 use Rattle.upload_core.proofs.Counts.{message_settled, tick_settled}
 use Rattle.upload_core.proofs.Placings.{round_message, round_placed, round_tick}
@@ -81,6 +82,15 @@ asks_apart (q ∷ qs) d (suc i) (suc j) a b lt e f h k same = asks_apart qs (by 
     by true x = x.1
     by false x = x
 
+-- a request reaches as far as it begins, or further
+rank_reach : (g : Goal) (a : Asked) → IsInside g a → rank_of g a ≤ reach_of g a
+rank_reach g Holdings i = omega arith
+rank_reach g (Allocation share len) i = omega arith
+rank_reach g (Writing share offset len) i = omega (arith, i.2)
+rank_reach g (Closing share) i = omega arith
+rank_reach g (Reading share offset len) i = absurd i
+rank_reach g (Aborting share) i = omega arith
+
 once_of : (u : UploadState) → IsCourse u → AsksOnce u.requests.entries
 once_of u c i j a b lt first second servers = apart_of u.goal a.asked b.asked inside other
   where
@@ -93,7 +103,7 @@ once_of u c i j a b lt first second servers = apart_of u.goal a.asked b.asked in
         asks_apart u.requests.entries c.distinct i j a b lt first second h (ap is_holdings (sym same) ∙ h) servers
     by (Some share) e same =
         let before = c.trails i j a b (a.server, share) lt first second (refl, e) (sym servers, ap share_of (sym same) ∙ e) in
-        absurd (omega (arith, before.further, ap (rank_of u.goal) same))
+        absurd (omega (arith, before.further, ap (rank_of u.goal) same, rank_reach u.goal a.asked inside))
 
     other : a.asked ≡ b.asked → ⊥
     other = by (share_of a.asked) refl
@@ -108,9 +118,10 @@ can_go u r new g course can = elim g [
       let c = subst IsCourse e course in
       subst CanGoOn (sym e) (record {
         followed = followed_placed u.goal u.goal.share_length (p.m3 ++ p.leftovers) r can.followed;
+        failed = failed_placed u.goal u.goal.share_length (p.m3 ++ p.leftovers) r can.failed;
         rounds = inr (round_placed u r p settled placing c.distinct c.of_told);
       }))
-  | ends status settled over so e ↦ subst CanGoOn (sym e) (record { followed = can.followed; rounds = can.rounds })
+  | ends status settled over so e ↦ subst CanGoOn (sym e) (record { followed = can.followed; failed = can.failed; rounds = can.rounds })
 ]
 
 -- how it stands, and that it can go on
@@ -126,12 +137,13 @@ over_moves : (old : UploadState) (r : RequestsState) (new : UploadState) → old
 over_moves old r new over e same stands = subst Moves (sym e) (record { stands = ended_stands old r over same stands; going = λ is. absurd (over is) })
 
 begins_moves : (goal : Goal) (happy : ℕ) (servers : List ServerInfo) (session now : ℕ) (u : UploadState) → Begins goal happy servers session now u → IsCourse u → Moves u
-begins_moves goal happy servers session now u b course = goes_moves (initial goal happy u.servers session now) (begun u.servers session now) u refl course (record { followed = followed_begun goal session now u.servers; rounds = inl refl }) b.goes
+begins_moves goal happy servers session now u b course = goes_moves (initial goal happy u.servers session now) (begun u.servers session now) u refl course (record { followed = followed_begun goal session now u.servers; failed = failed_begun goal session now u.servers; rounds = inl refl }) b.goes
 
 module _ (from : ℕ) (m : Message) (now : ℕ) (old new : UploadState) (stands : Stands old) (kept : IsKept old) (course : IsCourse new) where
-  message_can : (position : ℕ) → counts_at from m old.requests ≡ Some position → CanGoOn old → CanGoOn (with_record old (asked_all (follow_ups_at old.goal (slice_get (after_message from m now old.requests).entries position)) (after_message from m now old.requests)))
+  message_can : (position : ℕ) → counts_at from m old.requests ≡ Some position → CanGoOn old → CanGoOn (with_record old (followed_at old.goal position (after_message from m now old.requests)))
   message_can position e can = record {
-    followed = followed_message old.goal from m now old.requests position e kept.course.inside can.followed;
+    followed = followed_message old.goal from m now old.requests position e kept.course.inside kept.course.some kept.course.long can.followed can.failed;
+    failed = failed_message old.goal from m now old.requests position e kept.course.inside kept.course.some kept.course.long can.followed can.failed;
     rounds = elim can.rounds [
       | inl first ↦ inl first
       | inr k ↦ inr (round_message old.goal old.round from m now old.requests position e kept.course.inside k)
@@ -140,30 +152,36 @@ module _ (from : ℕ) (m : Message) (now : ℕ) (old new : UploadState) (stands 
 
   message_moves : Advances from m now old new → Moves new
   message_moves a = elim (is_running old.status) [
-    | inl running ↦ by running (counts_at from m old.requests) refl (a.running running)
-    | inr over ↦ over_moves old (after_message from m now old.requests) new over (a.ended over) (message_settled from m now old.requests) stands
+    | inl running ↦ by running (heard_at from m old.requests) refl (a.running running)
+    | inr over ↦ over_moves old (after_heard from m now old.requests) new over (a.ended over) (message_settled from m now old.requests) stands
   ]
     where
-      by : old.status ≡ Running → (o : Option ℕ) → counts_at from m old.requests ≡ o → AdvancesAt o (after_message from m now old.requests) old new → Moves new
+      by : old.status ≡ Running → (o : Option ℕ) → heard_at from m old.requests ≡ o → AdvancesAt o (after_heard from m now old.requests) old new → Moves new
       by running None e is =
           let can = kept.going running in
-          let same : (after_message from m now old.requests).entries ≡ old.requests.entries = uncounted from m now old.requests e in
+          let same : (after_heard from m now old.requests).entries ≡ old.requests.entries = ap (λ (r : RequestsState). r.entries) (unheard_after from m now old.requests e) in
           subst Moves (sym is) (record {
-            stands = same_entries old (after_message from m now old.requests) same stands;
+            stands = same_entries old (after_heard from m now old.requests) same stands;
             going = λ runs. record {
               followed = subst (AreFollowed old.goal) (sym same) can.followed;
+              failed = subst (AreFailed old.goal) (sym same) can.failed;
               rounds = subst (λ (es : List Request). (old.round ≡ 0) ⊎ IsRound old.goal old.round es) (sym same) can.rounds;
             };
           })
-      by running (Some position) e goes = goes_moves old _ new running course (message_can position e (kept.going running)) goes
+      by running (Some position) e goes =
+          let after : RequestsState = after_message from m now old.requests in
+          let is : after_heard from m now old.requests ≡ after = heard_after from m now old.requests position e in
+          goes_moves old (followed_at old.goal position after) new running course (message_can position (heard_counts from m old.requests position e).counts (kept.going running))
+          (subst (λ (r : RequestsState). GoesOn old (followed_at old.goal position r) new) is goes)
 
 module _ (now : ℕ) (old new : UploadState) (stands : Stands old) (kept : IsKept old) (course : IsCourse new) where
   abbrev after : RequestsState
   after = after_tick now old.requests
 
-  tick_can : CanGoOn old → CanGoOn (with_record old (asked_all (all_follow_ups old.goal after.entries (lost_by_tick now old.requests)) after))
+  tick_can : CanGoOn old → CanGoOn (with_record old (followed_all old.goal (lost_by_tick now old.requests) after))
   tick_can can = record {
-    followed = followed_tick old.goal now old.requests kept.course.inside can.followed (lost_by_tick now old.requests);
+    followed = followed_tick old.goal now old.requests kept.course.inside (lost_by_tick now old.requests) (lost_are now old.requests) can.followed;
+    failed = failed_tick old.goal now old.requests kept.course.inside (lost_by_tick now old.requests) (lost_are now old.requests) can.failed;
     rounds = elim can.rounds [
       | inl first ↦ inl first
       | inr k ↦ inr (round_tick old.goal old.round now old.requests kept.course.inside k)
@@ -176,7 +194,7 @@ module _ (now : ℕ) (old new : UploadState) (stands : Stands old) (kept : IsKep
     | inr over ↦ over_moves old after new over (a.ended over) (tick_settled now old.requests) stands
   ]
     where
-      by : old.status ≡ Running → (lost : List ℕ) → lost_by_tick now old.requests ≡ lost → TicksWith lost after old new → CanGoOn (with_record old (asked_all (all_follow_ups old.goal after.entries lost) after)) → Moves new
+      by : old.status ≡ Running → (lost : List ℕ) → lost_by_tick now old.requests ≡ lost → TicksWith lost after old new → CanGoOn (with_record old (followed_all old.goal lost after)) → Moves new
       by running [] e is can =
           let none : length (lost_by_tick now old.requests) ≡ 0 = ap length e in
           subst Moves (sym is) (record {
@@ -202,7 +220,7 @@ right_of u kept recorded = record {
 }
 
 pub course_status : (u : UploadState) (status : UploadStatus) → IsCourse u → IsCourse (record u { status = status })
-course_status u status c = record { few = c.few; distinct = c.distinct; inside = c.inside; of_told = c.of_told; waited = c.waited; trails = c.trails; begun = c.begun }
+course_status u status c = record { few = c.few; some = c.some; long = c.long; distinct = c.distinct; inside = c.inside; of_told = c.of_told; waited = c.waited; trails = c.trails; begun = c.begun }
 
 pub begins_kept : (goal : Goal) (happy : ℕ) (servers : List ServerInfo) (session now : ℕ) (u : UploadState) → Begins goal happy servers session now u → IsCourse u → IsKept u
 begins_kept goal happy servers session now u b c = let moves = begins_moves goal happy servers session now u b c in kept_of u moves.stands c moves.going
@@ -213,7 +231,7 @@ failed_kept u fault c = kept_of (record u { status = Failed fault }) (stands_fai
 pub sent_kept : (u : UploadState) → IsKept u → IsKept (with_record u (one_sent u.requests))
 sent_kept u kept =
     let c = kept.course in
-    kept_of (with_record u (one_sent u.requests)) (stands_sent u kept.stands) (record { few = c.few; distinct = c.distinct; inside = c.inside; of_told = c.of_told; waited = c.waited; trails = c.trails; begun = c.begun }) (λ is. let can = kept.going is in record { followed = can.followed; rounds = can.rounds })
+    kept_of (with_record u (one_sent u.requests)) (stands_sent u kept.stands) (record { few = c.few; some = c.some; long = c.long; distinct = c.distinct; inside = c.inside; of_told = c.of_told; waited = c.waited; trails = c.trails; begun = c.begun }) (λ is. let can = kept.going is in record { followed = can.followed; failed = can.failed; rounds = can.rounds })
 
 -- a step that went on, or found no memory
 module _ {X E : Type 0} (mid new : UploadState) (c : IsCourse new) where

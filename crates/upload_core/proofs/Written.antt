@@ -1,6 +1,6 @@
 -- A piece that was written tells nothing more: what is in memory of a record tells what all tells.
 use Rattle.std.proofs.Common.{◌≡◌, ℕ, ◌+◌, Bool, true, false, cond, not, ◌&&◌, ◌||◌, List, [], ◌∷◌, ◌++◌, Option, Some, None, filter, map, eqb, refl, sym, ap, subst, ◌∙◌, rules, true≢false}
-use Rattle.std.specs.Prelude.{◌==◌, IsSome, is_some, slice_get}
+use Rattle.std.specs.Prelude.{◌==◌, IsSome, nat_le, nat_lt, slice_get}
 use Rattle.std.specs.List.{flat_map, list_any}
 use Rattle.std.specs.Set.{is_member}
 use Rattle.wire.specs.declared.message.Body.TheVariants.{Wrote, WrongOffset}
@@ -13,7 +13,7 @@ use Rattle.request_record.specs.Record.{is_outstanding}
 use Rattle.request_record.specs.Written.{IsKeptAt, is_written, kept, kept_of, wrote_all}
 use Rattle.upload_core.specs.State.{Goal}
 use Rattle.upload_core.specs.Acknowledged.{acked_by, acked_outcome, acked_pairs}
-use Rattle.upload_core.specs.Transfers.{fails, failed_servers, has_failed, next_of}
+use Rattle.upload_core.specs.Transfers.{fails, failed_servers, has_failed, is_abort_of, is_given_up, is_piece_before, sent_from, waits_before}
 use Rattle.upload_core.specs.Trails.{IsLostAt}
 use Rattle.upload_core.specs.Rounds.{answered_as, asked_answered_as, has_answered_as, readonly_servers, writable_servers}
 
@@ -51,9 +51,13 @@ module _ {X : Type 0} (gone : X → Bool) where
 
 module _ (g : Goal) where
   -- an answer that names the end of its piece carries on
-  carries : (t : Bool) (share end : ℕ) (k : Bool) → t ≡ true → (not (is_some (cond t (Some (next_of g share end)) None)) && k) ≡ false
-  carries true share end k e = refl
-  carries false share end k e = absurd (true≢false (sym e))
+  carried : (t k : Bool) → t ≡ true → (not t && k) ≡ false
+  carried true k e = refl
+  carried false k e = absurd (true≢false (sym e))
+
+  carried_either : (t x k : Bool) → t ≡ true → (not (t || x) && k) ≡ false
+  carried_either true x k e = refl
+  carried_either false x k e = absurd (true≢false (sym e))
 
   written_acked : (s : ℕ) (a : Asked) (o : Outcome) → wrote_all a o ≡ true → acked_outcome g s a o ≡ []
   written_acked s (Writing share offset len) (Answered (Wrote next)) e = refl
@@ -61,8 +65,8 @@ module _ (g : Goal) where
   written_acked s a o e = absurd cc
 
   written_fails : (a : Asked) (o : Outcome) → wrote_all a o ≡ true → fails g a o ≡ false
-  written_fails (Writing share offset len) (Answered (Wrote next)) e = carries (next == offset + len) share (offset + len) true e
-  written_fails (Writing share offset len) (Answered (WrongOffset next)) e = carries (next == offset + len) share (offset + len) true e
+  written_fails (Writing share offset len) (Answered (Wrote next)) e = carried (next == offset + len) true e
+  written_fails (Writing share offset len) (Answered (WrongOffset next)) e = carried_either (next == offset + len) (nat_lt (offset + len) next && nat_le next (sent_from g offset)) true e
   written_fails a o e = absurd cc
 
 written_untold : (readonly : Bool) (a : Asked) (o : Outcome) → wrote_all a o ≡ true → asked_answered_as readonly a o ≡ false
@@ -70,7 +74,38 @@ written_untold readonly (Writing share offset len) (Answered (Wrote next)) e = r
 written_untold readonly (Writing share offset len) (Answered (WrongOffset next)) e = refl
 written_untold readonly a o e = absurd cc
 
+written_quiet : (a : Asked) (o : Outcome) → wrote_all a o ≡ true → is_outstanding o ≡ false
+written_quiet (Writing share offset len) (Answered body) e = refl
+written_quiet (Writing share offset len) o e = absurd cc
+written_quiet a o e = absurd cc
+
+written_abort : (asked a : Asked) (o : Outcome) → wrote_all a o ≡ true → is_abort_of asked a ≡ false
+written_abort (Allocation n l) (Writing share offset len) o e = refl
+written_abort (Writing n p l) (Writing share offset len) o e = refl
+written_abort (Closing n) (Writing share offset len) o e = refl
+written_abort asked (Writing share offset len) o e = refl
+written_abort asked a o e = absurd cc
+
+and_false : (a b c : Bool) → c ≡ false → (a && b && c) ≡ false
+and_false true true c e = e
+and_false true false c e = refl
+and_false false b c e = refl
+
+right_false : (a b : Bool) → b ≡ false → (a && b) ≡ false
+right_false true b e = e
+right_false false b e = refl
+
 -- ---- what is in memory of a record
+
+pub waits_kept : (es : List Request) (server share end : ℕ) → waits_before (kept_of es) server share end ≡ waits_before es server share end
+waits_kept es server share end =
+    any_left is_written (λ (r : Request). (r.server == server) && is_piece_before share end r.asked && is_outstanding r.outcome)
+    (λ r e. and_false (r.server == server) (is_piece_before share end r.asked) (is_outstanding r.outcome) (written_quiet r.asked r.outcome e)) es
+
+pub given_kept : (es : List Request) (server : ℕ) (asked : Asked) → is_given_up (kept_of es) server asked ≡ is_given_up es server asked
+given_kept es server asked =
+    any_left is_written (λ (r : Request). (r.server == server) && is_abort_of asked r.asked)
+    (λ r e. right_false (r.server == server) (is_abort_of asked r.asked) (written_abort asked r.asked r.outcome e)) es
 
 pub acked_kept : (g : Goal) (es : List Request) → acked_pairs g (kept_of es) ≡ acked_pairs g es
 acked_kept g es = flat_left is_written (acked_by g) (λ r e. written_acked g r.server r.asked r.outcome e) es

@@ -1,7 +1,7 @@
 -- What holds of each upload's record.
 use Rattle.std.specs.Prelude.{◌≡◌, ◌⊎◌, ℕ, ◌+◌, ◌<◌, ◌≤◌, ◌&&◌, ◌||◌, ◌++◌}
 use Rattle.std.specs.Prelude.{Bool, true, false, List, [], ◌∷◌, map, filter, length, nat_eq, All}
-use Rattle.std.specs.Prelude.{Contains, Some, slice_get, if◌then◌else◌}
+use Rattle.std.specs.Prelude.{Contains, Some, slice_get, if◌then◌else◌, ◌-◌, min}
 use Rattle.std.specs.List.{IsDistinct, list_any}
 use Rattle.request_record.specs.declared.requests.Asked.{Asked}
 use Rattle.request_record.specs.declared.requests.Asked.TheVariants.{Holdings, Allocation, Writing}
@@ -20,7 +20,7 @@ use Rattle.upload_core.specs.declared.status.UploadStatus.TheVariants.{Running, 
 use Rattle.upload_core.specs.State.{Goal, UploadState}
 use Rattle.upload_core.specs.Acknowledged.{acked_pairs}
 use Rattle.upload_core.specs.Transfers.{is_transfer}
-use Rattle.upload_core.specs.Trails.{AreFollowed, AreTrails, IsAbout, IsNew}
+use Rattle.upload_core.specs.Trails.{AreFailed, AreFollowed, AreTrails, IsAbout, IsNew}
 use Rattle.upload_core.specs.Right.{has_ended}
 use Rattle.upload_core.specs.Rounds.{EndsAs, IsHopeless, IsPlacing, IsSettled, Placing}
 use Rattle.upload_core.specs.Rounds.{has_answered_as, writable_servers}
@@ -47,12 +47,14 @@ abbrev pub is_told : List Request → ℕ → Bool
 is_told entries server =
     list_any (λ (r : Request). has_told r && nat_eq server r.server) entries
 
--- It asks for a share of the goal, and a piece lies in it.
+-- It asks for a share of the goal, and a piece lies in it: it is as long as a piece can be, or ends
+-- the share.
 abbrev pub IsInside : Goal → Asked → Type 0
 IsInside g Holdings = Unit {0}
 IsInside g (Allocation share len) = (share < length g.digests) × (len ≡ g.share_length)
 IsInside g (Writing share offset len) =
-    (share < length g.digests) × (offset + len ≤ g.share_length) × (1 ≤ len) × (len ≤ most_data)
+    (share < length g.digests) × (offset + len ≤ g.share_length) × (1 ≤ len)
+    × (len ≡ min most_data (g.share_length - offset))
 IsInside g (Closing share) = share < length g.digests
 IsInside g (Reading share offset len) = ⊥
 IsInside g (Aborting share) = share < length g.digests
@@ -76,6 +78,8 @@ IsWaitedFor r = is_transfer r.asked ≡ true → is_unawaited r.outcome ≡ fals
 -- on.
 pub record IsCourse (u : UploadState) : Type 0 where
   pub few : length u.goal.digests ≤ 256
+  pub some : 1 ≤ u.goal.ahead
+  pub long : 1 ≤ u.goal.share_length
   pub distinct : IsDistinct nat_eq (asked_servers u.requests.entries)
   pub inside : All (λ (r : Request). IsInside u.goal r.asked) u.requests.entries
   pub of_told : All (IsOfTold u.requests.entries) u.requests.entries
@@ -142,6 +146,7 @@ pub record IsRound (g : Goal) (round : ℕ) (entries : List Request) : Type 0 wh
 -- what a running upload goes on from: what became of each transfer is known, and the last placing
 pub record CanGoOn (u : UploadState) : Type 0 where
   pub followed : AreFollowed u.goal u.requests.entries
+  pub failed : AreFailed u.goal u.requests.entries
   pub rounds : (u.round ≡ 0) ⊎ IsRound u.goal u.round u.requests.entries
 
 -- what holds of an upload by its status

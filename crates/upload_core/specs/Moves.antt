@@ -1,20 +1,22 @@
 -- What the calls of an upload do.
-use Rattle.std.specs.Prelude.{◌≡◌, ◌≢◌, ℕ, List, [], ◌∷◌, Option, Some, None, map}
+use Rattle.std.specs.Prelude.{◌≡◌, ◌≢◌, ℕ, List, [], ◌∷◌, Option, Some, None, map, Bool, false}
 use Rattle.std.specs.Prelude.{length, slice_get, slice_index_or, IsPermutation, AllPairs}
-use Rattle.std.specs.List.{flat_map, range_with_len}
+use Rattle.std.specs.Prelude.{if◌then◌else◌}
+use Rattle.std.specs.List.{range_with_len}
 use Rattle.std.specs.declared.cmp.Ordering.TheVariants.{Less}
 use Rattle.wire.specs.declared.message.Message.{Message}
 use Rattle.request_record.specs.declared.requests.Asked.{Asked}
+use Rattle.request_record.specs.declared.requests.Asked.TheVariants.{Writing}
 use Rattle.request_record.specs.declared.requests.Request.{Request}
 use Rattle.request_record.specs.Asking.{after_message, after_tick, begun, lost_by_tick}
-use Rattle.request_record.specs.Record.{RequestsState, asked_all, counts_at}
+use Rattle.request_record.specs.Record.{RequestsState, asked_all, at, counts_at}
 use Rattle.placement.specs.Ranking.{rank_cmp}
 use Rattle.upload_core.specs.declared.status.ServerInfo.{ServerInfo}
 use Rattle.upload_core.specs.declared.status.UploadStatus.{UploadStatus}
 use Rattle.upload_core.specs.declared.pieces.PieceFault.TheVariants.{OutOfMemory}
 use Rattle.upload_core.specs.declared.status.UploadStatus.TheVariants.{Running, Failed}
 use Rattle.upload_core.specs.State.{Goal, UploadState, with_record}
-use Rattle.upload_core.specs.Transfers.{follow_up}
+use Rattle.upload_core.specs.Transfers.{follow_ups, waits_before}
 use Rattle.upload_core.specs.Rounds.{EndsAs, IsOver, IsPlacing, IsSettled, IsToPlace}
 use Rattle.upload_core.specs.Rounds.{Placing, transfers_of}
 
@@ -35,30 +37,62 @@ pub data GoesOn (u : UploadState) (r : RequestsState) (new : UploadState) : Type
   ends : (status : UploadStatus) → IsSettled r.entries → IsOver u r
       → EndsAs u.goal u.happy r.entries status → new ≡ ended u r status → GoesOn u r new
 
--- what is asked of a server at once after its request at a position was answered or lost
-abbrev pub asks_after : Request → Option Asked → List (ℕ × Asked)
-asks_after r None = []
-asks_after r (Some asked) = (r.server, asked) ∷ []
+-- these requests of a server
+abbrev pub asks_of_server : ℕ → List Asked → List (ℕ × Asked)
+asks_of_server server asks = map (λ (asked : Asked). (server, asked)) asks
 
-abbrev pub follow_ups_at : Goal → Option Request → List (ℕ × Asked)
-follow_ups_at g None = []
-follow_ups_at g (Some r) = asks_after r (follow_up g r)
+-- what is asked of a server at once after its request was answered or lost
+abbrev pub follow_ups_of : Goal → List Request → Option Request → List (ℕ × Asked)
+follow_ups_of g entries None = []
+follow_ups_of g entries (Some r) = asks_of_server r.server (follow_ups g entries r)
 
-abbrev pub all_follow_ups : Goal → List Request → List ℕ → List (ℕ × Asked)
-all_follow_ups g entries lost =
-    flat_map (λ (p : ℕ). follow_ups_at g (slice_get entries p)) lost
+-- the record once what follows the request at a position is asked
+abbrev pub followed_at : Goal → ℕ → RequestsState → RequestsState
+followed_at g position r =
+    asked_all (follow_ups_of g r.entries (slice_get r.entries position)) r
+
+-- the record once what follows these requests is asked, one after another
+abbrev pub followed_all : Goal → List ℕ → RequestsState → RequestsState
+followed_all g [] r = r
+followed_all g (position ∷ others) r = followed_all g others (followed_at g position r)
+
+-- does a piece before that of a request wait, in the same transfer?
+abbrev pub is_early : List Request → ℕ → Asked → Bool
+is_early entries server (Writing share offset len) = waits_before entries server share offset
+is_early entries server asked = false
+
+abbrev pub is_early_in : List Request → Option Request → Bool
+is_early_in entries None = false
+is_early_in entries (Some r) = is_early entries r.server r.asked
+
+abbrev pub in_turn : List Request → Option ℕ → Option ℕ
+in_turn entries None = None
+in_turn entries (Some position) =
+    if is_early_in entries (slice_get entries position) then None else Some position
+
+-- the position of the request that a message answers, where it counts and is in its turn: an answer
+-- to a piece counts once no piece before it waits, and until then the piece waits for another
+abbrev pub heard_at : ℕ → Message → RequestsState → Option ℕ
+heard_at from m r = in_turn r.entries (counts_at from m r)
+
+-- the record after a message at a time
+abbrev pub heard : Option ℕ → ℕ → Message → ℕ → RequestsState → RequestsState
+heard None from m now r = at now r
+heard (Some position) from m now r = after_message from m now r
+
+abbrev pub after_heard : ℕ → Message → ℕ → RequestsState → RequestsState
+after_heard from m now r = heard (heard_at from m r) from m now r
 
 -- A message at a time: one that does not count moves the time alone, and so does each once the
 -- upload ended.
 abbrev pub AdvancesAt : Option ℕ → RequestsState → UploadState → UploadState → Type 0
 AdvancesAt None r old new = new ≡ with_record old r
-AdvancesAt (Some position) r old new =
-    GoesOn old (asked_all (follow_ups_at old.goal (slice_get r.entries position)) r) new
+AdvancesAt (Some position) r old new = GoesOn old (followed_at old.goal position r) new
 
 pub record Advances (from : ℕ) (m : Message) (now : ℕ) (old new : UploadState) : Type 0 where
   pub running : old.status ≡ Running
-      → AdvancesAt (counts_at from m old.requests) (after_message from m now old.requests) old new
-  pub ended : old.status ≢ Running → new ≡ with_record old (after_message from m now old.requests)
+      → AdvancesAt (heard_at from m old.requests) (after_heard from m now old.requests) old new
+  pub ended : old.status ≢ Running → new ≡ with_record old (after_heard from m now old.requests)
 
 -- A step found no memory: what the upload is for stays, its record went on, and some of what
 -- follows is asked.
@@ -73,7 +107,7 @@ pub record Stops (r : RequestsState) (old new : UploadState) : Type 0 where
 abbrev pub TicksWith : List ℕ → RequestsState → UploadState → UploadState → Type 0
 TicksWith [] r old new = new ≡ with_record old r
 TicksWith (first ∷ others) r old new =
-    GoesOn old (asked_all (all_follow_ups old.goal r.entries (first ∷ others)) r) new
+    GoesOn old (followed_all old.goal (first ∷ others) r) new
 
 pub record TicksOn (now : ℕ) (old new : UploadState) : Type 0 where
   pub running : old.status ≡ Running

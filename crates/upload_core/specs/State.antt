@@ -5,11 +5,17 @@ use Rattle.request_record.specs.Record.{RequestsState}
 use Rattle.upload_core.specs.declared.status.UploadStatus.{UploadStatus}
 
 -- what is to be placed: the shares of the file of a verify cap, which has its storage index, by the
--- digest of each share and the length that all of them have
+-- digest of each share and the length that all of them have; and how many pieces of a share may
+-- wait for their answers at one server, at least one
 pub record Goal : Type 0 where
   pub cap : VerifyCapValue
   pub digests : List (List ℕ)
   pub share_length : ℕ
+  pub ahead : ℕ
+
+-- the same, where so many pieces of a share may wait at one server
+abbrev pub with_ahead : ℕ → Goal → Goal
+with_ahead ahead g = record g { ahead = ahead }
 
 -- `happy`: the happiness that is wanted. `servers`: all of them, in the order of the file. `round`:
 -- the position of the first transfer of the last placing, 0 before the first.

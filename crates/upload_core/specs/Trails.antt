@@ -1,6 +1,6 @@
 -- The trail of a share at a server: what the server was asked about the share, in order.
-use Rattle.std.specs.Prelude.{◌≡◌, ℕ, ◌+◌, ◌<◌, List, Option, Some, None, Contains, slice_get, true}
-use Rattle.std.specs.Prelude.{false}
+use Rattle.std.specs.Prelude.{◌≡◌, ℕ, ◌+◌, ◌*◌, ◌<◌, ◌≤◌, List, Option, Some, None, Contains}
+use Rattle.std.specs.Prelude.{slice_get, Bool, true, false}
 use Rattle.request_record.specs.declared.requests.Asked.{Asked}
 use Rattle.request_record.specs.declared.requests.Asked.TheVariants.{Holdings, Allocation, Writing}
 use Rattle.request_record.specs.declared.requests.Asked.TheVariants.{Closing}
@@ -8,6 +8,7 @@ use Rattle.request_record.specs.declared.requests.Asked.TheVariants.{Reading, Ab
 use Rattle.request_record.specs.declared.requests.Outcome.TheVariants.{Lost}
 use Rattle.request_record.specs.declared.requests.Request.{Request}
 use Rattle.request_record.specs.Record.{is_outstanding}
+use Rattle.wire.specs.Limits.{most_data}
 use Rattle.placement.specs.Matching.{Pair}
 use Rattle.upload_core.specs.State.{Goal}
 use Rattle.upload_core.specs.Acknowledged.{acked_by}
@@ -22,7 +23,12 @@ share_of (Closing share) = Some share
 share_of (Reading share offset len) = None
 share_of (Aborting share) = Some share
 
--- how far a transfer is at a request
+-- what is asked last where a transfer failed
+abbrev pub is_abort : Asked → Bool
+is_abort (Aborting share) = true
+is_abort asked = false
+
+-- how far a transfer is at the beginning of a request, and at its end
 abbrev pub rank_of : Goal → Asked → ℕ
 rank_of g Holdings = 0
 rank_of g (Allocation share len) = 0
@@ -30,6 +36,18 @@ rank_of g (Writing share offset len) = offset + 1
 rank_of g (Closing share) = g.share_length + 2
 rank_of g (Reading share offset len) = 0
 rank_of g (Aborting share) = g.share_length + 3
+
+abbrev pub reach_of : Goal → Asked → ℕ
+reach_of g (Writing share offset len) = offset + len
+reach_of g asked = rank_of g asked
+
+-- What may be asked while a request waits, after it and in its trail: behind a piece those that end
+-- within `ahead` pieces from its beginning, and the Abort.
+abbrev pub IsWithin : Goal → Asked → Asked → Type 0
+IsWithin g (Writing share offset len) (Writing other at count) =
+    at + count ≤ offset + g.ahead * most_data
+IsWithin g (Writing share offset len) (Aborting other) = Unit {0}
+IsWithin g asked next = ⊥
 
 -- it asks the pair's server about the pair's share
 abbrev pub IsAbout : Pair → Request → Type 0
@@ -39,10 +57,10 @@ IsAbout pair r = (r.server ≡ pair.0) × (share_of r.asked ≡ Some pair.1)
 abbrev pub IsNew : List Request → Pair → Type 0
 IsNew entries pair = (i : ℕ) (r : Request) → slice_get entries i ≡ Some r → IsAbout pair r → ⊥
 
--- a request waits no more, and what is asked next is further
+-- what is asked next begins behind a request, and lies in its window while it waits
 pub record IsBefore (g : Goal) (r : Request) (next : Asked) : Type 0 where
-  pub quiet : is_outstanding r.outcome ≡ false
-  pub further : rank_of g r.asked < rank_of g next
+  pub further : reach_of g r.asked < rank_of g next
+  pub within : is_outstanding r.outcome ≡ true → IsWithin g r.asked next
 
 -- in each trail one request goes on from another
 abbrev pub AreTrails : Goal → List Request → Type 0
@@ -56,13 +74,15 @@ GoesFurther g entries ask =
     (i : ℕ) (r : Request) (share : ℕ) → slice_get entries i ≡ Some r → IsAbout (ask.0, share) r
     → share_of ask.1 ≡ Some share → IsBefore g r ask.1
 
--- the request at this position waits no more, and is the last of its trail
-pub record IsAtEnd (entries : List Request) (position : ℕ) : Type 0 where
+-- The request at this position waits no more, and what was asked after it and in its trail, the
+-- Abort aside, is within its window, as it was asked while it waited.
+pub record IsPassed (g : Goal) (entries : List Request) (position : ℕ) : Type 0 where
   pub request : Request
   pub there : slice_get entries position ≡ Some request
   pub quiet : is_outstanding request.outcome ≡ false
-  pub last : (i : ℕ) (r : Request) (pair : Pair) → position < i → slice_get entries i ≡ Some r
-      → IsAbout pair request → IsAbout pair r → ⊥
+  pub behind : (i : ℕ) (r : Request) (pair : Pair) → position < i → slice_get entries i ≡ Some r
+      → IsAbout pair request → IsAbout pair r → is_abort r.asked ≡ false
+      → IsWithin g request.asked r.asked
 
 -- the request at this position was lost
 pub record IsLostAt (entries : List Request) (position : ℕ) : Type 0 where
@@ -79,6 +99,20 @@ pub data IsFollowed (g : Goal) (entries : List Request) (pair : Pair) : Type 0 w
       → Contains (acked_by g r) pair → IsFollowed g entries pair
   by_waiting : (i : ℕ) (r : Request) → slice_get entries i ≡ Some r → IsAbout pair r
       → is_transfer r.asked ≡ true → is_outstanding r.outcome ≡ true → IsFollowed g entries pair
+
+-- a transfer of this server failed
+pub record HasFailed (g : Goal) (entries : List Request) (server : ℕ) : Type 0 where
+  pub position : ℕ
+  pub request : Request
+  pub there : slice_get entries position ≡ Some request
+  pub server_is : request.server ≡ server
+  pub failed : has_failed g request ≡ true
+
+-- an Abort is asked only of a server at which a transfer failed
+abbrev pub AreFailed : Goal → List Request → Type 0
+AreFailed g entries =
+    (i : ℕ) (r : Request) → slice_get entries i ≡ Some r → is_abort r.asked ≡ true
+    → HasFailed g entries r.server
 
 -- so it is with each trail
 abbrev pub AreFollowed : Goal → List Request → Type 0

@@ -14,8 +14,10 @@ mod rounds;
 mod state;
 pub mod status;
 mod steps;
+mod trails;
 mod transfers;
 mod upload;
+mod windows;
 
 pub use ready::ReadyUpload;
 pub use upload::Upload;

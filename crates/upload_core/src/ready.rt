@@ -1,8 +1,9 @@
 //! An upload that is ready to begin.
 
-ghost use Rattle.std.specs.Prelude.{◌≡◌, IfOk, map, nat_eq};
+ghost use Rattle.std.specs.Prelude.{◌≡◌, ◌≤◌, IfOk, map, nat_eq};
 ghost use Rattle.std.specs.List.{IsDistinct};
 ghost use Rattle.upload_core.specs.Moves.{Begins};
+ghost use Rattle.upload_core.specs.State.{with_ahead};
 ghost use Rattle.upload_core.specs.declared.status.ServerInfo.{ServerInfo};
 
 use crate::pieces::Pieces;
@@ -46,6 +47,22 @@ impl<P: Pieces + Drop> ReadyUpload<P> {
         }
     }
 
+    /// The same, where so many pieces of a share may wait for their answers at one server: 1 or
+    /// more.
+    pub fn with_ahead(self, ahead: u8) -> ReadyUpload<P>
+        requires { 1 ≤ ahead }
+        ensures pieces { result.pieces ≡ self.pieces }
+        ensures goal { result.goal ≡ with_ahead ahead self.goal }
+        ensures happy { result.happy ≡ self.happy }
+    {
+        let (pieces, goal, happy) = self.into_parts();
+        ReadyUpload {
+            pieces,
+            goal: goal.with_ahead(ahead),
+            happy,
+        }
+    }
+
     /// Where the bytes of the shares come from.
     pub fn pieces(&self) -> &P
         ensures { result.now ≡ self.now.pieces }
@@ -80,7 +97,8 @@ impl<P: Pieces + Drop> ReadyUpload<P> {
     }
 
     /// Begins the upload: each of the servers is asked, in the order of the file, which shares it
-    /// holds. With no server it ends at once. The servers are of distinct nodes.
+    /// holds. Each piece of a share waits for the answer to the one before it, if `with_ahead` said
+    /// nothing else. With no server it ends at once. The servers are of distinct nodes.
     pub fn start(
         self,
         alloc: Global,

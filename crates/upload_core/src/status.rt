@@ -2,6 +2,7 @@
 
 ghost use Rattle.std.specs.Prelude.{◌≡◌, ◌≤◌, length};
 ghost use Rattle.upload_core.specs.Acknowledged.{is_digest_of};
+ghost use Rattle.upload_core.specs.State.{with_ahead};
 
 use crate::pieces::PieceFault;
 use cap_text::VerifyCap;
@@ -16,12 +17,14 @@ pub struct ServerInfo {
     pub id: ServerId,
 }
 
-/// What an upload is for: the shares of a verify cap's file, by their digests and length.
+/// What an upload is for: the shares of a verify cap's file, by their digests and length; and how
+/// many pieces of a share may wait for their answers at one server.
 #[derive(Drop)]
 pub struct UploadGoal {
     cap: VerifyCap,
     digests: Vec<Digest>,
     share_length: ShareLength,
+    ahead: u8,
 }
 
 impl Model for UploadGoal {
@@ -34,27 +37,40 @@ impl Model for UploadGoal {
       cap = g.cap;
       digests = g.digests.items;
       share_length = g.share_length;
+      ahead = g.ahead;
     } };
 
-    ghost invariant = { λ g. length g.digests.items ≤ 256 };
+    ghost invariant = { λ g.
+        (length g.digests.items ≤ 256) × (1 ≤ g.ahead) × (1 ≤ g.share_length) };
 }
 
 impl UploadGoal {
     /// The shares of the cap's file that have these digests, by number, and this length each. There
-    /// are at most 256.
+    /// are at most 256. Each piece of a share waits for the answer to the one before it.
     pub fn new(cap: VerifyCap, digests: Vec<Digest>, share_length: ShareLength) -> UploadGoal
         requires { length digests.items ≤ 256 }
         ensures { result ≡ record {
           cap = cap;
           digests = digests.items;
           share_length = share_length;
+          ahead = 1;
         } }
     {
         UploadGoal {
             cap,
             digests,
             share_length,
+            ahead: 1,
         }
+    }
+
+    /// The same, where so many pieces of a share may wait for their answers at one server: 1 or
+    /// more.
+    pub fn with_ahead(self, ahead: u8) -> UploadGoal
+        requires { 1 ≤ ahead }
+        ensures { result ≡ with_ahead ahead self }
+    {
+        UploadGoal { ahead, ..self }
     }
 
     /// The verify cap.
@@ -77,6 +93,14 @@ impl UploadGoal {
         ensures { result ≡ self.now.share_length }
     {
         self.share_length
+    }
+
+    /// How many pieces of a share may wait for their answers at one server.
+    pub fn ahead(&self) -> u8
+        ensures value { result ≡ self.now.ahead }
+        ensures some { 1 ≤ result }
+    {
+        self.ahead
     }
 
     /// The digests of the shares, by number.

@@ -1,27 +1,26 @@
 //! What a message, a second and a send do to the course of an upload, and what follows.
 
-ghost use Rattle.std.specs.Prelude.{◌≡◌, ◌≢◌, ◌⊎◌, ◌<◌, ℕ, All, IfOk, IfSome, IsOk, MatchOption};
-ghost use Rattle.std.specs.Prelude.{OnErr, OnOk, Some, length, nat_eq, slice_get, take};
+ghost use Rattle.std.specs.Prelude.{◌≡◌, ◌≢◌, ◌⊎◌, ◌<◌, ℕ, All, IfOk, IsOk};
+ghost use Rattle.std.specs.Prelude.{OnErr, OnOk, Some, length, nat_eq, take};
 ghost use Rattle.std.specs.List.{IsDistinct};
 ghost use Rattle.request_record.specs.Asking.{after_message, after_tick, message_at, one_sent};
-ghost use Rattle.request_record.specs.Record.{asked_all, asked_more};
+ghost use Rattle.request_record.specs.Record.{asked_all};
 ghost use Rattle.placement.specs.Matching.{shares_of};
 ghost use Rattle.upload_core.specs.Acknowledged.{acked_pairs};
 ghost use Rattle.upload_core.specs.Course.{CanGoOn, IsCourse, MayPlace, Places, allocations};
 ghost use Rattle.upload_core.specs.Course.{transfers};
-ghost use Rattle.upload_core.specs.Moves.{Advances, GoesOn, Stops, TicksOn, all_follow_ups};
-ghost use Rattle.upload_core.specs.Moves.{follow_ups_at};
+ghost use Rattle.upload_core.specs.Moves.{Advances, GoesOn, Stops, TicksOn, followed_all};
 ghost use Rattle.upload_core.specs.Sending.{first_to_send};
 ghost use Rattle.upload_core.specs.Rounds.{IsSettled};
 ghost use Rattle.upload_core.specs.State.{with_record};
-ghost use Rattle.upload_core.specs.Trails.{AreFollowed, IsAtEnd, IsLostAt};
+ghost use Rattle.upload_core.specs.Trails.{AreFollowed, IsLostAt, IsPassed};
 
 use crate::acknowledged::acked_pairs;
 use crate::ending::largest;
 use crate::rounds::servers_of;
 use crate::state::Course;
 use crate::status::UploadStatus;
-use crate::transfers::{follow_up, given_up};
+use crate::transfers::effect_of;
 use placement::place;
 use request_record::ledger::Ledger;
 use request_record::requests::Asked;
@@ -43,17 +42,19 @@ impl Course {
         ensures ended { self.old.status ≢ UploadStatus.Running → IsOk result }
         ensures goal { self.new.goal ≡ self.old.goal }
     {
-        let Some(position) = self.requests.counts_at(from, &message) else {
+        let Some(position) = self.heard_at(from, &message) else {
             self.requests.pass(now);
             return Ok(());
         };
         // The record may let the request go once its answer is taken.
-        let next = follow_up(&self.goal, self.requests.request(position), &message.body);
+        let request = self.requests.request(position);
+        let asked = request.asked;
+        let effect = effect_of(&self.goal, request, &message.body);
         self.requests.take_answer(from, message, now);
         if !self.is_running() {
             return Ok(());
         }
-        self.ask_next(from, next)?;
+        self.follow(from, &asked, effect)?;
         self.go_on()
     }
 
@@ -81,7 +82,7 @@ impl Course {
         if lost.is_empty() {
             return Ok(());
         }
-        self.follow_all(&lost)?;
+        self.follow_lost(&lost)?;
         self.go_on()
     }
 
@@ -97,51 +98,17 @@ impl Course {
         message
     }
 
-    // Asks this of a server, if anything.
-    fn ask_next(&mut self, server: NodeId, next: Option<Asked>) -> Result<(), AllocError>
-        requires right { IfSome next (λ asked. IsCourse
-            (with_record self.old (asked_more server asked self.old.requests))) }
-        ensures ok { OnOk result (MatchOption next (self.new ≡ self.old) (λ asked.
-            self.new ≡ with_record self.old (asked_more server asked self.old.requests))) }
-        ensures err { OnErr result (self.new ≡ self.old) }
-        ensures goal { self.new.goal ≡ self.old.goal }
-    {
-        match next {
-            Some(asked) => self.requests.ask(server, asked),
-            None => Ok(()),
-        }
-    }
-
-    // Asks what follows the loss of the request at a position.
-    fn follow(&mut self, position: usize) -> Result<(), AllocError>
-        requires lost { IsLostAt self.old.requests.entries position }
-        requires at_end { IsAtEnd self.old.requests.entries position }
-        ensures ok { OnOk result (self.new ≡ with_record self.old (asked_all
-            (follow_ups_at self.old.goal (slice_get self.old.requests.entries position))
-            self.old.requests)) }
-        ensures err { OnErr result (self.new ≡ self.old) }
-        ensures goal { self.new.goal ≡ self.old.goal }
-    {
-        let request = self.requests.request(position);
-        let server = request.server;
-        let next = given_up(request.asked);
-        self.ask_next(server, next)
-    }
-
     // Asks what follows the loss of the requests at these positions.
-    fn follow_all(&mut self, positions: &[usize]) -> Result<(), AllocError>
+    fn follow_lost(&mut self, positions: &[usize]) -> Result<(), AllocError>
         requires lost { All (IsLostAt self.old.requests.entries) positions.now }
-        requires at_end { All (IsAtEnd self.old.requests.entries) positions.now }
-        requires once { IsDistinct nat_eq positions.now }
-        requires right { IsCourse self.old }
-        ensures ok { OnOk result (self.new ≡ with_record self.old (asked_all
-            (all_follow_ups self.old.goal self.old.requests.entries positions.now)
-            self.old.requests)) }
+        requires passed { All (IsPassed self.old.goal self.old.requests.entries) positions.now }
+        ensures ok { OnOk result (self.new ≡ with_record self.old
+            (followed_all self.old.goal positions.now self.old.requests)) }
         ensures err { OnErr result (Stops self.old.requests self.old self.new) }
         ensures goal { self.new.goal ≡ self.old.goal }
     {
         for position in positions {
-            self.follow(*position)?;
+            self.follow_loss(*position)?;
         }
         Ok(())
     }

@@ -1,29 +1,57 @@
-//! Transfers: what follows an answer or a loss, and which transfers failed.
+//! Transfers: what an answer or a loss does to one, what is asked then, and which transfers failed.
 
-ghost use Rattle.std.specs.Prelude.{◌≡◌, ◌+◌, ◌<◌, ◌≤◌, ◌^◌};
+ghost use Rattle.std.specs.Prelude.{◌≡◌, ◌↔◌, ◌+◌, ◌==◌, ◌&&◌, nat_lt, nat_le, option_to_list};
+ghost use Rattle.std.specs.Prelude.{IsTrue};
 ghost use Rattle.upload_core.specs.Acknowledged.{is_digest_of};
-ghost use Rattle.upload_core.specs.Transfers.{after_piece, carried, fails, follow_up};
-ghost use Rattle.upload_core.specs.Transfers.{given_up, has_failed, is_acknowledged, is_transfer};
-ghost use Rattle.upload_core.specs.Transfers.{next_of};
-ghost use Rattle.upload_core.specs.State.{Goal};
+ghost use Rattle.upload_core.specs.Transfers.{carries, effect_of, fails, given_up, has_failed};
+ghost use Rattle.upload_core.specs.Transfers.{is_acknowledged};
+ghost use Rattle.upload_core.specs.Transfers.{is_transfer, next_of, piece_at, sent_from};
 ghost use Rattle.request_record.specs.declared.requests.Outcome.TheVariants.{Answered};
-ghost use Rattle.request_record.specs.Record.{with_outcome};
 
 use crate::status::UploadGoal;
 use request_record::requests::{Asked, Outcome, Request};
-use wire::message::{Body, ShareLength};
+use wire::message::Body;
 
 /// The most bytes of a piece.
 pub(crate) const MAX_PIECE: u64 = 32_768;
 
-/// What is asked of a request's server at once after this answer to it.
-pub(crate) fn follow_up(goal: &UploadGoal, request: &Request, body: &Body) -> Option<Asked>
-    ensures { result ≡ follow_up goal.now (with_outcome request.now (Answered body.now)) }
+/// What an answer, or the loss of a request, does to its transfer.
+#[derive(Clone, Copy, PartialEq, Eq)]
+pub enum Effect {
+    /// It fails.
+    Fails,
+    /// It goes on.
+    Carries,
+    /// Nothing more is asked: the share is acknowledged, or it was no request of a transfer.
+    Rests,
+}
+
+impl Effect {
+    /// Does the transfer fail?
+    pub(crate) fn fails(self) -> bool
+        ensures { IsTrue result ↔ (self ≡ Effect.Fails) }
+    {
+        matches!(self, Effect::Fails)
+    }
+
+    /// Does it go on?
+    pub(crate) fn carries(self) -> bool
+        ensures { IsTrue result ↔ (self ≡ Effect.Carries) }
+    {
+        matches!(self, Effect::Carries)
+    }
+}
+
+/// What this answer to a request does to its transfer.
+pub(crate) fn effect_of(goal: &UploadGoal, request: &Request, body: &Body) -> Effect
+    ensures { result ≡ effect_of goal.now request.now.asked (Answered body.now) }
 {
     if is_refusal(goal, request, body) {
-        given_up(request.asked)
+        Effect::Fails
+    } else if carries(goal, request.asked, body) {
+        Effect::Carries
     } else {
-        carried(goal, request.asked, body)
+        Effect::Rests
     }
 }
 
@@ -47,7 +75,7 @@ fn is_refusal(goal: &UploadGoal, request: &Request, body: &Body) -> bool
     ensures { result ≡ fails goal.now request.now.asked (Answered body.now) }
 {
     is_transfer(request.asked)
-        && carried(goal, request.asked, body).is_none()
+        && !carries(goal, request.asked, body)
         && !is_acknowledged(goal, request.asked, body)
 }
 
@@ -72,55 +100,68 @@ fn is_acknowledged(goal: &UploadGoal, asked: Asked, body: &Body) -> bool
     }
 }
 
-/// What is asked where a transfer failed, as after a loss: one Abort, where room was granted.
-pub(crate) fn given_up(asked: Asked) -> Option<Asked>
-    ensures { result ≡ given_up asked }
-{
-    match asked {
-        Asked::Writing(share, _, _) => Some(Asked::Aborting(share)),
-        Asked::Closing(share) => Some(Asked::Aborting(share)),
-        _ => None,
-    }
-}
-
-// What an answer carries on to.
-fn carried(goal: &UploadGoal, asked: Asked, body: &Body) -> Option<Asked>
-    ensures { result ≡ carried goal.now asked body.now }
+// Does an answer carry on?
+fn carries(goal: &UploadGoal, asked: Asked, body: &Body) -> bool
+    ensures { result ≡ carries goal.now asked body.now }
 {
     match (asked, body) {
-        (Asked::Allocation(share, _), Body::Granted) => {
-            Some(next_of(goal.share_length(), share, 0))
+        (Asked::Allocation(_, _), Body::Granted) => true,
+        (Asked::Writing(_, offset, len), Body::Wrote(next)) => is_end(offset, len, *next),
+        (Asked::Writing(_, offset, len), Body::WrongOffset(next)) => {
+            is_end(offset, len, *next) || is_sent_behind(goal, offset, len, *next)
         }
-        (Asked::Writing(share, offset, len), Body::Wrote(next)) => {
-            after_piece(goal, share, offset, len, *next)
-        }
-        (Asked::Writing(share, offset, len), Body::WrongOffset(next)) => {
-            after_piece(goal, share, offset, len, *next)
-        }
-        _ => None,
+        _ => false,
     }
 }
 
-// What follows a piece, where the answer names its end.
-fn after_piece(goal: &UploadGoal, share: u8, offset: u64, len: u32, next: u64) -> Option<Asked>
-    ensures { result ≡ after_piece goal.now share (offset + len) next }
+// Does a piece end here?
+fn is_end(offset: u64, len: u32, next: u64) -> bool
+    ensures { result ≡ next == offset + len }
 {
-    if offset.checked_add(u64::from(len)) == Some(next) {
-        Some(next_of(goal.share_length(), share, next))
-    } else {
-        None
-    }
+    offset.checked_add(u64::from(len)) == Some(next)
 }
 
-// After so many bytes of a share: the next piece, or Close.
-fn next_of(share_length: ShareLength, share: u8, sent: u64) -> Asked
-    ensures { (goal : Goal) → goal.share_length ≡ share_length → result ≡ next_of goal share sent }
+// Does a place lie behind a piece, and was the share sent up to it?
+fn is_sent_behind(goal: &UploadGoal, offset: u64, len: u32, next: u64) -> bool
+    ensures { result ≡ nat_lt (offset + len) next && nat_le next (sent_from goal.now offset) }
 {
-    let length = share_length.get();
-    if sent == length {
+    let end = offset.checked_add(u64::from(len));
+    end.is_some_and(|end| end < next) && next <= sent_from(goal, offset)
+}
+
+/// How far a share is sent while no piece before this offset waits.
+pub(crate) fn sent_from(goal: &UploadGoal, offset: u64) -> u64
+    ensures { result ≡ sent_from goal.now offset }
+{
+    let ahead = u64::from(goal.ahead()) * MAX_PIECE;
+    offset.saturating_add(ahead).min(goal.share_length().get())
+}
+
+/// After so many bytes of a share: the next piece, or Close.
+pub(crate) fn next_of(goal: &UploadGoal, share: u8, sent: u64) -> Asked
+    ensures { result ≡ next_of goal.now share sent }
+{
+    if sent == goal.share_length().get() {
         Asked::Closing(share)
     } else {
-        let left = length.saturating_sub(sent).min(MAX_PIECE);
-        Asked::Writing(share, sent, left as u32)
+        piece_at(goal, share, sent)
+    }
+}
+
+/// The piece of a share from an offset on.
+pub(crate) fn piece_at(goal: &UploadGoal, share: u8, offset: u64) -> Asked
+    ensures { result ≡ piece_at goal.now share offset }
+{
+    let left = goal.share_length().get().saturating_sub(offset);
+    Asked::Writing(share, offset, left.min(MAX_PIECE) as u32)
+}
+
+/// What is asked where a transfer failed: Abort, where room was granted.
+pub(crate) fn given_up(asked: &Asked) -> Option<Asked>
+    ensures { option_to_list result ≡ given_up asked.now }
+{
+    match asked {
+        Asked::Writing(share, _, _) | Asked::Closing(share) => Some(Asked::Aborting(*share)),
+        _ => None,
     }
 }

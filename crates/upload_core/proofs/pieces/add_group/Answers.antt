@@ -1,4 +1,4 @@
-use Rattle.std.proofs.Common.{◌≡◌, ◌+◌, ◌-◌, ◌<◌, ◌≤◌, ◌++◌, ℕ, List, [], ◌∷◌, Vec, Global, length, map, take, drop, get_or, ext_get_or, sym, ap, ◌∙◌, arith}
+use Rattle.std.proofs.Common.{◌≡◌, ◌+◌, ◌-◌, ◌<◌, ◌++◌, ℕ, List, [], ◌∷◌, Vec, Global, length, map, take, drop, get_or, ext_get_or, sym, ap, ◌∙◌, arith}
 use Rattle.std.proofs.lemmas.List.{append_assoc, get_or-drop, get_or-map, get_or-take, length-drop, length-map, length-take-le, take_more}
 use Rattle.tagged_hash.specs.TaggedHash.{share_digest}
 use Rattle.upload_core.proofs.pieces.add_group.Goals as goal

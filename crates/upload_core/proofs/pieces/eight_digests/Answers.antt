@@ -1,4 +1,4 @@
-use Rattle.std.proofs.Common.{◌≡◌, ◌+◌, ◌<◌, min, ℕ, List, [], ◌∷◌, length, map, get_or, sym, ap, ◌∙◌, arith}
+use Rattle.std.proofs.Common.{◌≡◌, ◌+◌, min, ℕ, List, [], ◌∷◌, length, map, get_or, sym, ap, ◌∙◌, arith}
 use Rattle.lemmas.proofs.Eights.{by_eight}
 use Rattle.tagged_hash.specs.TaggedHash.{share_digest}
 use Rattle.upload_core.proofs.pieces.eight_digests.Goals as goal

@@ -15,8 +15,10 @@ invariant_of-course c =
     let nodes = c.in_ok-servers.servers.items in
     let distinct : IsDistinct eqb nodes = order_distinct c.args.goal.cap.storage_index c.args.servers.now nodes c.in_ok-servers.ensures c.requires.distinct in
     let u : UploadState = upload_state c.args.goal c.args.happy nodes c.in_ok-requests.requests 0 Running in
-    let few : length c.args.goal.digests ≤ 256 = subst (λ (g : Goal). length g.digests ≤ 256) c.goal.view_is c.goal.invariant in
-    begun_course u nodes c.args.session c.args.now (c.in_ok-requests.ensures ∙ ap (λ l. begun l c.args.session c.args.now) c.as_slice.ensures.value) refl few distinct
+    let few : length c.args.goal.digests ≤ 256 = subst (λ (g : Goal). length g.digests ≤ 256) c.goal.view_is c.goal.invariant.0 in
+    let some : 1 ≤ c.args.goal.ahead = subst (λ (g : Goal). 1 ≤ g.ahead) c.goal.view_is c.goal.invariant.1 in
+    let long : 1 ≤ c.args.goal.share_length = subst (λ (g : Goal). 1 ≤ g.share_length) c.goal.view_is c.goal.invariant.2 in
+    begun_course u nodes c.args.session c.args.now (c.in_ok-requests.ensures ∙ ap (λ l. begun l c.args.session c.args.now) c.as_slice.ensures.value) refl few some long distinct
 
 pub returns-clause-ok : goal.returns-clause-ok
 returns-clause-ok c =
