@@ -25,7 +25,7 @@ use Rattle.file_upload.specs.declared.prepared.FileUpload.{FileUpload}
 use Rattle.file_upload.specs.declared.prepared.FileUpload.TheVariants.{Shares}
 use Rattle.file_upload.specs.Ready.{goal_of, ready_stream}
 use Rattle.file_upload.specs.Streamed.{Streaming}
-use Rattle.upload_core.specs.State.{Goal}
+use Rattle.upload_core.specs.State.{Goal, with_ahead}
 use Rattle.grid_shares.specs.Puts.{IsPutOf, IsToldOf, whole_calls}
 use Rattle.grid_shares.specs.declared.putting.PutFile.{PutFile}
 use Rattle.grid_shares.specs.declared.placing.Stored.{Stored}
@@ -45,15 +45,16 @@ module _ {P G : Type 0} (operation : OperationCalls (Uploading P)) (calls : Outs
 
 module _ {P N : Type 0} (operation : OperationCalls (Uploading P)) (calls : GridCalls N) (before : FolderGridState N) (session : ℕ) (servers : List ℕ) (made : Ready P) where
   -- shares whose upload was carried to its end
-  pub uploaded : (after : FolderGridState N) (begun ended : Uploading P) (given now : ℕ) (r : Result ℕ Fault) (wanted : ℕ) (status : UploadStatus)
+  pub uploaded : (ahead : ℕ) (after : FolderGridState N) (begun ended : Uploading P) (given now : ℕ) (r : Result ℕ Fault) (wanted : ℕ) (status : UploadStatus)
       → r ≡ ending_of wanted status → status ≡ ended.course.status → IsRight ended.course → given ≡ session → now ≡ calls.clock before
-      → Begins made.goal made.happy (map server_of servers) given now begun.course → begun.pieces ≡ made.pieces → IsCarried operation calls begun before ended after
+      → Begins (with_ahead ahead made.goal) made.happy (map server_of servers) given now begun.course → begun.pieces ≡ made.pieces → IsCarried operation calls begun before ended after
       → IfOk r (AreUploaded operation calls before session servers made)
-  uploaded after begun ended given now r wanted status e same right own clock begins pieces carried =
+  uploaded ahead after begun ended given now r wanted status e same right own clock begins pieces carried =
       IfOk-weaker r _ _ (λ happiness stored. record {
         begun = begun;
-        begins = subst (λ (s : ℕ). Begins made.goal made.happy (map server_of servers) s (calls.clock before) begun.course) own
-            (subst (λ (n : ℕ). Begins made.goal made.happy (map server_of servers) given n begun.course) clock begins);
+        ahead = ahead;
+        begins = subst (λ (s : ℕ). Begins (with_ahead ahead made.goal) made.happy (map server_of servers) s (calls.clock before) begun.course) own
+            (subst (λ (n : ℕ). Begins (with_ahead ahead made.goal) made.happy (map server_of servers) given n begun.course) clock begins);
         pieces = pieces;
         after = after;
         stored = stored;

@@ -4,6 +4,7 @@ use Rattle.request_record.specs.Operations.{OperationCalls}
 use Rattle.upload_core.specs.Moves.{Begins}
 use Rattle.upload_core.specs.Ready.{Ready}
 use Rattle.upload_core.specs.Sending.{Uploading}
+use Rattle.upload_core.specs.State.{with_ahead}
 use Rattle.fetched_shares.specs.declared.range.SharePlace.{SharePlace}
 use Rattle.carried_operations.specs.Stored.{IsStored}
 use Rattle.grid_faults.specs.Servers.{server_of}
@@ -15,13 +16,15 @@ use Rattle.grid_shares.specs.Standing.{WereOpened}
 use Rattle.grid_shares.specs.Ways.{AreCleared}
 
 -- Shares were uploaded to these servers, over a grid as it stood: their upload was begun in a
--- session with all of these servers, and is stored with this happiness.
+-- session with all of these servers, so many pieces of a share ahead, and is stored with this
+-- happiness.
 pub record AreUploaded {P S : Type 0} (operation : OperationCalls (Uploading P))
     (calls : GridCalls S) (before : FolderGridState S) (session : ℕ) (servers : List ℕ)
     (made : Ready P) (happiness : ℕ) : Type 0 where
   pub begun : Uploading P
-  pub begins : Begins made.goal made.happy (map server_of servers) session (calls.clock before)
-      begun.course
+  pub ahead : ℕ
+  pub begins : Begins (with_ahead ahead made.goal) made.happy (map server_of servers) session
+      (calls.clock before) begun.course
   pub pieces : begun.pieces ≡ made.pieces
   pub after : FolderGridState S
   pub stored : IsStored operation calls begun before after happiness

@@ -1,10 +1,12 @@
 //! Shares that are all made, placed on servers by a `put` or a `repair`.
 
-ghost use Rattle.std.specs.Prelude.{◌≡◌, ◌*◌, ◌-◌, ◌^◌, ℕ, List, length, min, map, nat_eq, IfOk};
+ghost use Rattle.std.specs.Prelude.{◌≡◌, ◌≤◌, ◌*◌, ◌-◌, ◌^◌, ℕ, List, length, min, map, nat_eq};
+ghost use Rattle.std.specs.Prelude.{IfOk};
 ghost use Rattle.std.specs.Prelude.{◌&&◌, IfSome, Some, false, if◌then◌else◌, is_some, true};
 ghost use Rattle.std.specs.List.{IsDistinct};
 ghost use Rattle.grid_faults.specs.Servers.{server_of};
 ghost use Rattle.upload_core.specs.Moves.{Begins};
+ghost use Rattle.upload_core.specs.State.{with_ahead};
 ghost use Rattle.grid_servers.specs.Grids.{grid_calls};
 ghost use Rattle.upload_core.specs.Calls.{upload_calls};
 ghost use Rattle.grid_servers.specs.Opened.{AreOpened};
@@ -19,7 +21,7 @@ use fetched_shares::SharePlace;
 use grid_faults::{Fault, servers_of};
 use grid_rules::becoming::fault_of_loop;
 use grid_rules::{reached_happiness, turn_limit};
-use grid_servers::{Durability, Purpose, lock_folders, servers_without};
+use grid_servers::{Durability, FolderGrid, Purpose, lock_folders, servers_without};
 use grid_telling::{Counting, Progress, Verb, note_servers};
 use local_grid::Outside;
 use std::alloc::Global;
@@ -35,6 +37,13 @@ use wire::message::NodeId;
 
 /// The exit status where a share that is none of the file's could not be set aside.
 const NOT_CLEARED: u8 = 5;
+
+// The most pieces of a share that may wait at a server elsewhere: more would make a put over a slow
+// line lose pieces, as a request's age counts from when it is asked.
+const MOST_AHEAD: usize = 4;
+
+// The most pieces that have room in what may wait for a server.
+const MOST_PIECES: usize = 512;
 
 /// How a store puts shares on its disk.
 pub fn durability_of(no_sync: bool) -> Durability
@@ -215,7 +224,8 @@ where
         turns_for(ready.goal()),
         standing.nodes.clock(),
     );
-    let upload = begin(rt.alloc(), ready, servers, session, now)?;
+    let ahead = pieces_ahead(&standing.nodes, ready.goal(), servers);
+    let upload = begin(rt.alloc(), ready, ahead, servers, session, now)?;
     let alloc = rt.alloc();
     let nodes = &mut standing.nodes;
     let upload = carry_upload(alloc, nodes, upload, turns, &mut *progress).map_err(fault_of_loop)?;
@@ -245,19 +255,39 @@ fn turns_for(goal: &UploadGoal) -> u64 {
     turn_limit(shares, goal.share_length().get())
 }
 
-// Begins an upload to these servers, which are distinct.
+// How many pieces of a share may wait for their answers at one server. Over folders of this process
+// each comes after the answer to the one before it; where a server is elsewhere four may wait, so
+// that not each of them costs a round trip, and fewer where a server is to hold so many shares that
+// their pieces have no room in what may wait for it.
+fn pieces_ahead<R>(nodes: &FolderGrid<R>, goal: &UploadGoal, servers: &[NodeId]) -> u8
+where
+    R: Files + Net + Clock + RandomSource + AllocGlobal + Clone + Drop,
+    ensures { 1 ≤ result }
+{
+    if nodes.remotes().iter().all(Option::is_none) {
+        return 1;
+    }
+    let shares_each = goal.share_count().div_ceil(servers.len().max(1)).max(1);
+    (MOST_PIECES / shares_each).clamp(1, MOST_AHEAD) as u8
+}
+
+// Begins an upload to these servers, which are distinct, where so many pieces of a share may wait
+// at one of them.
 fn begin<P: Pieces + Drop>(
     alloc: Global,
     ready: ReadyUpload<P>,
+    ahead: u8,
     servers: &[NodeId],
     session: u64,
     now: u64,
 ) -> Result<Upload<P>, Fault>
-    requires { IsDistinct nat_eq servers.now }
-    ensures begins { IfOk result (λ upload. Begins ready.goal ready.happy
+    requires distinct { IsDistinct nat_eq servers.now }
+    requires some { 1 ≤ ahead }
+    ensures begins { IfOk result (λ upload. Begins (with_ahead ahead ready.goal) ready.happy
         (map server_of servers.now) session now upload.course) }
     ensures pieces { IfOk result (λ upload. upload.pieces ≡ ready.pieces) }
 {
     let infos = servers_of(alloc, servers)?;
+    let ready = ready.with_ahead(ahead);
     Ok(ready.start(alloc, &infos, session, now)?)
 }
