@@ -1,8 +1,9 @@
--- What comes of the answer to the request for the next bytes of a share.
-use Rattle.std.proofs.Common.{◌≡◌, ℕ, ◌+◌, ◌≤◌, Bool, true, false, cond, List, [], ◌∷◌, ◌++◌, length, Some, None, ap, refl, sym, subst, ◌∙◌, arith, inl, inr, ◌⊎◌, true≢false}
+-- What comes of the pieces of a share that is read.
+use Rattle.std.proofs.Common.{◌≡◌, ℕ, zero, suc, ◌+◌, ◌<◌, ◌≤◌, Bool, true, false, cond, List, [], ◌∷◌, ◌++◌, length, Some, None, Vec, Global, ap, refl, sym, subst, ◌∙◌, arith, inl, inr, ◌⊎◌, true≢false}
 use Rattle.std.specs.Prelude.{Contains, slice_get}
+use Rattle.std.proofs.lemmas.List.{map-append}
 use Rattle.std.proofs.lemmas.List.Elements.{Contains-append_left, Contains-append_right, Contains-append_cases, Contains-push, Contains-push_cases}
-use Rattle.std.proofs.lemmas.Option.{same_Some}
+use Rattle.std.proofs.lemmas.Option.{none-some, same_Some, slice_get_within}
 use Rattle.share_reading.proofs.ReadLemmas.{more_led}
 use Rattle.lemmas.proofs.Members.{contains_cases, contains_head, contains_none, contains_tail}
 use Rattle.lemmas.proofs.Positions.{get_pushed, get_last}
@@ -14,33 +15,39 @@ use Rattle.request_record.specs.declared.requests.Asked.TheVariants.{Reading}
 use Rattle.request_record.specs.declared.requests.Outcome.{Outcome}
 use Rattle.request_record.specs.declared.requests.Outcome.TheVariants.{Unawaited, Outstanding, Answered, Lost}
 use Rattle.request_record.specs.declared.requests.Request.{Request}
-use Rattle.request_record.specs.Kept.{IsDataAt}
 use Rattle.request_record.specs.Record.{first_request, is_outstanding}
 use Rattle.share_verify.specs.declared.check.Check.{Check}
 use Rattle.share_reading.specs.OpeningReads.{Brought}
 use Rattle.share_reading.specs.declared.opening.Opening.TheVariants.{Start, Second, Header, Block}
 use Rattle.share_reading.specs.Reading as reading
-use Rattle.share_reading.specs.Reads.{AsksNone, IsAsked, IsReadBy, more_back, more_front}
+use Rattle.share_reading.specs.Judged.{IsJudgedBy}
+use Rattle.share_reading.specs.Reads.{AsksNone, IsAsked, more_back, more_front}
 use Rattle.share_reading.specs.Verdict.{AreAnswered, AreFull, HasLed, IsJudged, IsVerdict, Settled, brought_of}
 use Rattle.share_reading.specs.Whole.{IsWhole, joined}
+use Rattle.share_reading.specs.declared.judged.Found.TheVariants as found
 use Rattle.share_reading.specs.declared.reading.Progress.{Progress}
 use Rattle.share_reading.specs.declared.reading.Progress.TheVariants.{Next, Whole}
 use Rattle.share_reading.specs.declared.reading.ShareReading as readings
 use Rattle.share_reading.specs.declared.reading.ShareReading.TheVariants.{Beginning, Remaining}
 use Rattle.share_reading.specs.declared.verdict.Verdict.{Verdict}
 use Rattle.share_reading.specs.declared.verdict.Verdict.TheVariants as verdicts
-use Rattle.share_reading.specs.Judged.{IsJudgedBy}
 use Rattle.share_reading.proofs.JudgedLemmas.{joined_push}
-use Rattle.share_reading.proofs.ReadingLemmas.{ask, end_whole, go_on}
+use Rattle.share_reading.proofs.ReadingLemmas.{end_whole, go_on}
 use Rattle.share_reading.proofs.VerdictLemmas.{IsBroughtBy, brought_from, brought_has}
 use Rattle.checker.specs.Shares.{offered_pairs, settled_in, settled_of}
-use Rattle.checker.specs.Offers.{IsKeptBy, key_of}
+use Rattle.checker.specs.Offers.{IsEndedBy, IsKeptBy, IsWanting, key_of}
 use Rattle.checker.specs.Pieces.{HasPieces}
-use Rattle.checker.specs.Book.{AreReadAt, IsAbout, IsEnded, IsReadAt, IsReadOnlyAt, IsReading, IsUnread}
+use Rattle.checker.specs.Book.{AreReadAt, HasCome, IsAbout, IsEnded, IsHeld, IsPiece, IsReadAt, IsReading, IsUnread}
+use Rattle.checker.specs.Hearing.{IsTakenFirst}
+use Rattle.checker.specs.Wanted.{AllCame, AnyWaits, IsAhead, NoneWaits, length_ahead, offset_ahead, positions_of}
 use Rattle.checker.specs.declared.offers.Offer.{Offer}
+use Rattle.checker.specs.declared.wanted.Came.{Came}
+use Rattle.checker.specs.declared.wanted.Came.TheVariants.{Waits, Bytes, Nothing}
+use Rattle.checker.specs.declared.wanted.Wanted.{Wanted}
 use Rattle.checker.proofs.Entries.{about_by, IsSettledBy, settled_from, settled_has}
+use Rattle.checker.proofs.AheadLemmas.{asked_ahead, length_first, next_ahead, none_ahead, none_behind, offset_first, spans_apart}
 use Rattle.checker.proofs.Joining.{joined_both}
-use Rattle.checker.proofs.OfferMoves.{IsOneOf, brought, last, reads_push, all_quiet, next_about, next_asked, one_of, same_next}
+use Rattle.checker.proofs.OfferMoves.{IsOneOf, answered_quiet, brought, sought, one_of, piece_about, piece_push, reads_push}
 
 -- ---- what a request that waits no more tells
 
@@ -172,7 +179,7 @@ more_asked cap reads more position len grows is = elim is [
   | inr rest ↦ inr (record { u = rest.u; block = rest.block; ueb = rest.ueb; brought = grows _ rest.brought; some = rest.some; low = rest.low; high = rest.high })
 ]
 
-abbrev offset_in : Asked → ℕ
+abbrev pub offset_in : Asked → ℕ
 offset_in (Reading n offset count) = offset
 offset_in a = 0
 
@@ -181,319 +188,513 @@ count_in (Reading n offset count) = count
 count_in a = 0
 
 -- what is safe to ask of a share
-pub record IsSafeToAsk (cap : VerifyCapValue) (es : List Request) (key : Pair) (r : readings.ShareReading) : Type 0 where
-  pub apart : (i : ℕ) (x : Request) (offset count : ℕ) → slice_get es i ≡ Some x → IsAbout key x → x.asked ≡ Reading key.1 offset count
-      → (offset + count ≤ reading.next_offset r) ⊎ (reading.next_offset r + reading.next_length r ≤ offset)
-  pub asked : IsAsked cap (brought_of (settled_of es key.0 key.1)) (reading.next_offset r) (reading.next_length r)
+pub record IsSafeToAsk (cap : VerifyCapValue) (es : List Request) (key : Pair) (offset len : ℕ) : Type 0 where
+  pub apart : (i : ℕ) (x : Request) (from count : ℕ) → slice_get es i ≡ Some x → IsAbout key x → x.asked ≡ Reading key.1 from count
+      → (from + count ≤ offset) ⊎ (offset + len ≤ from)
+  pub asked : IsAsked cap (brought_of (settled_of es key.0 key.1)) offset len
   pub listed : Contains (offered_pairs cap.total es) key
 
--- the first bytes are
-pub safe_first : (cap : VerifyCapValue) (es : List Request) (o : Offer) → IsUnread es o → Contains (offered_pairs cap.total es) (key_of o) → IsSafeToAsk cap es (key_of o) (Beginning Start)
-safe_first cap es o is listed = record {
-  apart = λ i x offset count at about asked. absurd (contains_none i (is.none i x at about));
-  asked = inl (record { opening = Start; led = tt; offset_is = refl; len_is = refl });
-  listed = listed;
+abbrev pub span_request : ℕ → ℕ → ℕ → ℕ → ℕ → Request
+span_request server share offset len now = first_request server (Reading share offset len) now
+
+-- a share of which nothing was read is read so far
+pub reads_first : (cap : VerifyCapValue) (es : List Request) (todo : List ℕ) (o n : Offer) → IsUnread es o → n.server ≡ o.server → n.share ≡ o.share
+    → n.front.items ≡ o.front.items → n.back.items ≡ o.back.items → n.wanted.items ≡ o.wanted.items → n.judged ≡ o.judged → n.pieces ≡ o.pieces → IsReading cap es todo n (Beginning Start)
+reads_first cap es todo o n is server share front back wanted judged pieces = record {
+  front = [];
+  back = [];
+  led = (refl, refl);
+  front_at = subst (λ (l : List ℕ). AreReadAt es (key_of n) l []) (sym (front ∙ is.front)) tt;
+  back_at = subst (λ (l : List ℕ). AreReadAt es (key_of n) l []) (sym (back ∙ is.back)) tt;
+  judged = subst (IsJudgedBy cap [] [] (Beginning Start)) (sym judged) (is.judged cap);
+  pieces = subst (HasPieces [] []) (sym pieces) is.pieces;
+  wanted = λ i w e. absurd (none-some w (ap (λ (l : List Wanted). slice_get l i) (sym (wanted ∙ is.wanted)) ∙ e));
+  only = λ i x at about. absurd (contains_none i (is.none i x at (subst (λ (k : Pair). IsAbout k x) key about)));
+}
+  where
+    key : key_of n ≡ key_of o
+    key = ap (λ s. (s, n.share)) server ∙ ap (λ i. (o.server, i)) share
+
+-- ---- what is found of a share
+
+-- what is found of a share that is not good is found of it however it is kept
+pub ended_same : (cap : VerifyCapValue) (es : List Request) (o n : Offer) (v : Verdict) → (v ≡ verdicts.Good → ⊥) → key_of n ≡ key_of o → IsEnded cap es o v → IsEnded cap es n v
+ended_same cap es o n v bad key is = record {
+  verdict = subst (λ (k : Pair). IsVerdict cap k.1 (settled_of es k.0 k.1) v) (sym key) is.verdict;
+  held = λ good. absurd (bad good);
+  quiet = λ i r at about. is.quiet i r at (subst (λ (k : Pair). IsAbout k r) key about);
 }
 
-abbrev pub next_request : ℕ → ℕ → readings.ShareReading → ℕ → Request
-next_request server share r now = first_request server (Reading share (reading.next_offset r) (reading.next_length r)) now
+-- and what is found of one, once that is noted
+ended_as : (cap : VerifyCapValue) (es : List Request) (o n : Offer) (v : Verdict) → IsEndedBy v o n → IsEnded cap es o v → IsEnded cap es n v
+ended_as cap es o n v by is = record {
+  verdict = subst (λ (k : Pair). IsVerdict cap k.1 (settled_of es k.0 k.1) v) (sym key) is.verdict;
+  held = λ good. held_as good (is.held good);
+  quiet = λ i r at about. is.quiet i r at (subst (λ (k : Pair). IsAbout k r) key about);
+}
+  where
+    key : key_of n ≡ key_of o
+    key = ap (λ s. (s, n.share)) by.server ∙ ap (λ i. (o.server, i)) by.share
 
--- a share that is read so far, of which the next bytes are asked for now
-pub reads_on : (cap : VerifyCapValue) (es : List Request) (todo : List ℕ) (o : Offer) (r : readings.ShareReading) (now : ℕ) (key : Pair) → key_of o ≡ key
-    → (front back : List Brought) → IsReadBy cap front back r → AreReadAt es key o.front.items front → AreReadAt es key o.back.items back
-    → IsJudgedBy cap front back r o.judged → HasPieces front back o.pieces
-    → IsReadOnlyAt es key (o.front.items ++ o.back.items)
-    → IsReading cap (es ++ next_request key.0 key.1 r now ∷ []) todo o r (length es)
-reads_on cap es todo o r now key same front back led front_at back_at judged pieces only =
-    let new = next_request key.0 key.1 r now in
-    let positions = o.front.items ++ o.back.items in
-    subst (λ (k : Pair). (IsReadOnlyAt (es ++ new ∷ []) k (length es ∷ positions)) → IsReading cap (es ++ new ∷ []) todo o r (length es)) same
-    (λ alone. record {
-      front = front;
-      back = back;
-      led = led;
-      front_at = reads_push es new (key_of o) o.front.items front (subst (λ (k : Pair). AreReadAt es k o.front.items front) (sym same) front_at);
-      back_at = reads_push es new (key_of o) o.back.items back (subst (λ (k : Pair). AreReadAt es k o.back.items back) (sym same) back_at);
-      judged = judged;
-      pieces = pieces;
-      next = record {
-        request = new;
-        there = get_last es new;
-        server = ap (λ (k : Pair). k.0) (sym same);
-        asked = ap (λ (k : Pair). Reading k.1 (reading.next_offset r) (reading.next_length r)) (sym same);
-        waits = inl refl;
-      };
-      only = alone;
-    })
-    (λ i x at about. elim (get_pushed es new x i at) [
-      | inl before ↦ contains_tail (length es) i positions (only i x before about)
-      | inr pushed ↦ subst (Contains (length es ∷ positions)) (sym pushed.0) (contains_head (length es) positions)
-    ])
+    held_as : v ≡ verdicts.Good → IsHeld es o → IsHeld es n
+    held_as good h = record {
+      front = h.front;
+      back = h.back;
+      front_at = subst (λ (k : Pair). AreReadAt es k n.front.items h.front) (sym key) (subst (λ (x : Vec ℕ Global). AreReadAt es (key_of o) x.items h.front) (sym by.front) h.front_at);
+      back_at = subst (λ (k : Pair). AreReadAt es k n.back.items h.back) (sym key) (subst (λ (x : Vec ℕ Global). AreReadAt es (key_of o) x.items h.back) (sym by.back) h.back_at);
+      pieces = subst (HasPieces h.front h.back) (sym (by.pieces good)) h.pieces;
+      whole = subst (λ (k : Pair). IsWhole (brought_of (settled_of es k.0 k.1)) (joined h.front ++ joined h.back)) (sym key) h.whole;
+    }
 
--- a share of which nothing was read, of which the first bytes are asked for now
-pub reads_first : (cap : VerifyCapValue) (es : List Request) (todo : List ℕ) (o m : Offer) (now : ℕ) → IsUnread es o → m.server ≡ o.server → m.share ≡ o.share
-    → m.front.items ≡ o.front.items → m.back.items ≡ o.back.items → m.judged ≡ o.judged → m.pieces ≡ o.pieces
-    → IsReading cap (es ++ next_request o.server o.share (Beginning Start) now ∷ []) todo m (Beginning Start) (length es)
-reads_first cap es todo o m now is server share front back judged pieces =
-    reads_on cap es todo m (Beginning Start) now (o.server, o.share) (ap (λ k. (k, m.share)) server ∙ ap (λ k. (o.server, k)) share) [] [] (refl, refl)
-    (subst (λ (l : List ℕ). AreReadAt es (key_of o) l []) (sym (front ∙ is.front)) tt)
-    (subst (λ (l : List ℕ). AreReadAt es (key_of o) l []) (sym (back ∙ is.back)) tt)
-    (subst (IsJudgedBy cap [] [] (Beginning Start)) (sym judged) (is.judged cap))
-    (subst (HasPieces [] []) (sym pieces) is.pieces)
-    (λ i x at about. absurd (contains_none i (is.none i x at about)))
+pub same_key : (o n : Offer) (v : Verdict) → IsEndedBy v o n → key_of n ≡ key_of o
+same_key o n v by = ap (λ s. (s, n.share)) by.server ∙ ap (λ i. (o.server, i)) by.share
 
--- ---- the answer
+-- ---- what came for the pieces
 
-module _ (cap : VerifyCapValue) (es : List Request) (todo : List ℕ) (o : Offer) (r : readings.ShareReading) (position : ℕ) (is : IsReading cap es todo o r position)
-    (q : Request) (there : slice_get es position ≡ Some q) (settled : is_outstanding q.outcome ≡ false) where
+come_quiet : (todo : List ℕ) (q : Request) (position : ℕ) (c : Came) → (c ≡ Waits → ⊥) → HasCome todo q position c → is_outstanding q.outcome ≡ false
+come_quiet todo q position Waits some is = absurd (some refl)
+come_quiet todo q position (Bytes v) some is = answered_quiet q.outcome v.items is
+come_quiet todo q position Nothing some is = is.0
+
+waits_not_bytes : (c : Came) (v : Vec ℕ Global) → c ≡ Waits → c ≡ Bytes v → ⊥
+waits_not_bytes c v e f = clash (sym e ∙ f)
+  where
+    clash : Waits ≡ Bytes v → ⊥
+    clash g = cc
+
+pub none_waits_if : (wanted : List Wanted) → AllCame wanted → NoneWaits wanted
+none_waits_if wanted all any = let came = all any.0 any.1 any.2 in waits_not_bytes any.1.came came.0 any.3 came.1
+
+-- once the first is read
+pub all_came_behind : (first : Wanted) (rest wanted : List Wanted) → wanted ≡ first ∷ rest → AllCame wanted → AllCame rest
+all_came_behind first rest wanted is all i w e = all (suc i) w (ap (λ (l : List Wanted). slice_get l (suc i)) is ∙ e)
+
+pub waits_behind : (first : Wanted) (rest wanted : List Wanted) (v : Vec ℕ Global) → wanted ≡ first ∷ rest → first.came ≡ Bytes v → AnyWaits wanted → AnyWaits rest
+waits_behind first rest wanted v is came any = by any.0 (ap (λ (l : List Wanted). slice_get l any.0) (sym is) ∙ any.2)
+  where
+    by : (i : ℕ) → slice_get (first ∷ rest) i ≡ Some any.1 → AnyWaits rest
+    by zero e = absurd (waits_not_bytes first.came v (ap (λ (w : Wanted). w.came) (same_Some first any.1 e) ∙ any.3) came)
+    by (suc i) e = (i, any.1, e, any.3)
+
+module _ (cap : VerifyCapValue) (es : List Request) (todo : List ℕ) (o : Offer) (r : readings.ShareReading) (is : IsReading cap es todo o r) where
   abbrev pub reads : List Settled
   reads = settled_of es o.server o.share
 
-  -- no bytes came: it is lost
-  pub is_lost : ((bytes : List ℕ) → IsDataAt es position bytes → ⊥) → IsEnded cap es o verdicts.Lost
-  is_lost none = record {
+  -- what led to the reading was brought
+  old_brought : (b : Brought) → Contains (is.front ++ is.back) b → Contains (brought_of reads) b
+  old_brought b at = elim (Contains-append_cases is.front is.back b at) [
+    | inl here ↦ by (reads_have es (key_of o) o.front.items is.front b is.front_at here).2
+    | inr later ↦ by (reads_have es (key_of o) o.back.items is.back b is.back_at later).2
+  ]
+    where
+      by : {i : ℕ} → IsReadAt es (key_of o) i b → Contains (brought_of reads) b
+      by {i} read =
+          let s = full_read b.0 (length b.1) b.1 in
+          let told = tells read.request.asked read.request.outcome o.share b.0 (length b.1) b.1 read.asked read.answer in
+          let among : Contains reads s =
+          settled_has es (key_of o) i read.request s read.there (about_by (key_of o) read.request b.0 (length b.1) read.server read.asked)
+          (subst (λ (l : List Settled). Contains l s) (sym told) (contains_head s [])) in
+          brought_has reads s b.1 among refl
+
+  -- the next piece may be asked for
+  pub safe_ahead : (n : ℕ) → n ≡ length o.wanted.items → IsAhead r n → Contains (offered_pairs cap.total es) (key_of o) → IsSafeToAsk cap es (key_of o) (offset_ahead r n) (length_ahead r n)
+  safe_ahead n many ahead listed = record {
+    apart = apart_from;
+    asked = more_asked cap (is.front ++ is.back) (brought_of reads) (offset_ahead r n) (length_ahead r n) old_brought (asked_ahead cap is.front is.back r n is.led ahead);
+    listed = listed;
+  }
+    where
+      apart_from : (i : ℕ) (x : Request) (from count : ℕ) → slice_get es i ≡ Some x → IsAbout (key_of o) x → x.asked ≡ Reading o.share from count
+          → (from + count ≤ offset_ahead r n) ⊎ (offset_ahead r n + length_ahead r n ≤ from)
+      apart_from i x from count at about asks = by (one_of cap es todo o r is i x at about)
+        where
+          as_read : (b : Brought) → x.asked ≡ Reading o.share b.0 (length b.1) → AsksNone b (offset_ahead r n) (length_ahead r n)
+              → (from + count ≤ offset_ahead r n) ⊎ (offset_ahead r n + length_ahead r n ≤ from)
+          as_read b same none =
+              let reading_is : Reading o.share b.0 (length b.1) ≡ Reading o.share from count = sym same ∙ asks in
+              let offset_is : b.0 ≡ from = ap offset_in reading_is in
+              let len_is : length b.1 ≡ count = ap count_in reading_is in
+              elim none [
+                | inl low ↦ inl (omega (arith, low, offset_is, len_is))
+                | inr high ↦ inr (omega (arith, high, offset_is))
+              ]
+
+          by : IsOneOf cap es todo o r is i → (from + count ≤ offset_ahead r n) ⊎ (offset_ahead r n + length_ahead r n ≤ from)
+          by (brought b among read) =
+              as_read b (ap (λ (y : Request). y.asked) (same_Some x read.request (sym at ∙ read.there)) ∙ read.asked) (none_ahead cap is.front is.back r n is.led ahead b among)
+          by (sought j w e here) =
+              let p = is.wanted j w e in
+              let same : p.request ≡ x = same_Some p.request x (sym p.there ∙ ap (slice_get es) here ∙ at) in
+              let reading_is : Reading o.share (offset_ahead r j) (length_ahead r j) ≡ Reading o.share from count = sym p.asked ∙ ap (λ (y : Request). y.asked) same ∙ asks in
+              let offset_is : offset_ahead r j ≡ from = ap offset_in reading_is in
+              let len_is : length_ahead r j ≡ count = ap count_in reading_is in
+              let below : j < n = omega (arith, many, slice_get_within o.wanted.items j w e) in
+              inl (omega (arith, spans_apart r j n ahead below, offset_is, len_is))
+
+  -- and is asked for now
+  pub reads_more : (n : Offer) (now : ℕ) → IsAhead r (length o.wanted.items) → IsWanting (length es) o n
+      → IsReading cap (es ++ span_request o.server o.share (offset_ahead r (length o.wanted.items)) (length_ahead r (length o.wanted.items)) now ∷ []) todo n r
+  reads_more n now ahead more = record {
+    front = is.front;
+    back = is.back;
+    led = is.led;
+    front_at = subst (λ (k : Pair). AreReadAt (es ++ new ∷ []) k n.front.items is.front) (sym key)
+        (subst (λ (x : Vec ℕ Global). AreReadAt (es ++ new ∷ []) (key_of o) x.items is.front) (sym more.front) (reads_push es new (key_of o) o.front.items is.front is.front_at));
+    back_at = subst (λ (k : Pair). AreReadAt (es ++ new ∷ []) k n.back.items is.back) (sym key)
+        (subst (λ (x : Vec ℕ Global). AreReadAt (es ++ new ∷ []) (key_of o) x.items is.back) (sym more.back) (reads_push es new (key_of o) o.back.items is.back is.back_at));
+    judged = subst (IsJudgedBy cap is.front is.back r) (sym more.judged) is.judged;
+    pieces = subst (HasPieces is.front is.back) (sym more.pieces) is.pieces;
+    wanted = λ i w e. subst (λ (k : Pair). IsPiece (es ++ new ∷ []) todo k r i w) (sym key) (wanted_more i w (ap (λ (l : List Wanted). slice_get l i) (sym more.wanted) ∙ e));
+    only = λ i x at about. subst (λ (l : List ℕ). Contains l i) (sym positions) (only_more i x at (subst (λ (k : Pair). IsAbout k x) key about));
+  }
+    where
+      many : ℕ
+      many = length o.wanted.items
+
+      new : Request
+      new = span_request o.server o.share (offset_ahead r many) (length_ahead r many) now
+
+      added : Wanted
+      added = record { position = length es; came = Waits }
+
+      key : key_of n ≡ key_of o
+      key = ap (λ s. (s, n.share)) more.server ∙ ap (λ i. (o.server, i)) more.share
+
+      wanted_more : (i : ℕ) (w : Wanted) → slice_get (o.wanted.items ++ added ∷ []) i ≡ Some w → IsPiece (es ++ new ∷ []) todo (key_of o) r i w
+      wanted_more i w e = elim (get_pushed o.wanted.items added w i e) [
+        | inl before ↦ piece_push es new todo (key_of o) r i w (is.wanted i w before)
+        | inr last ↦ subst (λ (x : Wanted). IsPiece (es ++ new ∷ []) todo (key_of o) r i x) last.1
+            (subst (λ m. IsPiece (es ++ new ∷ []) todo (key_of o) r m added) (sym last.0)
+            (record { ahead = ahead; request = new; there = get_last es new; server = refl; asked = refl; came = inl refl }))
+      ]
+
+      positions : positions_of n.wanted.items ++ (n.front.items ++ n.back.items) ≡ (positions_of o.wanted.items ++ length es ∷ []) ++ (o.front.items ++ o.back.items)
+      positions =
+          ap (λ (l : List Wanted). positions_of l ++ (n.front.items ++ n.back.items)) more.wanted
+          ∙ ap (λ (l : List ℕ). l ++ (n.front.items ++ n.back.items)) (map-append (λ (w : Wanted). w.position) o.wanted.items (added ∷ []))
+          ∙ ap (λ (x : Vec ℕ Global). (positions_of o.wanted.items ++ length es ∷ []) ++ (x.items ++ n.back.items)) more.front
+          ∙ ap (λ (x : Vec ℕ Global). (positions_of o.wanted.items ++ length es ∷ []) ++ (o.front.items ++ x.items)) more.back
+
+      only_more : (i : ℕ) (x : Request) → slice_get (es ++ new ∷ []) i ≡ Some x → IsAbout (key_of o) x → Contains ((positions_of o.wanted.items ++ length es ∷ []) ++ (o.front.items ++ o.back.items)) i
+      only_more i x at about = elim (get_pushed es new x i at) [
+        | inl before ↦ more_old false (positions_of o.wanted.items) (o.front.items ++ o.back.items) (length es) i (is.only i x before about)
+        | inr pushed ↦ subst (Contains ((positions_of o.wanted.items ++ length es ∷ []) ++ (o.front.items ++ o.back.items))) (sym pushed.0)
+            (more_new false (positions_of o.wanted.items) (o.front.items ++ o.back.items) (length es))
+      ]
+
+  -- ---- none of its pieces waits
+
+  pub all_quiet : NoneWaits o.wanted.items → (i : ℕ) (x : Request) → slice_get es i ≡ Some x → IsAbout (key_of o) x → is_outstanding x.outcome ≡ false
+  all_quiet none i x at about = by (one_of cap es todo o r is i x at about)
+    where
+      by : IsOneOf cap es todo o r is i → is_outstanding x.outcome ≡ false
+      by (brought b among read) =
+          ap (λ (y : Request). is_outstanding y.outcome) (same_Some x read.request (sym at ∙ read.there)) ∙ answered_quiet read.request.outcome b.1 read.answer
+      by (sought j w e here) =
+          let p = is.wanted j w e in
+          let same : x ≡ p.request = same_Some x p.request (sym at ∙ ap (slice_get es) (sym here) ∙ p.there) in
+          ap (λ (y : Request). is_outstanding y.outcome) same ∙ come_quiet todo p.request w.position w.came (λ waits. none (j, w, e, waits)) p.came
+
+  -- and for one no bytes came
+  pub is_lost : NoneWaits o.wanted.items → (j : ℕ) (w : Wanted) → slice_get o.wanted.items j ≡ Some w → w.came ≡ Nothing → IsEnded cap es o verdicts.Lost
+  is_lost none j w e nothing = record {
     verdict = (
       lost,
-      settled_has es (key_of o) position q lost there (next_about cap es todo o r position is q there settled)
+      settled_has es (key_of o) w.position p.request lost p.there (piece_about es todo (key_of o) r j w p.request p p.there)
           (subst (λ (l : List Settled). Contains l lost) (sym told) (contains_head lost [])),
       refl,
     );
     held = λ e. absurd cc;
-    quiet = all_quiet cap es todo o r position is q there settled;
+    quiet = all_quiet none;
   }
     where
+      p : IsPiece es todo (key_of o) r j w
+      p = is.wanted j w e
+
+      come : HasCome todo p.request w.position Nothing
+      come = subst (HasCome todo p.request w.position) nothing p.came
+
       lost : Settled
-      lost = record { offset = reading.next_offset r; len = reading.next_length r; answer = None }
+      lost = record { offset = offset_ahead r j; len = length_ahead r j; answer = None }
 
-      told : settled_in q.asked q.outcome ≡ lost ∷ []
-      told =
-          ap (λ (a : Asked). settled_in a q.outcome) (next_asked cap es todo o r position is q there settled)
-          ∙ tells_lost q.outcome o.share (reading.next_offset r) (reading.next_length r) settled (λ bytes e. none bytes (record { request = q; there = there; answer = e }))
+      told : settled_in p.request.asked p.request.outcome ≡ lost ∷ []
+      told = ap (λ (a : Asked). settled_in a p.request.outcome) p.asked ∙ tells_lost p.request.outcome o.share (offset_ahead r j) (length_ahead r j) come.0 come.1
 
-  -- these bytes came
-  module _ (bytes : List ℕ) (has : IsDataAt es position bytes) where
-    answer_is : q.outcome ≡ Answered (Data bytes)
-    answer_is = ap (λ (x : Request). x.outcome) (same_Some q has.request (sym there ∙ has.there)) ∙ has.answer
+  -- ---- the next piece is read
+
+  module _ (first : Wanted) (rest : List Wanted) (wanted_is : o.wanted.items ≡ first ∷ rest) (v : Vec ℕ Global) (came : first.came ≡ Bytes v) where
+    piece : IsPiece es todo (key_of o) r 0 first
+    piece = is.wanted 0 first (ap (λ (l : List Wanted). slice_get l 0) wanted_is)
+
+    abbrev q : Request
+    q = piece.request
+
+    answer_is : q.outcome ≡ Answered (Data v.items)
+    answer_is = subst (HasCome todo q first.position) came piece.came
+
+    next_asked : q.asked ≡ Reading o.share (reading.next_offset r) (reading.next_length r)
+    next_asked = piece.asked ∙ ap (λ n. Reading o.share n (length_ahead r 0)) (offset_first r) ∙ ap (Reading o.share (reading.next_offset r)) (length_first r)
 
     abbrev pub last_read : Settled
-    last_read = record { offset = reading.next_offset r; len = reading.next_length r; answer = Some bytes }
+    last_read = record { offset = reading.next_offset r; len = reading.next_length r; answer = Some v.items }
 
     told_last : settled_in q.asked q.outcome ≡ last_read ∷ []
-    told_last = tells q.asked q.outcome o.share (reading.next_offset r) (reading.next_length r) bytes (next_asked cap es todo o r position is q there settled) answer_is
+    told_last = tells q.asked q.outcome o.share (reading.next_offset r) (reading.next_length r) v.items next_asked answer_is
 
-    pub last_among : Contains reads last_read
+    last_among : Contains reads last_read
     last_among =
-        settled_has es (key_of o) position q last_read there (next_about cap es todo o r position is q there settled)
+        settled_has es (key_of o) first.position q last_read piece.there (piece_about es todo (key_of o) r 0 first q piece piece.there)
         (subst (λ (l : List Settled). Contains l last_read) (sym told_last) (contains_head last_read []))
 
-    -- each read of the share is one that led to the reading, or the last
-    data IsKnown (s : Settled) : Type 0 where
-      before : (b : Brought) → Contains (is.front ++ is.back) b → s ≡ full_read b.0 (length b.1) b.1 → IsKnown s
-      newest : s ≡ last_read → IsKnown s
-
-    known : (s : Settled) → Contains reads s → IsKnown s
-    known s at =
-        let by = settled_from es (key_of o) s at in
-        go by (one_of cap es todo o r position is q there settled by.position by.request by.there by.about)
-      where
-        go : (by : IsSettledBy es (key_of o) s) → IsOneOf cap es todo o r position is q there settled by.position by.request → IsKnown s
-        go by (brought b among read) =
-            let same : by.request ≡ read.request = same_Some by.request read.request (sym by.there ∙ read.there) in
-            let told = tells by.request.asked by.request.outcome o.share b.0 (length b.1) b.1 (ap (λ (x : Request). x.asked) same ∙ read.asked) (ap (λ (x : Request). x.outcome) same ∙ read.answer) in
-            before b among (sym (only_one s (full_read b.0 (length b.1) b.1) (settled_in by.request.asked by.request.outcome) told by.has))
-        go by (last here same) =
-            let told : settled_in by.request.asked by.request.outcome ≡ last_read ∷ [] = ap (λ (x : Request). settled_in x.asked x.outcome) same ∙ told_last in
-            newest (sym (only_one s last_read (settled_in by.request.asked by.request.outcome) told by.has))
-
-    all_answered : AreAnswered reads
-    all_answered s at = go (known s at)
-      where
-        go : IsKnown s → (b : List ℕ) × (s.answer ≡ Some b)
-        go (before b among e) = (b.1, ap (λ (x : Settled). x.answer) e)
-        go (newest e) = (bytes, ap (λ (x : Settled). x.answer) e)
-
-    -- what led to the reading was brought
-    old_brought : (b : Brought) → Contains (is.front ++ is.back) b → Contains (brought_of reads) b
-    old_brought b at = elim (Contains-append_cases is.front is.back b at) [
-      | inl here ↦ by (reads_have es (key_of o) o.front.items is.front b is.front_at here).2
-      | inr later ↦ by (reads_have es (key_of o) o.back.items is.back b is.back_at later).2
-    ]
-      where
-        by : {i : ℕ} → IsReadAt es (key_of o) i b → Contains (brought_of reads) b
-        by {i} read =
-            let s = full_read b.0 (length b.1) b.1 in
-            let told = tells read.request.asked read.request.outcome o.share b.0 (length b.1) b.1 read.asked read.answer in
-            let among : Contains reads s =
-            settled_has es (key_of o) i read.request s read.there (about_by (key_of o) read.request b.0 (length b.1) read.server read.asked)
-            (subst (λ (l : List Settled). Contains l s) (sym told) (contains_head s [])) in
-            brought_has reads s b.1 among refl
-
-    new_brought : Contains (brought_of reads) (reading.next_offset r, bytes)
-    new_brought = brought_has reads last_read bytes last_among refl
-
-    has_led : HasLed cap reads r bytes
+    has_led : HasLed cap reads r v.items
     has_led = record { front = is.front; back = is.back; led = is.led; among = old_brought; last = last_among }
 
-    -- the share is not read on
-    pub is_stopped : (check : Check) → reading.IsStop cap r bytes check → IsEnded cap es o (verdicts.Corrupt check)
-    is_stopped check stop = record {
-      verdict = inl (record {
-        answered = all_answered;
-        reading = r;
-        bytes = bytes;
-        led = has_led;
-        stop = stop;
-      });
-      held = λ e. absurd cc;
-      quiet = all_quiet cap es todo o r position is q there settled;
-    }
+    -- bytes came for each of the others
+    module _ (all : AllCame o.wanted.items) where
+      pub all_answered : AreAnswered reads
+      all_answered s at =
+          let by = settled_from es (key_of o) s at in
+          go by (one_of cap es todo o r is by.position by.request by.there by.about)
+        where
+          go : (by : IsSettledBy es (key_of o) s) → IsOneOf cap es todo o r is by.position → (b : List ℕ) × (s.answer ≡ Some b)
+          go by (brought b among read) =
+              let same : by.request ≡ read.request = same_Some by.request read.request (sym by.there ∙ read.there) in
+              let told =
+              tells by.request.asked by.request.outcome o.share b.0 (length b.1) b.1 (ap (λ (x : Request). x.asked) same ∙ read.asked) (ap (λ (x : Request). x.outcome) same ∙ read.answer) in
+              (b.1, ap (λ (x : Settled). x.answer) (sym (only_one s (full_read b.0 (length b.1) b.1) (settled_in by.request.asked by.request.outcome) told by.has)))
+          go by (sought j w e here) =
+              let p = is.wanted j w e in
+              let text = all j w e in
+              let answered : p.request.outcome ≡ Answered (Data text.0.items) = subst (HasCome todo p.request w.position) text.1 p.came in
+              let same : by.request ≡ p.request = same_Some by.request p.request (sym by.there ∙ ap (slice_get es) (sym here) ∙ p.there) in
+              let told =
+              tells by.request.asked by.request.outcome o.share (offset_ahead r j) (length_ahead r j) text.0.items (ap (λ (x : Request). x.asked) same ∙ p.asked) (ap (λ (x : Request). x.outcome) same ∙ answered) in
+              (text.0.items, ap (λ (x : Settled). x.answer) (sym (only_one s (full_read (offset_ahead r j) (length_ahead r j) text.0.items) (settled_in by.request.asked by.request.outcome) told by.has)))
+
+      -- the share is not read on
+      pub is_stopped : (check : Check) → reading.IsStop cap r v.items check → IsEnded cap es o (verdicts.Corrupt check)
+      is_stopped check stop = record {
+        verdict = inl (record {
+          answered = all_answered;
+          reading = r;
+          bytes = v.items;
+          led = has_led;
+          stop = stop;
+        });
+        held = λ e. absurd cc;
+        quiet = all_quiet (none_waits_if o.wanted.items all);
+      }
 
     -- as many came as were asked for
-    module _ (long : length bytes ≡ reading.next_length r) where
-      all_full : AreFull reads
-      all_full s at = go (known s at)
-        where
-          go : IsKnown s → (b : List ℕ) × (s.answer ≡ Some b) × (length b ≡ s.len)
-          go (before b among e) = (b.1, ap (λ (x : Settled). x.answer) e, ap (λ (x : Settled). x.len) (sym e))
-          go (newest e) = (bytes, ap (λ (x : Settled). x.answer) e, long ∙ ap (λ (x : Settled). x.len) (sym e))
-
-      pub new_read : IsReadAt es (key_of o) position (reading.next_offset r, bytes)
+    module _ (long : length v.items ≡ reading.next_length r) where
+      new_read : IsReadAt es (key_of o) first.position (reading.next_offset r, v.items)
       new_read = record {
         request = q;
-        there = there;
-        server = ap (λ (x : Request). x.server) (sym (same_next cap es todo o r position is q there settled)) ∙ is.next.server;
-        asked = next_asked cap es todo o r position is q there settled ∙ ap (λ n. Reading o.share (reading.next_offset r) n) (sym long);
+        there = piece.there;
+        server = piece.server;
+        asked = next_asked ∙ ap (λ n. Reading o.share (reading.next_offset r) n) (sym long);
         answer = answer_is;
       }
 
       abbrev pub more_reads : List Brought
-      more_reads = more_front r bytes is.front ++ more_back r bytes is.back
+      more_reads = more_front r v.items is.front ++ more_back r v.items is.back
 
-      more_brought : (b : Brought) → Contains more_reads b → Contains (brought_of reads) b
-      more_brought b at = elim (more_cases (reading.is_behind r) is.front is.back (reading.next_offset r, bytes) b at) [
-        | inl old ↦ old_brought b old
-        | inr new ↦ subst (Contains (brought_of reads)) new new_brought
-      ]
+      -- the share is read whole: no piece is behind this one
+      module _ (whole : reading.Advances cap r v.items Whole) where
+        alone : (j : ℕ) (w : Wanted) → slice_get o.wanted.items j ≡ Some w → w ≡ first
+        alone zero w e = same_Some w first (sym e ∙ ap (λ (l : List Wanted). slice_get l 0) wanted_is)
+        alone (suc j) w e = absurd (none_behind cap r v.items j whole (is.wanted (suc j) w e).ahead)
 
-      brought_more : (b : Brought) → Contains (brought_of reads) b → Contains more_reads b
-      brought_more b at = let by = brought_from reads b at in go by (known by.read by.among)
-        where
-          go : (by : IsBroughtBy reads b) → IsKnown by.read → Contains more_reads b
-          go by (before c among e) =
-              let offset_is : c.0 ≡ b.0 = ap (λ (x : Settled). x.offset) (sym e) ∙ by.offset in
-              let bytes_are : c.1 ≡ b.1 = same_Some c.1 b.1 (ap (λ (x : Settled). x.answer) (sym e) ∙ by.answer) in
-              let same : c ≡ b = ap (λ n. (n, c.1)) offset_is ∙ ap (λ (l : List ℕ). (b.0, l)) bytes_are in
-              subst (Contains more_reads) same (more_old (reading.is_behind r) is.front is.back (reading.next_offset r, bytes) c among)
-          go by (newest e) =
-              let offset_is : reading.next_offset r ≡ b.0 = ap (λ (x : Settled). x.offset) (sym e) ∙ by.offset in
-              let bytes_are : bytes ≡ b.1 = same_Some bytes b.1 (ap (λ (x : Settled). x.answer) (sym e) ∙ by.answer) in
-              let same : (reading.next_offset r, bytes) ≡ b = ap (λ n. (n, bytes)) offset_is ∙ ap (λ (l : List ℕ). (b.0, l)) bytes_are in
-              subst (Contains more_reads) same (more_new (reading.is_behind r) is.front is.back (reading.next_offset r, bytes))
+        none_left : NoneWaits o.wanted.items
+        none_left any = waits_not_bytes first.came v (ap (λ (w : Wanted). w.came) (sym (alone any.0 any.1 any.2)) ∙ any.3) came
 
-      -- the share is read whole
-      is_joined : reading.Advances cap r bytes Whole → IsWhole (brought_of reads) (joined more_reads)
-      is_joined a = same_whole more_reads (brought_of reads) (joined more_reads) more_brought brought_more (end_whole cap is.front is.back r bytes is.led a)
+        -- each read of the share is one that led to the reading, or the last
+        data IsKnown (s : Settled) : Type 0 where
+          before : (b : Brought) → Contains (is.front ++ is.back) b → s ≡ full_read b.0 (length b.1) b.1 → IsKnown s
+          newest : s ≡ last_read → IsKnown s
 
-      judged : (text : List ℕ) (v : Verdict) → reading.Advances cap r bytes Whole → IsWhole (brought_of reads) text → IsJudged cap o.share text v → IsVerdict cap o.share reads v
-      judged text verdicts.Good a whole held = record { bytes = text; full = all_full; whole = whole; sound = held }
-      judged text (verdicts.Corrupt check) a whole held = inr (record { reading = r; last_bytes = bytes; led = has_led; ends = a; bytes = text; full = all_full; whole = whole; fault = held.0; first = held.1; check_is = held.2 })
-      judged text verdicts.Lost a whole held = absurd held
+        known : (s : Settled) → Contains reads s → IsKnown s
+        known s at =
+            let by = settled_from es (key_of o) s at in
+            go by (one_of cap es todo o r is by.position by.request by.there by.about)
+          where
+            go : (by : IsSettledBy es (key_of o) s) → IsOneOf cap es todo o r is by.position → IsKnown s
+            go by (brought b among read) =
+                let same : by.request ≡ read.request = same_Some by.request read.request (sym by.there ∙ read.there) in
+                let told =
+                tells by.request.asked by.request.outcome o.share b.0 (length b.1) b.1 (ap (λ (x : Request). x.asked) same ∙ read.asked) (ap (λ (x : Request). x.outcome) same ∙ read.answer) in
+                before b among (sym (only_one s (full_read b.0 (length b.1) b.1) (settled_in by.request.asked by.request.outcome) told by.has))
+            go by (sought j w e here) =
+                let same : by.request ≡ q = same_Some by.request q (sym by.there ∙ ap (slice_get es) (sym here ∙ ap (λ (x : Wanted). x.position) (alone j w e)) ∙ piece.there) in
+                let told : settled_in by.request.asked by.request.outcome ≡ last_read ∷ [] = ap (λ (x : Request). settled_in x.asked x.outcome) same ∙ told_last in
+                newest (sym (only_one s last_read (settled_in by.request.asked by.request.outcome) told by.has))
+
+        all_full : AreFull reads
+        all_full s at = go (known s at)
+          where
+            go : IsKnown s → (b : List ℕ) × (s.answer ≡ Some b) × (length b ≡ s.len)
+            go (before b among e) = (b.1, ap (λ (x : Settled). x.answer) e, ap (λ (x : Settled). x.len) (sym e))
+            go (newest e) = (v.items, ap (λ (x : Settled). x.answer) e, long ∙ ap (λ (x : Settled). x.len) (sym e))
+
+        more_brought : (b : Brought) → Contains more_reads b → Contains (brought_of reads) b
+        more_brought b at = elim (more_cases (reading.is_behind r) is.front is.back (reading.next_offset r, v.items) b at) [
+          | inl old ↦ old_brought b old
+          | inr new ↦ subst (Contains (brought_of reads)) new (brought_has reads last_read v.items last_among refl)
+        ]
+
+        brought_more : (b : Brought) → Contains (brought_of reads) b → Contains more_reads b
+        brought_more b at = let by = brought_from reads b at in go by (known by.read by.among)
+          where
+            go : (by : IsBroughtBy reads b) → IsKnown by.read → Contains more_reads b
+            go by (before c among e) =
+                let offset_is : c.0 ≡ b.0 = ap (λ (x : Settled). x.offset) (sym e) ∙ by.offset in
+                let bytes_are : c.1 ≡ b.1 = same_Some c.1 b.1 (ap (λ (x : Settled). x.answer) (sym e) ∙ by.answer) in
+                let same : c ≡ b = ap (λ n. (n, c.1)) offset_is ∙ ap (λ (l : List ℕ). (b.0, l)) bytes_are in
+                subst (Contains more_reads) same (more_old (reading.is_behind r) is.front is.back (reading.next_offset r, v.items) c among)
+            go by (newest e) =
+                let offset_is : reading.next_offset r ≡ b.0 = ap (λ (x : Settled). x.offset) (sym e) ∙ by.offset in
+                let bytes_are : v.items ≡ b.1 = same_Some v.items b.1 (ap (λ (x : Settled). x.answer) (sym e) ∙ by.answer) in
+                let same : (reading.next_offset r, v.items) ≡ b = ap (λ n. (n, v.items)) offset_is ∙ ap (λ (l : List ℕ). (b.0, l)) bytes_are in
+                subst (Contains more_reads) same (more_new (reading.is_behind r) is.front is.back (reading.next_offset r, v.items))
+
+        is_joined : IsWhole (brought_of reads) (joined more_reads)
+        is_joined = same_whole more_reads (brought_of reads) (joined more_reads) more_brought brought_more (end_whole cap is.front is.back r v.items is.led whole)
+
+        judged : (text : List ℕ) (verdict : Verdict) → IsWhole (brought_of reads) text → IsJudged cap o.share text verdict → IsVerdict cap o.share reads verdict
+        judged text verdicts.Good all held = record { bytes = text; full = all_full; whole = all; sound = held }
+        judged text (verdicts.Corrupt check) all held = inr (record { reading = r; last_bytes = v.items; led = has_led; ends = whole; bytes = text; full = all_full; whole = all; fault = held.0; first = held.1; check_is = held.2 })
+        judged text verdicts.Lost all held = absurd held
 
       -- the same share, with one more request that brought its bytes
-      module _ (n : Offer) (kept : IsKeptBy r position bytes o n) where
-        key_is : key_of n ≡ key_of o
-        key_is = ap (λ m. (m, n.share)) kept.server ∙ ap (λ m. (o.server, m)) kept.share
+      module _ (n : Offer) (kept : IsKeptBy r first.position v.items o n) where
+        pub kept_key : key_of n ≡ key_of o
+        kept_key = ap (λ m. (m, n.share)) kept.server ∙ ap (λ m. (o.server, m)) kept.share
 
-        pub front_kept : AreReadAt es (key_of o) n.front.items (more_front r bytes is.front)
-        front_kept = subst (λ (l : List ℕ). AreReadAt es (key_of o) l (more_front r bytes is.front)) (sym kept.front) (by (reading.is_behind r))
+        front_kept : AreReadAt es (key_of o) n.front.items (more_front r v.items is.front)
+        front_kept = subst (λ (l : List ℕ). AreReadAt es (key_of o) l (more_front r v.items is.front)) (sym kept.front) (by (reading.is_behind r))
           where
-            by : (b : Bool) → AreReadAt es (key_of o) (cond b o.front.items (o.front.items ++ position ∷ [])) (cond b is.front (is.front ++ (reading.next_offset r, bytes) ∷ []))
+            by : (b : Bool) → AreReadAt es (key_of o) (cond b o.front.items (o.front.items ++ first.position ∷ [])) (cond b is.front (is.front ++ (reading.next_offset r, v.items) ∷ []))
             by true = is.front_at
-            by false = reads_snoc es (key_of o) o.front.items is.front position (reading.next_offset r, bytes) is.front_at new_read
+            by false = reads_snoc es (key_of o) o.front.items is.front first.position (reading.next_offset r, v.items) is.front_at new_read
 
-        pub back_kept : AreReadAt es (key_of o) n.back.items (more_back r bytes is.back)
-        back_kept = subst (λ (l : List ℕ). AreReadAt es (key_of o) l (more_back r bytes is.back)) (sym kept.back) (by (reading.is_behind r))
+        back_kept : AreReadAt es (key_of o) n.back.items (more_back r v.items is.back)
+        back_kept = subst (λ (l : List ℕ). AreReadAt es (key_of o) l (more_back r v.items is.back)) (sym kept.back) (by (reading.is_behind r))
           where
-            by : (b : Bool) → AreReadAt es (key_of o) (cond b (o.back.items ++ position ∷ []) o.back.items) (cond b (is.back ++ (reading.next_offset r, bytes) ∷ []) is.back)
-            by true = reads_snoc es (key_of o) o.back.items is.back position (reading.next_offset r, bytes) is.back_at new_read
+            by : (b : Bool) → AreReadAt es (key_of o) (cond b (o.back.items ++ first.position ∷ []) o.back.items) (cond b (is.back ++ (reading.next_offset r, v.items) ∷ []) is.back)
+            by true = reads_snoc es (key_of o) o.back.items is.back first.position (reading.next_offset r, v.items) is.back_at new_read
             by false = is.back_at
 
-        pub pieces_kept : HasPieces (more_front r bytes is.front) (more_back r bytes is.back) n.pieces
+        pieces_kept : HasPieces (more_front r v.items is.front) (more_back r v.items is.back) n.pieces
         pieces_kept = record {
           front_is = λ keeps. (let had = sym kept.pieces.keeps ∙ keeps in
-              kept.pieces.front had ∙ more_joined (reading.is_behind r) o.pieces.front.items bytes is.front (reading.next_offset r) (is.pieces.front_is had));
+              kept.pieces.front had ∙ more_joined (reading.is_behind r) o.pieces.front.items v.items is.front (reading.next_offset r) (is.pieces.front_is had));
           back_is = λ keeps. (let had = sym kept.pieces.keeps ∙ keeps in
-              kept.pieces.back had ∙ less_joined (reading.is_behind r) o.pieces.back.items bytes is.back (reading.next_offset r) (is.pieces.back_is had));
+              kept.pieces.back had ∙ less_joined (reading.is_behind r) o.pieces.back.items v.items is.back (reading.next_offset r) (is.pieces.back_is had));
         }
 
         -- its verdict is found
-        pub is_judged : (text : List ℕ) (v : Verdict) → reading.Advances cap r bytes Whole → text ≡ joined more_reads → IsJudged cap o.share text v → IsEnded cap es n v
-        is_judged text v a same found = record {
-          verdict = subst (λ (key : Pair). IsVerdict cap key.1 (settled_of es key.0 key.1) v) (sym key_is) (judged text v a (subst (IsWhole (brought_of reads)) (sym same) (is_joined a)) found);
+        pub is_judged : (verdict : Verdict) → reading.Advances cap r v.items Whole
+            → IsJudged cap o.share (joined (more_front r v.items is.front) ++ joined (more_back r v.items is.back)) verdict → IsEnded cap es n verdict
+        is_judged verdict a found = record {
+          verdict = subst (λ (key : Pair). IsVerdict cap key.1 (settled_of es key.0 key.1) verdict) (sym kept_key)
+              (judged a (joined (more_front r v.items is.front) ++ joined (more_back r v.items is.back)) verdict whole found);
           held = λ good. record {
-            front = more_front r bytes is.front;
-            back = more_back r bytes is.back;
-            front_at = subst (λ (key : Pair). AreReadAt es key n.front.items (more_front r bytes is.front)) (sym key_is) front_kept;
-            back_at = subst (λ (key : Pair). AreReadAt es key n.back.items (more_back r bytes is.back)) (sym key_is) back_kept;
+            front = more_front r v.items is.front;
+            back = more_back r v.items is.back;
+            front_at = subst (λ (key : Pair). AreReadAt es key n.front.items (more_front r v.items is.front)) (sym kept_key) front_kept;
+            back_at = subst (λ (key : Pair). AreReadAt es key n.back.items (more_back r v.items is.back)) (sym kept_key) back_kept;
             pieces = pieces_kept;
-            whole = subst (λ (key : Pair). IsWhole (brought_of (settled_of es key.0 key.1)) (joined (more_front r bytes is.front) ++ joined (more_back r bytes is.back))) (sym key_is)
-                (subst (IsWhole (brought_of reads)) (joined_both (more_front r bytes is.front) (more_back r bytes is.back)) (is_joined a));
+            whole = subst (λ (key : Pair). IsWhole (brought_of (settled_of es key.0 key.1)) (joined (more_front r v.items is.front) ++ joined (more_back r v.items is.back))) (sym kept_key) whole;
           };
-          quiet = λ i x at about. all_quiet cap es todo o r position is q there settled i x at (subst (λ (key : Pair). IsAbout key x) key_is about);
+          quiet = λ i x at about. all_quiet (none_left a) i x at (subst (λ (key : Pair). IsAbout key x) kept_key about);
         }
-
-        only_kept : IsReadOnlyAt es (key_of o) (n.front.items ++ n.back.items)
-        only_kept i x at about =
-            subst (λ (l : List ℕ). Contains l i) (sym (ap (λ (l : List ℕ). l ++ n.back.items) kept.front ∙ ap (λ (l : List ℕ). more ++ l) kept.back))
-            (elim (contains_cases position i (o.front.items ++ o.back.items) (is.only i x at about)) [
-              | inl here ↦ subst (Contains (more ++ cond (reading.is_behind r) (o.back.items ++ position ∷ []) o.back.items)) here (more_new (reading.is_behind r) o.front.items o.back.items position)
-              | inr later ↦ more_old (reading.is_behind r) o.front.items o.back.items position i later
-            ])
           where
-            more : List ℕ
-            more = cond (reading.is_behind r) o.front.items (o.front.items ++ position ∷ [])
+            whole : IsWhole (brought_of reads) (joined (more_front r v.items is.front) ++ joined (more_back r v.items is.back))
+            whole = subst (IsWhole (brought_of reads)) (joined_both (more_front r v.items is.front) (more_back r v.items is.back)) (is_joined a)
 
-        -- it goes on, by what is asked of it now
-        pub goes_on : (rest : List ℕ) (next : readings.ShareReading) (now : ℕ) → reading.Advances cap r bytes (Next next) → (m : Offer) → m.server ≡ o.server → m.share ≡ o.share
-            → m.front.items ≡ n.front.items → m.back.items ≡ n.back.items → m.judged ≡ n.judged → m.pieces ≡ n.pieces
-            → IsJudgedBy cap (more_front r bytes is.front) (more_back r bytes is.back) next n.judged
-            → IsReading cap (es ++ next_request o.server o.share next now ∷ []) rest m next (length es)
-        goes_on rest next now a m server share front back judged pieces judged_on =
-            reads_on cap es rest m next now (o.server, o.share) (ap (λ k. (k, m.share)) server ∙ ap (λ k. (o.server, k)) share)
-            (more_front r bytes is.front) (more_back r bytes is.back) (go_on cap is.front is.back r next bytes is.led a)
-            (subst (λ (l : List ℕ). AreReadAt es (key_of o) l (more_front r bytes is.front)) (sym front) front_kept)
-            (subst (λ (l : List ℕ). AreReadAt es (key_of o) l (more_back r bytes is.back)) (sym back) back_kept)
-            (subst (IsJudgedBy cap (more_front r bytes is.front) (more_back r bytes is.back) next) (sym judged) judged_on)
-            (subst (HasPieces (more_front r bytes is.front) (more_back r bytes is.back)) (sym pieces) pieces_kept)
-            (subst (λ (l : List ℕ). IsReadOnlyAt es (key_of o) l) (ap (λ (l : List ℕ). l ++ n.back.items) (sym front) ∙ ap (λ (l : List ℕ). m.front.items ++ l) (sym back)) only_kept)
+        -- it is read on
+        module _ (next : readings.ShareReading) (a : reading.Advances cap r v.items (Next next)) (n_wanted : n.wanted.items ≡ rest)
+            (judged_on : IsJudgedBy cap (more_front r v.items is.front) (more_back r v.items is.back) next n.judged) where
+          wanted_behind : (i : ℕ) (w : Wanted) → slice_get n.wanted.items i ≡ Some w → IsPiece es todo (key_of o) next i w
+          wanted_behind i w e =
+              let p = is.wanted (suc i) w (ap (λ (l : List Wanted). slice_get l (suc i)) wanted_is ∙ ap (λ (l : List Wanted). slice_get l i) (sym n_wanted) ∙ e) in
+              let ahead = next_ahead cap r next v.items i a p.ahead in
+              record {
+                ahead = ahead.ahead;
+                request = p.request;
+                there = p.there;
+                server = p.server;
+                asked = p.asked ∙ ap (λ m. Reading o.share m (length_ahead r (suc i))) (sym ahead.offset) ∙ ap (Reading o.share (offset_ahead next i)) (sym ahead.long);
+                came = p.came;
+              }
 
-        -- and it is safe to ask it
-        pub safe_next : (next : readings.ShareReading) → reading.Advances cap r bytes (Next next) → Contains (offered_pairs cap.total es) (key_of o) → IsSafeToAsk cap es (key_of o) next
-        safe_next next a listed = record { apart = apart_from; asked = more_asked cap more_reads (brought_of reads) (reading.next_offset next) (reading.next_length next) more_brought law.0; listed = listed }
-          where
-            law : IsAsked cap more_reads (reading.next_offset next) (reading.next_length next)
-                × ((b : Brought) → Contains more_reads b → AsksNone b (reading.next_offset next) (reading.next_length next))
-            law = ask cap (more_front r bytes is.front) (more_back r bytes is.back) next (go_on cap is.front is.back r next bytes is.led a)
+          only_kept : (i : ℕ) (x : Request) → slice_get es i ≡ Some x → IsAbout (key_of o) x → Contains (positions_of n.wanted.items ++ (n.front.items ++ n.back.items)) i
+          only_kept i x at about =
+              subst (λ (l : List ℕ). Contains l i) (sym lists)
+              (elim (contains_cases first.position i (positions_of rest ++ (o.front.items ++ o.back.items)) (subst (λ (l : List Wanted). Contains (positions_of l ++ (o.front.items ++ o.back.items)) i) wanted_is (is.only i x at about))) [
+                | inl here ↦ subst (Contains (positions_of rest ++ more)) here
+                    (Contains-append_right (positions_of rest) more first.position (more_new (reading.is_behind r) o.front.items o.back.items first.position))
+                | inr later ↦ elim (Contains-append_cases (positions_of rest) (o.front.items ++ o.back.items) i later) [
+                  | inl ahead ↦ Contains-append_left (positions_of rest) more i ahead
+                  | inr old ↦ Contains-append_right (positions_of rest) more i (more_old (reading.is_behind r) o.front.items o.back.items first.position i old)
+                ]
+              ])
+            where
+              more_before : List ℕ
+              more_before = cond (reading.is_behind r) o.front.items (o.front.items ++ first.position ∷ [])
 
-            apart_from : (i : ℕ) (x : Request) (offset count : ℕ) → slice_get es i ≡ Some x → IsAbout (key_of o) x → x.asked ≡ Reading o.share offset count
-                → (offset + count ≤ reading.next_offset next) ⊎ (reading.next_offset next + reading.next_length next ≤ offset)
-            apart_from i x offset count at about asked = by (one_of cap es todo o r position is q there settled i x at about)
-              where
-                as_read : (b : Brought) → x.asked ≡ Reading o.share b.0 (length b.1) → AsksNone b (reading.next_offset next) (reading.next_length next)
-                    → (offset + count ≤ reading.next_offset next) ⊎ (reading.next_offset next + reading.next_length next ≤ offset)
-                as_read b same none =
-                    let reading_is : Reading o.share b.0 (length b.1) ≡ Reading o.share offset count = sym same ∙ asked in
-                    let offset_is : b.0 ≡ offset = ap offset_in reading_is in
-                    let len_is : length b.1 ≡ count = ap count_in reading_is in
-                    elim none [
-                      | inl low ↦ inl (omega (arith, low, offset_is, len_is))
-                      | inr high ↦ inr (omega (arith, high, offset_is))
-                    ]
+              more_behind : List ℕ
+              more_behind = cond (reading.is_behind r) (o.back.items ++ first.position ∷ []) o.back.items
 
-                by : IsOneOf cap es todo o r position is q there settled i x → (offset + count ≤ reading.next_offset next) ⊎ (reading.next_offset next + reading.next_length next ≤ offset)
-                by (brought b among read) =
-                    as_read b (ap (λ (y : Request). y.asked) (same_Some x read.request (sym at ∙ read.there)) ∙ read.asked)
-                    (law.1 b (more_old (reading.is_behind r) is.front is.back (reading.next_offset r, bytes) b among))
-                by (last here same) =
-                    as_read (reading.next_offset r, bytes) (ap (λ (y : Request). y.asked) same ∙ next_asked cap es todo o r position is q there settled ∙ ap (λ m. Reading o.share (reading.next_offset r) m) (sym long))
-                    (law.1 (reading.next_offset r, bytes) (more_new (reading.is_behind r) is.front is.back (reading.next_offset r, bytes)))
+              more : List ℕ
+              more = more_before ++ more_behind
+
+              lists : positions_of n.wanted.items ++ (n.front.items ++ n.back.items) ≡ positions_of rest ++ more
+              lists =
+                  ap (λ (l : List Wanted). positions_of l ++ (n.front.items ++ n.back.items)) n_wanted
+                  ∙ ap (λ (l : List ℕ). positions_of rest ++ (l ++ n.back.items)) kept.front
+                  ∙ ap (λ (l : List ℕ). positions_of rest ++ (more_before ++ l)) kept.back
+
+          pub goes_on : IsReading cap es todo n next
+          goes_on = record {
+            front = more_front r v.items is.front;
+            back = more_back r v.items is.back;
+            led = go_on cap is.front is.back r next v.items is.led a;
+            front_at = subst (λ (key : Pair). AreReadAt es key n.front.items (more_front r v.items is.front)) (sym kept_key) front_kept;
+            back_at = subst (λ (key : Pair). AreReadAt es key n.back.items (more_back r v.items is.back)) (sym kept_key) back_kept;
+            judged = judged_on;
+            pieces = pieces_kept;
+            wanted = λ i w e. subst (λ (key : Pair). IsPiece es todo key next i w) (sym kept_key) (wanted_behind i w e);
+            only = λ i x at about. only_kept i x at (subst (λ (key : Pair). IsAbout key x) kept_key about);
+          }
+
+-- ---- what comes of the piece that was read
+
+module _ (cap : VerifyCapValue) (r : readings.ShareReading) (o n : Offer) where
+  pub taken_next : (next : readings.ShareReading) → IsTakenFirst cap r (found.Next next) o n → (es : List Request) (todo : List ℕ) → IsReading cap es todo o r → IsReading cap es todo n next
+  taken_next next t es todo is =
+      goes_on cap es todo o r is t.first n.wanted.items t.wanted t.bytes t.came (advances_long cap r t.bytes.items (Next next) t.taken.comes) n t.taken.kept next t.taken.comes refl
+      (t.taken.judged is.front is.back is.led is.judged)
+
+  pub taken_whole : (verdict : Verdict) (e : Offer) → IsTakenFirst cap r (found.Whole verdict) o n → IsEndedBy verdict n e → (es : List Request) (todo : List ℕ) → IsReading cap es todo o r → IsEnded cap es e verdict
+  taken_whole verdict e t by es todo is =
+      ended_as cap es n e verdict by
+      (is_judged cap es todo o r is t.first n.wanted.items t.wanted t.bytes t.came (advances_long cap r t.bytes.items Whole t.taken.comes) n t.taken.kept verdict t.taken.comes
+      (t.taken.judged is.front is.back is.led is.judged))
+
+  pub taken_stopped : (check : Check) (e : Offer) → IsTakenFirst cap r (found.Stopped check) o n → AllCame o.wanted.items → IsEndedBy (verdicts.Corrupt check) n e
+      → (es : List Request) (todo : List ℕ) → IsReading cap es todo o r → IsEnded cap es e (verdicts.Corrupt check)
+  taken_stopped check e t all by es todo is =
+      ended_same cap es o e (verdicts.Corrupt check) (λ h. cc)
+      (same_key n e (verdicts.Corrupt check) by ∙ (ap (λ m. (m, n.share)) t.taken.kept.server ∙ ap (λ m. (o.server, m)) t.taken.kept.share))
+      (is_stopped cap es todo o r is t.first n.wanted.items t.wanted t.bytes t.came all check t.taken.comes)
+
+-- a piece that is as long as was asked for stops a reading only where no other is asked for
+pub stops_alone : (cap : VerifyCapValue) (es : List Request) (todo : List ℕ) (o : Offer) (r : readings.ShareReading) (first : Wanted) (rest : List Wanted) (v : Vec ℕ Global) (check : Check)
+    → IsReading cap es todo o r → o.wanted.items ≡ first ∷ rest → first.came ≡ Bytes v → length v.items ≡ reading.next_length r → reading.IsStop cap r v.items check → AllCame o.wanted.items
+stops_alone cap es todo o (Remaining r) first rest v check is wanted came long stop = absurd (stop.0 long)
+stops_alone cap es todo o (Beginning b) first rest v check is wanted came long stop = all
+  where
+    all : AllCame o.wanted.items
+    all zero w e = (v, ap (λ (x : Wanted). x.came) (same_Some w first (sym e ∙ ap (λ (l : List Wanted). slice_get l 0) wanted)) ∙ came)
+    all (suc i) w e = absurd (omega (arith, (is.wanted (suc i) w e).ahead))

@@ -12,7 +12,6 @@ use Rattle.request_record.specs.declared.requests.Outcome.{Outcome}
 use Rattle.request_record.specs.declared.requests.Outcome.TheVariants.{Unawaited, Outstanding, Answered, Lost}
 use Rattle.request_record.specs.declared.requests.Request.{Request}
 use Rattle.request_record.specs.Record.{is_outstanding}
-use Rattle.share_reading.specs.Reading as reading
 use Rattle.share_reading.specs.declared.reading.ShareReading as readings
 use Rattle.checker.specs.Offers.{key_of}
 use Rattle.checker.specs.Shares.{offered_in}
@@ -21,8 +20,9 @@ use Rattle.checker.specs.declared.state.Told.{Told}
 use Rattle.checker.specs.declared.offers.Offer.{Offer}
 use Rattle.checker.specs.declared.offers.Stage.TheVariants.{Read}
 use Rattle.checker.proofs.Entries.{GoesTo, about_by, about_one, about_same, get_kept, get_set_same, was_at}
-use Rattle.checker.proofs.OfferMoves.{offer_done, offer_goes, offer_other, offer_push, waits_about}
-use Rattle.checker.proofs.AnswerMoves.{next_request}
+use Rattle.checker.specs.declared.wanted.Wanted.{Wanted}
+use Rattle.checker.proofs.OfferMoves.{offer_done, offer_goes, offer_other, offer_push, piece_about}
+use Rattle.checker.proofs.AnswerMoves.{span_request}
 
 -- ---- one offer is another
 
@@ -156,7 +156,7 @@ module _ (cap : VerifyCapValue) (keeps : Bool) (entries : List Request) (told : 
 
   -- nothing comes of it
   pub book_done : (k : ℕ) (o : Offer) (q : Request) → slice_get offers k ≡ Some o → slice_get entries position ≡ Some q → IsAbout (key_of o) q
-      → ((r : readings.ShareReading) → o.stage ≡ Read r position → ⊥) → IsBook cap keeps entries told owners offers begun todo
+      → ((r : readings.ShareReading) (i : ℕ) (w : Wanted) → o.stage ≡ Read r → slice_get o.wanted.items i ≡ Some w → w.position ≡ position → ⊥) → IsBook cap keeps entries told owners offers begun todo
   book_done k o q at there about other = record {
     asks = b.asks;
     long = b.long;
@@ -174,14 +174,15 @@ module _ (cap : VerifyCapValue) (keeps : Bool) (entries : List Request) (told : 
   }
     where
       less : (l : ℕ) (x : Offer) → slice_get offers l ≡ Some x → IsOffer cap entries todo x
-      less l x e = offer_done cap entries todo position x (λ r at_position. not_this r at_position) (b.reading l x e)
+      less l x e = offer_done cap entries todo position x not_this (b.reading l x e)
         where
-          not_this : (r : readings.ShareReading) → x.stage ≡ Read r position → ⊥
-          not_this r at_position =
-              let mine = waits_about cap entries (position ∷ todo) x r position q (subst (IsAt cap entries (position ∷ todo) x) at_position (b.reading l x e)) there in
+          not_this : (r : readings.ShareReading) (i : ℕ) (w : Wanted) → x.stage ≡ Read r → slice_get x.wanted.items i ≡ Some w → w.position ≡ position → ⊥
+          not_this r i w stage piece here =
+              let reads = subst (IsAt cap entries (position ∷ todo) x) stage (b.reading l x e) in
+              let mine = piece_about entries (position ∷ todo) (key_of x) r i w q (reads.wanted i w piece) (ap (slice_get entries) here ∙ there) in
               let same : l ≡ k = b.apart l k x o e at (about_one (key_of x) (key_of o) q mine about) in
               let is : x ≡ o = same_Some x o (sym e ∙ ap (slice_get offers) same ∙ at) in
-              other r (sym (ap (λ (y : Offer). y.stage) is) ∙ at_position)
+              other r i w (sym (ap (λ (y : Offer). y.stage) is) ∙ stage) (ap (λ (y : Offer). slice_get y.wanted.items i) (sym is) ∙ piece) here
 
   -- the others are as they were
   pub others_less : (k : ℕ) (o : Offer) (q : Request) → slice_get offers k ≡ Some o → slice_get entries position ≡ Some q → IsAbout (key_of o) q
@@ -189,72 +190,74 @@ module _ (cap : VerifyCapValue) (keeps : Bool) (entries : List Request) (told : 
   others_less k o q at there about l x other e =
       offer_other cap entries todo position x q there (λ mine. other (b.apart l k x o e at (about_one (key_of x) (key_of o) q mine about))) (b.reading l x e)
 
--- one offer is begun, or its verdict is found
-module _ (cap : VerifyCapValue) (keeps : Bool) (entries : List Request) (told : List Told) (owners : List ℕ) (offers : List Offer) (begun : ℕ) (position : ℕ) (todo : List ℕ)
-    (b : IsBook cap keeps entries told owners offers begun (position ∷ todo)) (after : length told ≤ position)
-    (k : ℕ) (o n : Offer) (q : Request) (at : slice_get offers k ≡ Some o) (there : slice_get entries position ≡ Some q) (about : IsAbout (key_of o) q)
-    (was_started : IsStarted o.stage) (key : key_of n ≡ key_of o) (same_keeps : n.pieces.keeps ≡ o.pieces.keeps) (is_started : IsStarted n.stage) where
-  pub book_ended : IsOffer cap entries todo n → IsBook cap keeps entries told owners (set offers k n) begun todo
-  book_ended is = record {
+pub record BeginsTo (begun k more : ℕ) (len : ℕ) : Type 0 where
+  pub up_to : (l : ℕ) → l < more → (l < begun) ⊎ (l ≡ k)
+  pub from : (l : ℕ) → more ≤ l → (begun ≤ l) × (l ≢ k)
+  pub few : more ≤ len
+
+-- one offer is begun, or read on, or its verdict is found
+module _ (cap : VerifyCapValue) (keeps : Bool) (entries : List Request) (told : List Told) (owners : List ℕ) (offers : List Offer) (begun more : ℕ) (old todo : List ℕ)
+    (b : IsBook cap keeps entries told owners offers begun old)
+    (k : ℕ) (o n : Offer) (at : slice_get offers k ≡ Some o) (key : key_of n ≡ key_of o) (same_keeps : n.pieces.keeps ≡ o.pieces.keeps) where
+  pub book_set : ((l : ℕ) (x : Offer) → l ≢ k → slice_get offers l ≡ Some x → IsOffer cap entries todo x)
+      → ((l : ℕ) (x : Offer) → slice_get offers l ≡ Some x → IsTold cap.total (length told) entries todo x)
+      → ((i : ℕ) (t : Told) (q : Request) → slice_get told i ≡ Some t → slice_get entries i ≡ Some q → HasTold cap.total todo offers i t q)
+      → ((i : ℕ) (q : Request) → Contains todo i → slice_get entries i ≡ Some q → is_outstanding q.outcome ≡ false)
+      → ((i : ℕ) → Contains todo i → i < length entries)
+      → BeginsTo begun k more (length offers) → IsStarted n.stage → IsOffer cap entries todo n
+      → IsBook cap keeps entries told owners (set offers k n) more todo
+  book_set others offered tells quiet inside begins is_started is = record {
     asks = b.asks;
     long = b.long;
     owned = λ p l e. owner_set entries offers k o n at key (length told + p) l (b.owned p l e);
     apart = apart_set entries offers k o n at key b.apart;
     reading = λ l x e. elim (get_changed offers k l o n x at e) [
       | inl here ↦ subst (IsOffer cap entries todo) (sym here.1) is
-      | inr other ↦ others_less cap keeps entries told owners offers begun position todo b after k o q at there about l x other.0 other.1
+      | inr other ↦ others l x other.0 other.1
     ];
     alike = alike_set keeps offers k o n at same_keeps b.alike;
     offered = λ l x e. elim (get_changed offers k l o n x at e) [
-      | inl here ↦ told_as cap.total (length told) entries todo o x (sym key ∙ ap key_of (sym here.1))
-          (told_less cap keeps entries told owners offers begun position todo b after k o at)
-      | inr other ↦ told_less cap keeps entries told owners offers begun position todo b after l x other.1
+      | inl here ↦ told_as cap.total (length told) entries todo o x (sym key ∙ ap key_of (sym here.1)) (offered k o at)
+      | inr other ↦ offered l x other.1
     ];
-    tells = λ i t r e f. elim (tells_less cap keeps entries told owners offers begun position todo b after i t r e f) [
+    tells = λ i t q e f. elim (tells i t q e f) [
       | inl waits ↦ inl (waits.0, keys_kept offers k o n t [] at key waits.1)
-      | inr are ↦ inr (keys_kept offers k o n t (offered_in cap.total r.server r.outcome) at key are)
+      | inr are ↦ inr (keys_kept offers k o n t (offered_in cap.total q.server q.outcome) at key are)
     ];
-    quiet = quiet_less cap keeps entries told owners offers begun position todo b after;
-    inside = λ i h. b.inside i (tail position i todo h);
+    quiet = quiet;
+    inside = inside;
     started = λ l x e lt. elim (get_changed offers k l o n x at e) [
       | inl here ↦ subst (λ (y : Offer). IsStarted y.stage) (sym here.1) is_started
-      | inr other ↦ b.started l x other.1 lt
+      | inr other ↦ elim (begins.up_to l lt) [
+        | inl before ↦ b.started l x other.1 before
+        | inr same ↦ absurd (other.0 same)
+      ]
     ];
     unread = λ l x e le. elim (get_changed offers k l o n x at e) [
-      | inl here ↦ absurd (was_started (b.unread k o at (omega (arith, le, here.0))))
-      | inr other ↦ b.unread l x other.1 le
+      | inl here ↦ absurd ((begins.from l le).1 here.0)
+      | inr other ↦ b.unread l x other.1 (begins.from l le).0
     ];
-    few = omega (arith, b.few, length-set offers k n);
+    few = omega (arith, begins.few, length-set offers k n);
   }
 
--- ---- the next bytes of one are asked for
+-- ---- a piece of one is asked for
 
 owner_push : (entries : List Request) (offers : List Offer) (new : Request) (position l : ℕ) → IsOwner entries offers position l → IsOwner (entries ++ new ∷ []) offers position l
 owner_push entries offers new position l is =
     record { offer = is.offer; there = is.there; request = is.request; asks = get_kept entries new is.request position is.asks; about = is.about }
 
-pub record BeginsTo (begun k more : ℕ) (len : ℕ) : Type 0 where
-  pub up_to : (l : ℕ) → l < more → (l < begun) ⊎ (l ≡ k)
-  pub from : (l : ℕ) → more ≤ l → (begun ≤ l) × (l ≢ k)
-  pub few : more ≤ len
-
-module _ (cap : VerifyCapValue) (keeps : Bool) (entries : List Request) (told : List Told) (owners : List ℕ) (offers : List Offer) (begun more : ℕ) (todo : List ℕ)
-    (k : ℕ) (o n : Offer) (r : readings.ShareReading) (now : ℕ) (at : slice_get offers k ≡ Some o) (key : key_of n ≡ key_of o) (same_keeps : n.pieces.keeps ≡ o.pieces.keeps) where
+module _ (cap : VerifyCapValue) (keeps : Bool) (entries : List Request) (told : List Told) (owners : List ℕ) (offers : List Offer) (begun : ℕ) (todo : List ℕ)
+    (b : IsBook cap keeps entries told owners offers begun todo)
+    (k : ℕ) (o n : Offer) (offset len now : ℕ) (at : slice_get offers k ≡ Some o) (key : key_of n ≡ key_of o) (same_keeps : n.pieces.keeps ≡ o.pieces.keeps) where
   abbrev new : Request
-  new = next_request o.server o.share r now
+  new = span_request o.server o.share offset len now
 
   new_about : IsAbout (key_of o) new
-  new_about = about_by (key_of o) new (reading.next_offset r) (reading.next_length r) refl refl
+  new_about = about_by (key_of o) new offset len refl refl
 
-  pub book_asked : (old : List ℕ) → IsBook cap keeps entries told owners offers begun old
-      → ((l : ℕ) (x : Offer) → l ≢ k → slice_get offers l ≡ Some x → IsOffer cap entries todo x)
-      → ((l : ℕ) (x : Offer) → slice_get offers l ≡ Some x → IsTold cap.total (length told) entries todo x)
-      → ((i : ℕ) (t : Told) (q : Request) → slice_get told i ≡ Some t → slice_get entries i ≡ Some q → HasTold cap.total todo offers i t q)
-      → ((i : ℕ) (q : Request) → Contains todo i → slice_get entries i ≡ Some q → is_outstanding q.outcome ≡ false)
-      → ((i : ℕ) → Contains todo i → i < length entries)
-      → BeginsTo begun k more (length offers) → IsStarted n.stage → IsOffer cap (entries ++ new ∷ []) todo n
-      → IsBook cap keeps (entries ++ new ∷ []) told (owners ++ k ∷ []) (set offers k n) more todo
-  book_asked old b others offered tells quiet inside begins is_started is = record {
+  pub book_asked : IsStarted o.stage → IsStarted n.stage → IsOffer cap (entries ++ new ∷ []) todo n
+      → IsBook cap keeps (entries ++ new ∷ []) told (owners ++ k ∷ []) (set offers k n) begun todo
+  book_asked was_started is_started is = record {
     asks = λ i q lt e. elim (get_pushed entries new q i e) [
       | inl before ↦ b.asks i q lt before
       | inr pushed ↦ absurd (omega (arith, lt, pushed.0, b.long))
@@ -278,37 +281,34 @@ module _ (cap : VerifyCapValue) (keeps : Bool) (entries : List Request) (told : 
       | inr other ↦
           offer_push cap entries new todo x refl
           (λ mine. other.0 (b.apart l k x o other.1 at (about_one (key_of x) (key_of o) new mine new_about)))
-          (others l x other.0 other.1)
+          (b.reading l x other.1)
     ];
     alike = alike_set keeps offers k o n at same_keeps b.alike;
     offered = λ l x e. elim (get_changed offers k l o n x at e) [
-      | inl here ↦ told_push cap.total (length told) entries todo new x (told_as cap.total (length told) entries todo o x (sym key ∙ ap key_of (sym here.1)) (offered k o at))
-      | inr other ↦ told_push cap.total (length told) entries todo new x (offered l x other.1)
+      | inl here ↦ told_push cap.total (length told) entries todo new x (told_as cap.total (length told) entries todo o x (sym key ∙ ap key_of (sym here.1)) (b.offered k o at))
+      | inr other ↦ told_push cap.total (length told) entries todo new x (b.offered l x other.1)
     ];
     tells = λ i t q e f. elim (get_pushed entries new q i f) [
-      | inl before ↦ elim (tells i t q e before) [
+      | inl before ↦ elim (b.tells i t q e before) [
         | inl waits ↦ inl (waits.0, keys_kept offers k o n t [] at key waits.1)
         | inr are ↦ inr (keys_kept offers k o n t (offered_in cap.total q.server q.outcome) at key are)
       ]
       | inr pushed ↦ absurd (omega (arith, pushed.0, b.long, slice_get_within told i t e))
     ];
     quiet = λ i q h e. elim (get_pushed entries new q i e) [
-      | inl before ↦ quiet i q h before
-      | inr pushed ↦ absurd (omega (arith, pushed.0, inside i h))
+      | inl before ↦ b.quiet i q h before
+      | inr pushed ↦ absurd (omega (arith, pushed.0, b.inside i h))
     ];
-    inside = λ i h. omega (arith, inside i h, length-append entries (new ∷ []));
+    inside = λ i h. omega (arith, b.inside i h, length-append entries (new ∷ []));
     started = λ l x e lt. elim (get_changed offers k l o n x at e) [
       | inl here ↦ subst (λ (y : Offer). IsStarted y.stage) (sym here.1) is_started
-      | inr other ↦ elim (begins.up_to l lt) [
-        | inl before ↦ b.started l x other.1 before
-        | inr same ↦ absurd (other.0 same)
-      ]
+      | inr other ↦ b.started l x other.1 lt
     ];
     unread = λ l x e le. elim (get_changed offers k l o n x at e) [
-      | inl here ↦ absurd ((begins.from l le).1 here.0)
-      | inr other ↦ b.unread l x other.1 (begins.from l le).0
+      | inl here ↦ absurd (was_started (b.unread k o at (omega (arith, le, here.0))))
+      | inr other ↦ b.unread l x other.1 le
     ];
-    few = omega (arith, begins.few, length-set offers k n);
+    few = omega (arith, b.few, length-set offers k n);
   }
 
 -- ---- the record goes on

@@ -20,7 +20,8 @@ use Rattle.share_reading.proofs.VerdictLemmas.{exclusive}
 use Rattle.checker.specs.Offers.{key_of}
 use Rattle.checker.specs.Shares.{offered_pairs, offered_to, settled_of}
 use Rattle.checker.specs.Report.{AreVerdicts, IsVerdictBy, pair_of}
-use Rattle.checker.specs.Book.{HasBook, IsAt, IsEnded, IsKept, IsReading}
+use Rattle.checker.specs.Book.{HasBook, HasCome, IsAt, IsAwaitedAt, IsEnded, IsKept, IsReading}
+use Rattle.checker.specs.Wanted.{AnyWaits}
 use Rattle.checker.specs.Found.{IsDone, IsOver, found_among, found_of, verdict_in}
 use Rattle.checker.specs.declared.state.Machine.{Machine}
 use Rattle.checker.specs.declared.state.Told.{Told}
@@ -57,11 +58,13 @@ over_at m kept k o at = by o.stage refl
 
     by : (s : Stage) → o.stage ≡ s → (v : Verdict) × (o.stage ≡ Ended v)
     by Waiting e = absurd (book.started k o at (omega (arith, kept.begun refl, slice_get_within m.offers.items k o at)) e)
-    by (Read r position) e = absurd (
-        let is : IsReading m.cap m.requests.entries [] o r position = subst (IsAt m.cap m.requests.entries [] o) e (book.reading k o at) in
-        elim is.next.waits [
-          | inl waits ↦ none_waits m.requests.entries position is.next.request (kept.idle refl) is.next.there (ap is_outstanding waits)
-          | inr h ↦ contains_none position h
+    by (Read r) e = absurd (
+        let is : IsReading m.cap m.requests.entries [] o r = subst (IsAt m.cap m.requests.entries [] o) e (book.reading k o at) in
+        let any : AnyWaits o.wanted.items = subst (IsAwaitedAt o) e (kept.awaited (λ e. cc) k o at) in
+        let p = is.wanted any.0 any.1 any.2 in
+        elim (subst (HasCome [] p.request any.1.position) any.3 p.came) [
+          | inl waits ↦ none_waits m.requests.entries any.1.position p.request (kept.idle refl) p.there (ap is_outstanding waits)
+          | inr h ↦ contains_none any.1.position h
         ])
     by (Ended v) e = (v, e)
 

@@ -21,9 +21,10 @@ use Rattle.request_record.specs.Record.{IsRecord, RequestsState, asked_all, aske
 use Rattle.request_record.specs.Asking.{AsksOnce, asks_of, begun, fresh}
 use Rattle.checker.specs.Moves.{GoesOn, Stops, is_read}
 use Rattle.checker.specs.Right.{AreOfShares, IsRight, MayAsk}
-use Rattle.checker.specs.Book.{AllAskOrRead, AreKeys, AreLost, AsksItsOwn, AsksMore, AsksOrReads, HasBook, IsBook, IsFresh, IsKept, IsSafe, state_of}
+use Rattle.checker.specs.Book.{AllAskOrRead, AreAwaited, AreKeys, AreLost, AsksItsOwn, AsksMore, AsksOrReads, HasBook, IsBook, IsFresh, IsKept, IsSafe, state_of}
 use Rattle.checker.specs.Shares.{offered_in}
 use Rattle.checker.specs.declared.state.Machine.{Machine}
+use Rattle.checker.specs.declared.offers.Offer.{Offer}
 use Rattle.checker.specs.declared.state.Told.{Told}
 use Rattle.checker.proofs.Entries.{GoesTo, get_kept, was_at}
 use Rattle.checker.proofs.BookMoves.{book_goes}
@@ -46,6 +47,7 @@ kept_same m r status same k = record {
     asked = subst (AllAskOrRead m.cap) (sym same) k.safe.asked;
   };
   book = λ ok. subst (λ (l : List Request). IsBook m.cap m.keeps l m.told.items m.owners.items m.offers.items m.begun []) (sym same) (k.book ok);
+  awaited = k.awaited;
   works = λ e. subst (λ (l : List Request). 0 < outstanding_count l) (sym same) (k.works e);
   idle = λ e. ap outstanding_count same ∙ k.idle e;
   begun = k.begun;
@@ -81,6 +83,7 @@ pub record IsLosing (old m : Machine) (positions todo : List ℕ) : Type 0 where
   pub book : HasBook m todo
   pub safe : IsSafe m
   pub asks : AsksMore old m
+  pub awaited : AreAwaited old.offers.items → AreAwaited m.offers.items
   pub there : (i : ℕ) → Contains positions i → (r : Request) × (slice_get m.requests.entries i ≡ Some r) × (r.outcome ≡ Lost)
 
 pub losing_none : (m : Machine) (positions : List ℕ) → HasBook m positions → AreLost m.requests.entries positions → IsSafe m → IsLosing m m positions positions
@@ -88,6 +91,7 @@ losing_none m positions b lost safe = record {
   book = b;
   safe = safe;
   asks = asks_none m;
+  awaited = λ all. all;
   there = λ i h. let found = get_of m.requests.entries i (b.inside i h) in (found.0, found.1, lost i found.0 h found.1);
 }
 
@@ -104,11 +108,12 @@ losing_first old m positions i l lt = subst (HasBook m) (drop-cons positions i 0
     next n = omega arith
 
 pub losing_more : (old m new : Machine) (positions : List ℕ) (i : ℕ) → IsLosing old m positions (drop i positions) → i < length positions
-    → HasBook new (drop (i + 1) positions) → AsksMore m new → IsSafe new → IsLosing old new positions (drop (i + 1) positions)
-losing_more old m new positions i l lt b more safe = record {
+    → HasBook new (drop (i + 1) positions) → (AreAwaited m.offers.items → AreAwaited new.offers.items) → AsksMore m new → IsSafe new → IsLosing old new positions (drop (i + 1) positions)
+losing_more old m new positions i l lt b awaited more safe = record {
   book = b;
   safe = safe;
   asks = asks_trans old m new l.asks more;
+  awaited = λ all. awaited (l.awaited all);
   there = λ j h. let found = l.there j h in (found.0, asks_stay m new more j found.0 found.1, found.2);
 }
 
@@ -119,6 +124,7 @@ losing_all old m positions i l le = subst (HasBook m) (drop_all i positions le) 
 
 pub record IsSettling (old m : Machine) : Type 0 where
   pub book : HasBook m []
+  pub awaited : AreAwaited m.offers.items
   pub safe : IsSafe m
   pub asks : AsksMore old m
 
@@ -180,7 +186,7 @@ book_ticked m r lost t b =
     book_goes m.cap m.keeps m.requests.entries r.entries m.told.items m.owners.items m.offers.items m.begun lost t.goes t.waited (λ i q h e. ap is_outstanding (t.quiet i q h e)) t.inside b
 
 failed_kept : (m : Machine) → IsSafe m → IsKept m Failed
-failed_kept m safe = record { safe = safe; book = λ no. absurd (no refl); works = λ e. absurd cc; idle = λ e. absurd cc; begun = λ e. absurd cc }
+failed_kept m safe = record { safe = safe; book = λ no. absurd (no refl); awaited = λ no. absurd (no refl); works = λ e. absurd cc; idle = λ e. absurd cc; begun = λ e. absurd cc }
 
 pub kept_failed : (m : Machine) (status : CheckStatus) → IsKept m status → IsKept m Failed
 kept_failed m status k = failed_kept m k.safe
@@ -204,6 +210,7 @@ kept_ticked m r lost Running ended t once k = absurd (ended refl)
 kept_ticked m r lost Done ended t once k = record {
   safe = safe_goes m r lost t.goes once k.safe;
   book = λ ok. subst (HasBook (with_requests m r)) (no_lost m.requests.entries r.entries lost (k.idle refl) t) (book_ticked m r lost t (k.book ok));
+  awaited = k.awaited;
   works = λ e. absurd cc;
   idle = λ e. all_settled r.entries (λ i q there. (
       let was = was_at m.requests.entries r.entries lost t.goes i q there in
@@ -336,6 +343,7 @@ module _ (cap : VerifyCapValue) (servers : List ℕ) (session now : ℕ) (keeps 
   fresh_kept status runs alone = record {
     safe = fresh_safe;
     book = λ _. fresh_book;
+    awaited = λ _ k o e. absurd (none-some o (ap (λ (l : List Offer). slice_get l k) (sym is.offers) ∙ e));
     works = λ e. subst (λ (l : List Request). 0 < outstanding_count l) (sym entries_are) (works_first servers (λ none. running_done (sym e ∙ alone none)));
     idle = λ e. ap outstanding_count entries_are ∙ idle_first servers refl e;
     begun = λ _. is.begun_none ∙ sym (ap length is.offers);

@@ -1,5 +1,5 @@
 -- How the reading of one share goes on.
-use Rattle.std.proofs.Common.{◌≡◌, ℕ, true, false, List, [], ◌∷◌, ◌++◌, Some, ap, sym, subst, ◌∙◌, inl, inr}
+use Rattle.std.proofs.Common.{◌≡◌, ℕ, suc, true, false, List, [], ◌∷◌, ◌++◌, Some, ap, refl, sym, subst, ◌∙◌, inl, inr, ◌⊎◌}
 use Rattle.std.specs.Prelude.{Contains, slice_get}
 use Rattle.std.proofs.lemmas.List.Elements.{Contains-append_left, Contains-append_right, Contains-append_cases}
 use Rattle.std.proofs.lemmas.Option.{same_Some}
@@ -8,19 +8,21 @@ use Rattle.lemmas.proofs.Positions.{get_pushed}
 use Rattle.cap_text.specs.Cap.{VerifyCapValue}
 use Rattle.placement.specs.Matching.{Pair}
 use Rattle.wire.specs.declared.message.Body.TheVariants.{Data}
-use Rattle.request_record.specs.declared.requests.Asked.TheVariants.{Reading}
 use Rattle.request_record.specs.declared.requests.Outcome.{Outcome}
 use Rattle.request_record.specs.declared.requests.Outcome.TheVariants.{Answered}
 use Rattle.request_record.specs.declared.requests.Request.{Request}
 use Rattle.request_record.specs.Record.{is_outstanding}
 use Rattle.share_reading.specs.OpeningReads.{Brought}
-use Rattle.share_reading.specs.Reading as reading
 use Rattle.share_reading.specs.Verdict.{IsVerdict, Settled, brought_of}
 use Rattle.share_reading.specs.Whole.{IsWhole, joined}
 use Rattle.share_reading.specs.declared.reading.ShareReading as readings
 use Rattle.checker.specs.Offers.{key_of}
 use Rattle.checker.specs.Shares.{settled_of}
-use Rattle.checker.specs.Book.{AreReadAt, IsAbout, IsAt, IsHeld, IsNext, IsOffer, IsReadAt, IsReadOnlyAt, IsReading}
+use Rattle.checker.specs.Book.{AreReadAt, HasCome, IsAbout, IsAt, IsHeld, IsOffer, IsPiece, IsReadAt, IsReadOnlyAt, IsReading}
+use Rattle.checker.specs.Wanted.{positions_of}
+use Rattle.checker.specs.declared.wanted.Came.{Came}
+use Rattle.checker.specs.declared.wanted.Came.TheVariants.{Waits, Bytes, Nothing}
+use Rattle.checker.specs.declared.wanted.Wanted.{Wanted}
 use Rattle.checker.specs.declared.offers.Offer.{Offer}
 use Rattle.checker.specs.declared.offers.Stage.{Stage}
 use Rattle.checker.specs.declared.offers.Stage.TheVariants.{Waiting, Read, Ended}
@@ -39,7 +41,7 @@ read_among es key (p ∷ ps) (b ∷ bs) i are at = elim (contains_cases p i ps a
 
 -- ---- as the record goes on
 
-answered_quiet : (o : Outcome) (bytes : List ℕ) → o ≡ Answered (Data bytes) → is_outstanding o ≡ false
+pub answered_quiet : (o : Outcome) (bytes : List ℕ) → o ≡ Answered (Data bytes) → is_outstanding o ≡ false
 answered_quiet o bytes is = ap is_outstanding is
 
 read_goes : (es ns : List Request) (todo : List ℕ) (key : Pair) (position : ℕ) (b : Brought) → GoesTo es ns todo → IsReadAt es key position b → IsReadAt ns key position b
@@ -59,21 +61,30 @@ only_goes es ns todo key positions goes only i n there about =
     let was = was_at es ns todo goes i n there in
     only i was.request was.there (about_same key was.request n was.server was.asked about)
 
-next_goes : (es ns : List Request) (todo : List ℕ) (key : Pair) (position : ℕ) (r : readings.ShareReading) → GoesTo es ns todo → IsNext es [] key position r → IsNext ns todo key position r
-next_goes es ns todo key position r goes is =
-    let becomes = goes.each position is.request is.there in
+come_goes : (todo : List ℕ) (old new : Request) (position : ℕ) (c : Came) → (is_outstanding old.outcome ≡ false → new ≡ old) → (new.outcome ≡ old.outcome) ⊎ Contains todo position
+    → HasCome [] old position c → HasCome todo new position c
+come_goes todo old new position Waits still waits is = elim waits [
+  | inl same ↦ elim is [
+    | inl out ↦ inl (same ∙ out)
+    | inr at ↦ absurd (contains_none position at)
+  ]
+  | inr at ↦ inr at
+]
+come_goes todo old new position (Bytes v) still waits is = ap (λ (x : Request). x.outcome) (still (answered_quiet old.outcome v.items is)) ∙ is
+come_goes todo old new position Nothing still waits is =
+    let same : new.outcome ≡ old.outcome = ap (λ (x : Request). x.outcome) (still is.0) in
+    (ap is_outstanding same ∙ is.0, λ bytes e. is.1 bytes (sym same ∙ e))
+
+piece_goes : (es ns : List Request) (todo : List ℕ) (key : Pair) (r : readings.ShareReading) (i : ℕ) (w : Wanted) → GoesTo es ns todo → IsPiece es [] key r i w → IsPiece ns todo key r i w
+piece_goes es ns todo key r i w goes is =
+    let becomes = goes.each w.position is.request is.there in
     record {
+      ahead = is.ahead;
       request = becomes.request;
       there = becomes.there;
       server = becomes.server ∙ is.server;
       asked = becomes.asked ∙ is.asked;
-      waits = elim becomes.waits [
-        | inl same ↦ elim is.waits [
-          | inl waits ↦ inl (same ∙ waits)
-          | inr at ↦ absurd (contains_none position at)
-        ]
-        | inr at ↦ inr at
-      ];
+      came = come_goes todo is.request becomes.request w.position w.came becomes.still becomes.waits is.came;
     }
 
 quiet_goes : (es ns : List Request) (todo : List ℕ) (key : Pair) → GoesTo es ns todo
@@ -95,8 +106,8 @@ held_goes es ns todo o goes same h = record {
 }
 
 at_goes : (cap : VerifyCapValue) (es ns : List Request) (todo : List ℕ) (o : Offer) (s : Stage) → GoesTo es ns todo → IsAt cap es [] o s → IsAt cap ns todo o s
-at_goes cap es ns todo o Waiting goes is = record { front = is.front; back = is.back; judged = is.judged; pieces = is.pieces; none = only_goes es ns todo (key_of o) [] goes is.none }
-at_goes cap es ns todo o (Read r position) goes is = record {
+at_goes cap es ns todo o Waiting goes is = record { front = is.front; back = is.back; wanted = is.wanted; judged = is.judged; pieces = is.pieces; none = only_goes es ns todo (key_of o) [] goes is.none }
+at_goes cap es ns todo o (Read r) goes is = record {
   front = is.front;
   back = is.back;
   led = is.led;
@@ -104,8 +115,8 @@ at_goes cap es ns todo o (Read r position) goes is = record {
   back_at = reads_go es ns todo (key_of o) o.back.items is.back goes is.back_at;
   judged = is.judged;
   pieces = is.pieces;
-  next = next_goes es ns todo (key_of o) position r goes is.next;
-  only = only_goes es ns todo (key_of o) (position ∷ (o.front.items ++ o.back.items)) goes is.only;
+  wanted = λ i w e. piece_goes es ns todo (key_of o) r i w goes (is.wanted i w e);
+  only = only_goes es ns todo (key_of o) (positions_of o.wanted.items ++ (o.front.items ++ o.back.items)) goes is.only;
 }
 at_goes cap es ns todo o (Ended v) goes is = record {
   verdict = subst (λ (l : List Settled). IsVerdict cap o.share l v) (sym (settled_stays es ns todo (key_of o) goes is.quiet)) is.verdict;
@@ -128,6 +139,16 @@ reads_push es new key [] (b ∷ bs) are = absurd are
 reads_push es new key (p ∷ ps) [] are = absurd are
 reads_push es new key (p ∷ ps) (b ∷ bs) are = (read_push es new key p b are.0, reads_push es new key ps bs are.1)
 
+pub piece_push : (es : List Request) (new : Request) (todo : List ℕ) (key : Pair) (r : readings.ShareReading) (i : ℕ) (w : Wanted) → IsPiece es todo key r i w → IsPiece (es ++ new ∷ []) todo key r i w
+piece_push es new todo key r i w is = record {
+  ahead = is.ahead;
+  request = is.request;
+  there = get_kept es new is.request w.position is.there;
+  server = is.server;
+  asked = is.asked;
+  came = is.came;
+}
+
 only_push : (es : List Request) (new : Request) (key : Pair) (positions : List ℕ) → (IsAbout key new → ⊥) → IsReadOnlyAt es key positions → IsReadOnlyAt (es ++ new ∷ []) key positions
 only_push es new key positions other only i r there about = elim (get_pushed es new r i there) [
   | inl before ↦ only i r before about
@@ -146,8 +167,8 @@ held_push es new o same h = record {
 
 at_push : (cap : VerifyCapValue) (es : List Request) (new : Request) (todo : List ℕ) (o : Offer) (s : Stage) → is_outstanding new.outcome ≡ true → (IsAbout (key_of o) new → ⊥)
     → IsAt cap es todo o s → IsAt cap (es ++ new ∷ []) todo o s
-at_push cap es new todo o Waiting waits other is = record { front = is.front; back = is.back; judged = is.judged; pieces = is.pieces; none = only_push es new (key_of o) [] other is.none }
-at_push cap es new todo o (Read r position) waits other is = record {
+at_push cap es new todo o Waiting waits other is = record { front = is.front; back = is.back; wanted = is.wanted; judged = is.judged; pieces = is.pieces; none = only_push es new (key_of o) [] other is.none }
+at_push cap es new todo o (Read r) waits other is = record {
   front = is.front;
   back = is.back;
   led = is.led;
@@ -155,14 +176,8 @@ at_push cap es new todo o (Read r position) waits other is = record {
   back_at = reads_push es new (key_of o) o.back.items is.back is.back_at;
   judged = is.judged;
   pieces = is.pieces;
-  next = record {
-    request = is.next.request;
-    there = get_kept es new is.next.request position is.next.there;
-    server = is.next.server;
-    asked = is.next.asked;
-    waits = is.next.waits;
-  };
-  only = only_push es new (key_of o) (position ∷ (o.front.items ++ o.back.items)) other is.only;
+  wanted = λ i w e. piece_push es new todo (key_of o) r i w (is.wanted i w e);
+  only = only_push es new (key_of o) (positions_of o.wanted.items ++ (o.front.items ++ o.back.items)) other is.only;
 }
 at_push cap es new todo o (Ended v) waits other is = record {
   verdict = subst (λ (l : List Settled). IsVerdict cap o.share l v) (sym (settled_push es (key_of o) new waits)) is.verdict;
@@ -179,10 +194,31 @@ offer_push cap es new todo o waits other is = at_push cap es new todo o o.stage 
 
 -- ---- what is taken in of another share
 
-at_done : (cap : VerifyCapValue) (es : List Request) (todo : List ℕ) (done : ℕ) (o : Offer) (s : Stage) → ((r : readings.ShareReading) → s ≡ Read r done → ⊥)
-    → IsAt cap es (done ∷ todo) o s → IsAt cap es todo o s
+come_less : (todo : List ℕ) (done position : ℕ) (q : Request) (c : Came) → (position ≡ done → ⊥) → HasCome (done ∷ todo) q position c → HasCome todo q position c
+come_less todo done position q Waits other is = elim is [
+  | inl out ↦ inl out
+  | inr at ↦ elim (contains_cases done position todo at) [
+    | inl here ↦ absurd (other (sym here))
+    | inr later ↦ inr later
+  ]
+]
+come_less todo done position q (Bytes v) other is = is
+come_less todo done position q Nothing other is = is
+
+pub piece_less : (es : List Request) (todo : List ℕ) (done : ℕ) (key : Pair) (r : readings.ShareReading) (i : ℕ) (w : Wanted) → (w.position ≡ done → ⊥) → IsPiece es (done ∷ todo) key r i w → IsPiece es todo key r i w
+piece_less es todo done key r i w other is = record {
+  ahead = is.ahead;
+  request = is.request;
+  there = is.there;
+  server = is.server;
+  asked = is.asked;
+  came = come_less todo done w.position is.request w.came other is.came;
+}
+
+at_done : (cap : VerifyCapValue) (es : List Request) (todo : List ℕ) (done : ℕ) (o : Offer) (s : Stage)
+    → ((r : readings.ShareReading) (i : ℕ) (w : Wanted) → s ≡ Read r → slice_get o.wanted.items i ≡ Some w → w.position ≡ done → ⊥) → IsAt cap es (done ∷ todo) o s → IsAt cap es todo o s
 at_done cap es todo done o Waiting other is = is
-at_done cap es todo done o (Read r position) other is = record {
+at_done cap es todo done o (Read r) other is = record {
   front = is.front;
   back = is.back;
   led = is.led;
@@ -190,73 +226,55 @@ at_done cap es todo done o (Read r position) other is = record {
   back_at = is.back_at;
   judged = is.judged;
   pieces = is.pieces;
-  next = record {
-    request = is.next.request;
-    there = is.next.there;
-    server = is.next.server;
-    asked = is.next.asked;
-    waits = elim is.next.waits [
-      | inl waits ↦ inl waits
-      | inr at ↦ elim (contains_cases done position todo at) [
-        | inl here ↦ absurd (other r (ap (λ n. Read r n) (sym here)))
-        | inr later ↦ inr later
-      ]
-    ];
-  };
+  wanted = λ i w e. piece_less es todo done (key_of o) r i w (other r i w refl e) (is.wanted i w e);
   only = is.only;
 }
 at_done cap es todo done o (Ended v) other is = is
 
-pub offer_done : (cap : VerifyCapValue) (es : List Request) (todo : List ℕ) (done : ℕ) (o : Offer) → ((r : readings.ShareReading) → o.stage ≡ Read r done → ⊥)
-    → IsOffer cap es (done ∷ todo) o → IsOffer cap es todo o
+pub offer_done : (cap : VerifyCapValue) (es : List Request) (todo : List ℕ) (done : ℕ) (o : Offer)
+    → ((r : readings.ShareReading) (i : ℕ) (w : Wanted) → o.stage ≡ Read r → slice_get o.wanted.items i ≡ Some w → w.position ≡ done → ⊥) → IsOffer cap es (done ∷ todo) o → IsOffer cap es todo o
 offer_done cap es todo done o other is = at_done cap es todo done o o.stage other is
 
--- a share that waits for the answer to a request is what that is about
-pub waits_about : (cap : VerifyCapValue) (es : List Request) (todo : List ℕ) (o : Offer) (r : readings.ShareReading) (position : ℕ) (q : Request) → IsReading cap es todo o r position
-    → slice_get es position ≡ Some q → IsAbout (key_of o) q
-waits_about cap es todo o r position q is there =
-    let same : is.next.request ≡ q = same_Some is.next.request q (sym is.next.there ∙ there) in
-    subst (IsAbout (key_of o)) same (about_by (key_of o) is.next.request _ _ is.next.server is.next.asked)
+-- a piece of a share is asked for by a request about it
+pub piece_about : (es : List Request) (todo : List ℕ) (key : Pair) (r : readings.ShareReading) (i : ℕ) (w : Wanted) (q : Request) → IsPiece es todo key r i w → slice_get es w.position ≡ Some q → IsAbout key q
+piece_about es todo key r i w q is there =
+    let same : is.request ≡ q = same_Some is.request q (sym is.there ∙ there) in
+    subst (IsAbout key) same (about_by key is.request _ _ is.server is.asked)
 
 pub offer_other : (cap : VerifyCapValue) (es : List Request) (todo : List ℕ) (done : ℕ) (o : Offer) (q : Request) → slice_get es done ≡ Some q → (IsAbout (key_of o) q → ⊥)
     → IsOffer cap es (done ∷ todo) o → IsOffer cap es todo o
 offer_other cap es todo done o q there other is =
     offer_done cap es todo done o
-    (λ r at. other (waits_about cap es (done ∷ todo) o r done q (subst (IsAt cap es (done ∷ todo) o) at is) there))
+    (λ r i w at e here. other (piece_about es (done ∷ todo) (key_of o) r i w q ((subst (IsAt cap es (done ∷ todo) o) at is).wanted i w e) (ap (slice_get es) here ∙ there)))
     is
 
--- ---- its request is answered
+-- ---- the requests of a share that is read
 
--- the request of the next bytes waits no more, and is the only one of it that brought no bytes so far
-module _ (cap : VerifyCapValue) (es : List Request) (todo : List ℕ) (o : Offer) (r : readings.ShareReading) (position : ℕ) (is : IsReading cap es todo o r position)
-    (q : Request) (there : slice_get es position ≡ Some q) (settled : is_outstanding q.outcome ≡ false) where
-  pub same_next : is.next.request ≡ q
-  same_next = same_Some is.next.request q (sym is.next.there ∙ there)
+-- it asks for the piece at a position among those that are asked for
+pub record IsAmong (wanted : List Wanted) (position : ℕ) : Type 0 where
+  pub index : ℕ
+  pub piece : Wanted
+  pub there : slice_get wanted index ≡ Some piece
+  pub at : piece.position ≡ position
 
-  pub next_asked : q.asked ≡ Reading o.share (reading.next_offset r) (reading.next_length r)
-  next_asked = ap (λ (x : Request). x.asked) (sym same_next) ∙ is.next.asked
+among : (wanted : List Wanted) (position : ℕ) → Contains (positions_of wanted) position → IsAmong wanted position
+among [] position at = absurd (contains_none position at)
+among (w ∷ ws) position at = elim (contains_cases w.position position (positions_of ws) at) [
+  | inl here ↦ record { index = 0; piece = w; there = refl; at = here }
+  | inr later ↦ (let found = among ws position later in record { index = suc found.index; piece = found.piece; there = found.there; at = found.at })
+]
 
-  pub next_about : IsAbout (key_of o) q
-  next_about = subst (IsAbout (key_of o)) same_next (about_by (key_of o) is.next.request _ _ is.next.server is.next.asked)
-
+module _ (cap : VerifyCapValue) (es : List Request) (todo : List ℕ) (o : Offer) (r : readings.ShareReading) (is : IsReading cap es todo o r) where
   -- the reads of it
-  pub data IsOneOf (i : ℕ) (x : Request) : Type 0 where
-    brought : (b : Brought) → Contains (is.front ++ is.back) b → IsReadAt es (key_of o) i b → IsOneOf i x
-    last : i ≡ position → x ≡ q → IsOneOf i x
+  pub data IsOneOf (i : ℕ) : Type 0 where
+    brought : (b : Brought) → Contains (is.front ++ is.back) b → IsReadAt es (key_of o) i b → IsOneOf i
+    sought : (j : ℕ) (w : Wanted) → slice_get o.wanted.items j ≡ Some w → w.position ≡ i → IsOneOf i
 
-  pub one_of : (i : ℕ) (x : Request) → slice_get es i ≡ Some x → IsAbout (key_of o) x → IsOneOf i x
-  one_of i x at about = elim (contains_cases position i (o.front.items ++ o.back.items) (is.only i x at about)) [
-    | inl here ↦ last (sym here) (same_Some x q (sym at ∙ ap (slice_get es) (sym here) ∙ there))
+  pub one_of : (i : ℕ) (x : Request) → slice_get es i ≡ Some x → IsAbout (key_of o) x → IsOneOf i
+  one_of i x at about = elim (Contains-append_cases (positions_of o.wanted.items) (o.front.items ++ o.back.items) i (is.only i x at about)) [
+    | inl wanted ↦ (let found = among o.wanted.items i wanted in sought found.index found.piece found.there found.at)
     | inr later ↦ elim (Contains-append_cases o.front.items o.back.items i later) [
       | inl front ↦ (let found = read_among es (key_of o) o.front.items is.front i is.front_at front in brought found.0 (Contains-append_left is.front is.back found.0 found.1) found.2)
       | inr back ↦ (let found = read_among es (key_of o) o.back.items is.back i is.back_at back in brought found.0 (Contains-append_right is.front is.back found.0 found.1) found.2)
     ]
   ]
-
-  pub all_quiet : (i : ℕ) (x : Request) → slice_get es i ≡ Some x → IsAbout (key_of o) x → is_outstanding x.outcome ≡ false
-  all_quiet i x at about = by (one_of i x at about)
-    where
-      by : IsOneOf i x → is_outstanding x.outcome ≡ false
-      by (brought b among read) =
-          ap (λ (y : Request). is_outstanding y.outcome) (same_Some x read.request (sym at ∙ read.there)) ∙ answered_quiet read.request.outcome b.1 read.answer
-      by (last here same) = ap (λ (y : Request). is_outstanding y.outcome) same ∙ settled

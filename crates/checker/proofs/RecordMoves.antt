@@ -26,16 +26,14 @@ use Rattle.request_record.specs.Asking.{AreApart, AsksOnce, after_message, after
 use Rattle.request_record.proofs.RecordLaws.{counts_is}
 use Rattle.request_record.proofs.AskingLaws.{once_asked, once_ticked}
 use Rattle.share_reading.specs.OpeningReads.{Brought}
-use Rattle.share_reading.specs.Reading as reading
 use Rattle.share_reading.specs.Reads.{IsAsked}
 use Rattle.share_reading.specs.Verdict.{Settled, brought_of}
-use Rattle.share_reading.specs.declared.reading.ShareReading as readings
 use Rattle.share_reading.proofs.VerdictLemmas.{brought_from, brought_has}
 use Rattle.checker.specs.Book.{AsksOrReads, IsBrought}
 use Rattle.checker.specs.Right.{AreOfShares}
 use Rattle.checker.specs.Shares.{offered_in, offered_pairs, offered_to, settled_of}
 use Rattle.checker.proofs.Entries.{BecomesAt, GoesTo, IsSettledBy, about_by, get_set_same, is_waiting, settled_from, settled_has, settled_push, unsettled, was_at}
-use Rattle.checker.proofs.AnswerMoves.{IsSafeToAsk, more_asked, next_request}
+use Rattle.checker.proofs.AnswerMoves.{IsSafeToAsk, more_asked, span_request}
 
 -- ---- a message
 
@@ -319,26 +317,26 @@ may_more cap es ns more server (Closing n) may = absurd may
 may_more cap es ns more server (Reading n offset len) may = more (server, n) may
 may_more cap es ns more server (Aborting n) may = absurd may
 
-pub once_next : (cap : VerifyCapValue) (es : List Request) (key : Pair) (r : readings.ShareReading) (now : ℕ) → IsSafeToAsk cap es key r → AsksOnce es → AsksOnce (es ++ next_request key.0 key.1 r now ∷ [])
-once_next cap es key r now safe once =
-    once_asked key.0 now (Reading key.1 (reading.next_offset r) (reading.next_length r)) es
-    (λ i x there server. apart_none x.asked key.1 (reading.next_offset r) (reading.next_length r)
-    (λ offset count asked. safe.apart i x offset count there (about_by key x offset count server asked) asked))
+pub once_next : (cap : VerifyCapValue) (es : List Request) (key : Pair) (offset len now : ℕ) → IsSafeToAsk cap es key offset len → AsksOnce es → AsksOnce (es ++ span_request key.0 key.1 offset len now ∷ [])
+once_next cap es key offset len now safe once =
+    once_asked key.0 now (Reading key.1 offset len) es
+    (λ i x there server. apart_none x.asked key.1 offset len
+    (λ from count asked. safe.apart i x from count there (about_by key x from count server asked) asked))
     once
 
 abbrev IsAskedAs : VerifyCapValue → List Request → ℕ → Asked → Type 0
 IsAskedAs cap es server (Reading n position count) = IsAsked cap (brought_of (settled_of es server n)) position count
 IsAskedAs cap es server a = ⊥
 
-pub shares_next : (cap : VerifyCapValue) (es : List Request) (key : Pair) (r : readings.ShareReading) (now : ℕ) → IsSafeToAsk cap es key r → AreOfShares cap es → AreOfShares cap (es ++ next_request key.0 key.1 r now ∷ [])
-shares_next cap es key r now safe are i x share offset len there asked =
-    let new = next_request key.0 key.1 r now in
-    subst (λ (l : List Settled). IsAsked cap (brought_of l) offset len) (sym (settled_push es (x.server, share) new refl))
+pub shares_next : (cap : VerifyCapValue) (es : List Request) (key : Pair) (offset len now : ℕ) → IsSafeToAsk cap es key offset len → AreOfShares cap es → AreOfShares cap (es ++ span_request key.0 key.1 offset len now ∷ [])
+shares_next cap es key offset len now safe are i x share from count there asked =
+    let new = span_request key.0 key.1 offset len now in
+    subst (λ (l : List Settled). IsAsked cap (brought_of l) from count) (sym (settled_push es (x.server, share) new refl))
     (elim (get_pushed es new x i there) [
-      | inl before ↦ are i x share offset len before asked
+      | inl before ↦ are i x share from count before asked
       | inr pushed ↦ (
-          let same : Reading key.1 (reading.next_offset r) (reading.next_length r) ≡ Reading share offset len = ap (λ (q : Request). q.asked) pushed.1 ∙ asked in
+          let same : Reading key.1 offset len ≡ Reading share from count = ap (λ (q : Request). q.asked) pushed.1 ∙ asked in
           let servers : key.0 ≡ x.server = ap (λ (q : Request). q.server) pushed.1 in
-          subst (λ n. IsAsked cap (brought_of (settled_of es n share)) offset len) servers
+          subst (λ n. IsAsked cap (brought_of (settled_of es n share)) from count) servers
           (subst (λ (a : Asked). IsAskedAs cap es key.0 a) same safe.asked))
     ])

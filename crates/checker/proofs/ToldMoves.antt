@@ -22,7 +22,7 @@ use Rattle.checker.specs.Offers.{IsNew, key_of}
 use Rattle.checker.specs.Pieces.{HasPieces, IsEmpty}
 use Rattle.checker.specs.declared.pieces.Pieces.{Pieces}
 use Rattle.checker.specs.Shares.{offered_in}
-use Rattle.checker.specs.Book.{AreKeys, ArePushed, HasTold, IsAbout, IsAt, IsBook, IsOffer, IsOwner, IsReadOnlyAt, IsTakenOnce, IsTold}
+use Rattle.checker.specs.Book.{AreAwaited, AreKeys, ArePushed, HasTold, IsAbout, IsAt, IsAwaitedAt, IsBook, IsOffer, IsOwner, IsReadOnlyAt, IsTakenOnce, IsTold}
 use Rattle.checker.specs.declared.state.Told.{Told}
 use Rattle.checker.specs.declared.offers.Offer.{Offer}
 use Rattle.checker.proofs.Entries.{about_one, about_read, get_set_same}
@@ -243,7 +243,7 @@ module _ (cap : VerifyCapValue) (keeps : Bool) (es : List Request) (told : List 
     | inl old ↦ offer_other cap es todo position x q there (λ about. not_read is_asking (about_read (key_of x) q about).is) (b.reading l x old)
     | inr new ↦ (
         let is = fresh_at new.index x new.there in
-        subst (IsAt cap es todo x) (sym is.stage) (record { front = is.front; back = is.back; judged = is.judged; pieces = no_pieces keeps x.pieces is.pieces; none = new_unread new.index x new.there }))
+        subst (IsAt cap es todo x) (sym is.stage) (record { front = is.front; back = is.back; wanted = is.wanted; judged = is.judged; pieces = no_pieces keeps x.pieces is.pieces; none = new_unread new.index x new.there }))
   ]
 
   told_more : (l : ℕ) (x : Offer) → slice_get (offers ++ more) l ≡ Some x → IsTold cap.total (length told) es todo x
@@ -340,3 +340,13 @@ told_pushed cap keeps es told owners offers new begun position todo q held total
     (book_told cap keeps es told owners offers pushed.more begun position todo q held b once low there
     (pushed.keys ∙ ap (λ n. map (pair_at q.server) (filter (λ (h : HeldShare). ltb h.share n) held)) total_is)
     rising (offered cap.total q.server) pushed.unread taken))
+
+-- none of them is read
+pub awaited_pushed : (keeps : Bool) (total server : ℕ) (held : List HeldShare) (offers new : List Offer) → ArePushed keeps total server held offers new → AreAwaited offers → AreAwaited new
+awaited_pushed keeps total server held offers new pushed all l x e = elim (get_either offers pushed.more l x (ap (λ (os : List Offer). slice_get os l) (sym pushed.offers) ∙ e)) [
+  | inl old ↦ all l x old
+  | inr added ↦ subst (IsAwaitedAt x) (sym (fresh added.index added.there).stage) tt
+]
+  where
+    fresh : (j : ℕ) → slice_get pushed.more j ≡ Some x → IsNew keeps x
+    fresh j f = subst (IsNew keeps) (get_or_from_slice_get pushed.more j x x f) (All-get_or (IsNew keeps) pushed.more j x (slice_get_within pushed.more j x f) pushed.unread)

@@ -15,7 +15,6 @@ use Rattle.request_record.specs.declared.requests.Asked.TheVariants.{Holdings, R
 use Rattle.request_record.specs.declared.requests.Outcome.TheVariants.{Answered, Lost, Outstanding}
 use Rattle.request_record.specs.declared.requests.Request.{Request}
 use Rattle.share_reading.specs.OpeningReads.{Brought}
-use Rattle.share_reading.specs.Reading as reading
 use Rattle.share_reading.specs.declared.reading.ShareReading as readings
 use Rattle.share_reading.specs.Judged.{IsJudgedBy}
 use Rattle.share_reading.specs.Reads.{IsReadBy}
@@ -23,17 +22,22 @@ use Rattle.share_reading.specs.Verdict.{IsVerdict, brought_of}
 use Rattle.share_reading.specs.Whole.{IsWhole, joined}
 use Rattle.share_reading.specs.declared.verdict.Verdict.{Verdict}
 use Rattle.share_reading.specs.declared.verdict.Verdict.TheVariants as verdicts
-use Rattle.checker.specs.Offers.{IsEndedBy, IsNew, IsUnjudged, key_of, with_stage}
+use Rattle.checker.specs.Offers.{IsNew, IsUnjudged, IsWanting, key_of}
 use Rattle.checker.specs.Pieces.{HasPieces}
 use Rattle.checker.specs.Moves.{is_read}
 use Rattle.checker.specs.Right.{AreOfShares}
 use Rattle.checker.specs.Shares.{is_about, offered_in, offered_pairs, settled_of}
 use Rattle.checker.specs.State.{CheckState}
+use Rattle.checker.specs.Wanted.{AnyWaits, IsAhead, length_ahead, offset_ahead, positions_of}
 use Rattle.checker.specs.declared.state.Machine.{Machine}
 use Rattle.checker.specs.declared.state.Told.{Told}
 use Rattle.checker.specs.declared.offers.Offer.{Offer}
 use Rattle.checker.specs.declared.offers.Stage.{Stage}
 use Rattle.checker.specs.declared.offers.Stage.TheVariants.{Waiting, Read, Ended}
+use Rattle.checker.specs.declared.wanted.Came.{Came}
+use Rattle.checker.specs.declared.wanted.Came.TheVariants.{Waits, Bytes, Nothing}
+use Rattle.checker.specs.declared.wanted.Span.{Span}
+use Rattle.checker.specs.declared.wanted.Wanted.{Wanted}
 use Rattle.checker.specs.declared.status.CheckStatus.{CheckStatus}
 use Rattle.checker.specs.declared.status.CheckStatus.TheVariants.{Running, Done, Failed}
 
@@ -65,19 +69,32 @@ abbrev pub IsReadOnlyAt : List Request → Pair → List ℕ → Type 0
 IsReadOnlyAt entries key positions =
     (i : ℕ) (r : Request) → slice_get entries i ≡ Some r → IsAbout key r → Contains positions i
 
--- the request at a position asks for the next bytes, and waits, or is to be taken in
-pub record IsNext (entries : List Request) (todo : List ℕ) (key : Pair) (position : ℕ)
-    (r : readings.ShareReading) : Type 0 where
+-- what came for the request at a position, as far as it is taken in
+abbrev pub HasCome : List ℕ → Request → ℕ → Came → Type 0
+HasCome todo request position Waits =
+    (request.outcome ≡ Outstanding) ⊎ Contains todo position
+HasCome todo request position (Bytes bytes) = request.outcome ≡ Answered (Data bytes.items)
+HasCome todo request position Nothing = (is_outstanding request.outcome ≡ false)
+    × ((bytes : List ℕ) → request.outcome ≡ Answered (Data bytes) → ⊥)
+
+-- the piece that comes so many pieces after the one that is read next is asked for
+pub record IsPiece (entries : List Request) (todo : List ℕ) (key : Pair) (r : readings.ShareReading)
+    (pieces : ℕ) (w : Wanted) : Type 0 where
+  pub ahead : IsAhead r pieces
   pub request : Request
-  pub there : slice_get entries position ≡ Some request
+  pub there : slice_get entries w.position ≡ Some request
   pub server : request.server ≡ key.0
-  pub asked : request.asked ≡ Reading key.1 (reading.next_offset r) (reading.next_length r)
-  pub waits : (request.outcome ≡ Outstanding) ⊎ Contains todo position
+  pub asked : request.asked ≡ Reading key.1 (offset_ahead r pieces) (length_ahead r pieces)
+  pub came : HasCome todo request w.position w.came
+
+abbrev pub ArePieces : List Request → List ℕ → Pair → readings.ShareReading → List Wanted → Type 0
+ArePieces entries todo key r wanted = (i : ℕ) (w : Wanted) → slice_get wanted i ≡ Some w
+    → IsPiece entries todo key r i w
 
 -- it is read so far, by requests that brought these bytes, which are judged, and kept where bytes
--- are kept
+-- are kept; and these pieces of it are asked for
 pub record IsReading (cap : VerifyCapValue) (entries : List Request) (todo : List ℕ) (o : Offer)
-    (r : readings.ShareReading) (position : ℕ) : Type 0 where
+    (r : readings.ShareReading) : Type 0 where
   pub front : List Brought
   pub back : List Brought
   pub led : IsReadBy cap front back r
@@ -85,8 +102,9 @@ pub record IsReading (cap : VerifyCapValue) (entries : List Request) (todo : Lis
   pub back_at : AreReadAt entries (key_of o) o.back.items back
   pub judged : IsJudgedBy cap front back r o.judged
   pub pieces : HasPieces front back o.pieces
-  pub next : IsNext entries todo (key_of o) position r
-  pub only : IsReadOnlyAt entries (key_of o) (position ∷ (o.front.items ++ o.back.items))
+  pub wanted : ArePieces entries todo (key_of o) r o.wanted.items
+  pub only : IsReadOnlyAt entries (key_of o)
+      (positions_of o.wanted.items ++ (o.front.items ++ o.back.items))
 
 -- the requests at its positions brought all bytes of it, and they are kept where bytes are kept
 pub record IsHeld (entries : List Request) (o : Offer) : Type 0 where
@@ -110,17 +128,36 @@ pub record IsEnded (cap : VerifyCapValue) (entries : List Request) (o : Offer) (
 pub record IsUnread (entries : List Request) (o : Offer) : Type 0 where
   pub front : o.front.items ≡ []
   pub back : o.back.items ≡ []
+  pub wanted : o.wanted.items ≡ []
   pub judged : IsUnjudged o.judged
   pub pieces : HasPieces [] [] o.pieces
   pub none : IsReadOnlyAt entries (key_of o) []
 
 abbrev pub IsAt : VerifyCapValue → List Request → List ℕ → Offer → Stage → Type 0
 IsAt cap entries todo o Waiting = IsUnread entries o
-IsAt cap entries todo o (Read r position) = IsReading cap entries todo o r position
+IsAt cap entries todo o (Read r) = IsReading cap entries todo o r
 IsAt cap entries todo o (Ended v) = IsEnded cap entries o v
 
 abbrev pub IsOffer : VerifyCapValue → List Request → List ℕ → Offer → Type 0
 IsOffer cap entries todo o = IsAt cap entries todo o o.stage
+
+-- a piece of a share that is read waits
+abbrev pub IsAwaitedAt : Offer → Stage → Type 0
+IsAwaitedAt o Waiting = Unit {0}
+IsAwaitedAt o (Read r) = AnyWaits o.wanted.items
+IsAwaitedAt o (Ended v) = Unit {0}
+
+abbrev pub IsAwaited : Offer → Type 0
+IsAwaited o = IsAwaitedAt o o.stage
+
+abbrev pub AreAwaited : List Offer → Type 0
+AreAwaited offers = (k : ℕ) (o : Offer) → slice_get offers k ≡ Some o → IsAwaited o
+
+-- the same but for one share, of which more is asked
+pub record AreAwaitedBut (k : ℕ) (offers : List Offer) : Type 0 where
+  pub others : (l : ℕ) (o : Offer) → l ≢ k → slice_get offers l ≡ Some o → IsAwaited o
+  pub here : (o : Offer) → slice_get offers k ≡ Some o
+      → AnyWaits o.wanted.items ⊎ (o.wanted.items ≡ [])
 
 -- ---- all of them
 
@@ -218,6 +255,7 @@ pub record IsSafe (m : Machine) : Type 0 where
 pub record IsKept (m : Machine) (status : CheckStatus) : Type 0 where
   pub safe : IsSafe m
   pub book : status ≢ Failed → HasBook m []
+  pub awaited : status ≢ Failed → AreAwaited m.offers.items
   pub works : status ≡ Running → 0 < outstanding_count m.requests.entries
   pub idle : status ≡ Done → outstanding_count m.requests.entries ≡ 0
   pub begun : status ≡ Done → m.begun ≡ length m.offers.items
@@ -247,32 +285,35 @@ abbrev pub IsBrought : List Request → ℕ → Option (List ℕ) → Type 0
 IsBrought entries position (Some bytes) = IsDataAt entries position bytes
 IsBrought entries position None = (bytes : List ℕ) → IsDataAt entries position bytes → ⊥
 
--- the verdict on a share is found
-pub record HasEnded (old : Machine) (k : ℕ) (v : Verdict) (o : Offer) (new : Machine)
-    : Type 0 where
+-- a piece of a share is asked for
+pub record HasAsked (old : Machine) (k : ℕ) (s : Span) (o : Offer) (new : Machine) : Type 0 where
+  pub cap : new.cap ≡ old.cap
+  pub keeps : new.keeps ≡ old.keeps
+  pub told : new.told.items ≡ old.told.items
+  pub begun : new.begun ≡ old.begun
+  pub ahead : new.ahead ≡ old.ahead
+  pub requests : new.requests
+      ≡ asked_more o.server (Reading o.share s.offset s.length) old.requests
+  pub owners : new.owners.items ≡ old.owners.items ++ k ∷ []
+  pub offer : Offer
+  pub offers : new.offers.items ≡ slice_set old.offers.items k offer
+  pub more : IsWanting (length old.requests.entries) o offer
+
+-- it is the next piece to ask for, of a share that is read so far
+pub record IsNextSpan (r : readings.ShareReading) (o : Offer) (s : Span) : Type 0 where
+  pub ahead : IsAhead r (length o.wanted.items)
+  pub offset : s.offset ≡ offset_ahead r (length o.wanted.items)
+  pub long : s.length ≡ length_ahead r (length o.wanted.items)
+
+-- the same machine but for its offers, of which so many are begun
+pub record IsWithOffers (old new : Machine) (offers : List Offer) (begun : ℕ) : Type 0 where
   pub cap : new.cap ≡ old.cap
   pub keeps : new.keeps ≡ old.keeps
   pub requests : new.requests ≡ old.requests
   pub told : new.told.items ≡ old.told.items
   pub owners : new.owners.items ≡ old.owners.items
-  pub begun : new.begun ≡ old.begun
-  pub offer : Offer
-  pub offers : new.offers.items ≡ slice_set old.offers.items k offer
-  pub ended : IsEndedBy v o offer
-
--- the next bytes of a share are asked for
-pub record HasAsked (old : Machine) (k : ℕ) (r : readings.ShareReading) (o : Offer) (new : Machine)
-    : Type 0 where
-  pub cap : new.cap ≡ old.cap
-  pub keeps : new.keeps ≡ old.keeps
-  pub told : new.told.items ≡ old.told.items
-  pub begun : new.begun ≡ old.begun
-  pub requests : new.requests
-      ≡ asked_more o.server (Reading o.share (reading.next_offset r) (reading.next_length r))
-      old.requests
-  pub owners : new.owners.items ≡ old.owners.items ++ k ∷ []
-  pub offers : new.offers.items ≡ slice_set old.offers.items k
-      (with_stage (Read r (length old.requests.entries)) o)
+  pub offers_are : new.offers.items ≡ offers
+  pub begun_is : new.begun ≡ begun
 
 -- nothing is asked
 pub record AsksNothing (old new : Machine) : Type 0 where
@@ -280,11 +321,28 @@ pub record AsksNothing (old new : Machine) : Type 0 where
   pub keeps : new.keeps ≡ old.keeps
   pub requests : new.requests ≡ old.requests
 
--- the share waits for the answer to the request at a position
-pub record AwaitsAt (m : Machine) (k position : ℕ) (r : readings.ShareReading) : Type 0 where
+-- a request that is at a position waits no more
+abbrev pub IsSettledAt : List Request → ℕ → Type 0
+IsSettledAt entries position =
+    (r : Request) → slice_get entries position ≡ Some r → is_outstanding r.outcome ≡ false
+
+-- the share at a position among the offers is read so far
+pub record IsAsking (m : Machine) (k : ℕ) (r : readings.ShareReading) (o : Offer) : Type 0 where
+  pub there : slice_get m.offers.items k ≡ Some o
+  pub stage : o.stage ≡ Read r
+
+-- it waits for one of its pieces, by the request at a position, of which became this
+pub record IsAwaitingAt (m : Machine) (k : ℕ) (r : readings.ShareReading) (piece position : ℕ)
+    (bytes : Option (List ℕ)) (todo : List ℕ) : Type 0 where
   pub offer : Offer
-  pub there : slice_get m.offers.items k ≡ Some offer
-  pub stage : offer.stage ≡ Read r position
+  pub is : IsAsking m k r offer
+  pub wanted : Wanted
+  pub there : slice_get offer.wanted.items piece ≡ Some wanted
+  pub at : wanted.position ≡ position
+  pub behind : length m.told.items ≤ position
+  pub settled : IsSettledAt m.requests.entries position
+  pub brought : IsBrought m.requests.entries position bytes
+  pub book : HasBook m (position ∷ todo)
 
 -- a check that has just begun
 pub record IsFresh (cap : VerifyCapValue) (servers : List ℕ) (session now : ℕ) (keeps : Bool)
@@ -296,11 +354,6 @@ pub record IsFresh (cap : VerifyCapValue) (servers : List ℕ) (session now : �
   pub owners : m.owners.items ≡ []
   pub offers : m.offers.items ≡ []
   pub begun_none : m.begun ≡ 0
-
--- a request that is at a position waits no more
-abbrev pub IsSettledAt : List Request → ℕ → Type 0
-IsSettledAt entries position =
-    (r : Request) → slice_get entries position ≡ Some r → is_outstanding r.outcome ≡ false
 
 -- these requests are lost
 abbrev pub AreLost : List Request → List ℕ → Type 0

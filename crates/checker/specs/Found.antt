@@ -17,7 +17,7 @@ IsOver o = (v : Verdict) × (o.stage ≡ Ended v)
 abbrev pub verdict_in : Stage → Verdict
 verdict_in (Ended v) = v
 verdict_in Waiting = verdicts.Lost
-verdict_in (Read r position) = verdicts.Lost
+verdict_in (Read r) = verdicts.Lost
 
 abbrev pub found_of : Offer → ShareVerdict
 found_of o = record { server = o.server; share = o.share; verdict = verdict_in o.stage }

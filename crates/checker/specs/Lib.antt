@@ -11,6 +11,8 @@ pub mod Right
 pub mod Tested
 -- words of private clauses
 pub mod Pieces
+pub mod Wanted
 pub mod Offers
 pub mod Book
+pub mod Hearing
 pub mod Found

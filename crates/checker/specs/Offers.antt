@@ -15,14 +15,11 @@ use Rattle.share_reading.specs.declared.verdict.Verdict.{Verdict}
 use Rattle.share_reading.specs.declared.verdict.Verdict.TheVariants as verdicts
 use Rattle.checker.specs.Pieces.{HasAdded, IsEmpty}
 use Rattle.checker.specs.declared.offers.Offer.{Offer}
-use Rattle.checker.specs.declared.offers.Stage.{Stage}
 use Rattle.checker.specs.declared.offers.Stage.TheVariants.{Waiting, Ended}
+use Rattle.checker.specs.declared.wanted.Came.TheVariants.{Waits}
 
 abbrev pub key_of : Offer → Pair
 key_of o = (o.server, o.share)
-
-abbrev pub with_stage : Stage → Offer → Offer
-with_stage stage o = record o { stage = stage }
 
 -- nothing is judged of a share of which nothing was read
 abbrev pub IsUnjudged : Judged → Type 0
@@ -32,6 +29,7 @@ IsUnjudged j = (cap : VerifyCapValue) → IsJudgedBy cap [] [] (Beginning Start)
 pub record IsNew (keeps : Bool) (o : Offer) : Type 0 where
   pub front : o.front.items ≡ []
   pub back : o.back.items ≡ []
+  pub wanted : o.wanted.items ≡ []
   pub judged : IsUnjudged o.judged
   pub pieces : IsEmpty keeps o.pieces
   pub stage : o.stage ≡ Waiting
@@ -65,3 +63,15 @@ pub record IsEndedBy (verdict : Verdict) (old new : Offer) : Type 0 where
   pub keeps : new.pieces.keeps ≡ old.pieces.keeps
   pub pieces : verdict ≡ verdicts.Good → new.pieces ≡ old.pieces
   pub stage : new.stage ≡ Ended verdict
+
+-- the same offer, with one more piece that is asked for, by the request at this position
+pub record IsWanting (position : ℕ) (old new : Offer) : Type 0 where
+  pub server : new.server ≡ old.server
+  pub share : new.share ≡ old.share
+  pub front : new.front ≡ old.front
+  pub back : new.back ≡ old.back
+  pub wanted : new.wanted.items
+      ≡ old.wanted.items ++ record { position = position; came = Waits } ∷ []
+  pub judged : new.judged ≡ old.judged
+  pub pieces : new.pieces ≡ old.pieces
+  pub stage : new.stage ≡ old.stage

@@ -17,6 +17,7 @@ use crate::good::good_shares_of;
 use crate::report::report_of;
 use crate::state::{Machine, is_running};
 use crate::status::{CheckStatus, Report};
+use crate::wanted::MOST_PIECES;
 use cap_text::VerifyCap;
 use request_record::operation::Operation;
 use std::alloc::{AllocError, Global};
@@ -60,7 +61,25 @@ impl Check {
         ensures begins { IfOk result (Begins cap servers.now session now) }
         ensures keeps { IfOk result (λ check. check.keeps ≡ false) }
     {
-        Check::begin(alloc, cap, servers, session, now, false)
+        Check::begin(alloc, cap, servers, session, now, false, 1)
+    }
+
+    /// As `start`, and it asks for so many pieces of a share at once: `MOST_PIECES` at most, one
+    /// at least. Their bytes are kept until their turn comes.
+    pub fn start_ahead(
+        alloc: Global,
+        cap: VerifyCap,
+        servers: &[NodeId],
+        session: u64,
+        now: u64,
+        pieces: usize,
+    ) -> Result<Check, AllocError>
+        requires distinct { IsDistinct nat_eq servers.now }
+        ensures begins { IfOk result (Begins cap servers.now session now) }
+        ensures keeps { IfOk result (λ check. check.keeps ≡ false) }
+    {
+        let ahead = pieces.min(MOST_PIECES);
+        Check::begin(alloc, cap, servers, session, now, false, ahead)
     }
 
     /// As `start`, and it keeps the bytes of the shares that it reads, but for those of a share
@@ -76,10 +95,11 @@ impl Check {
         ensures begins { IfOk result (Begins cap servers.now session now) }
         ensures keeps { IfOk result (λ check. check.keeps ≡ true) }
     {
-        Check::begin(alloc, cap, servers, session, now, true)
+        Check::begin(alloc, cap, servers, session, now, true, 1)
     }
 
-    // As `start`, of a check that keeps the bytes of shares or not.
+    // As `start`, of a check that keeps the bytes of shares or not, and asks for so many pieces of
+    // a share at once.
     fn begin(
         alloc: Global,
         cap: VerifyCap,
@@ -87,12 +107,13 @@ impl Check {
         session: u64,
         now: u64,
         keeps: bool,
+        ahead: usize,
     ) -> Result<Check, AllocError>
         requires distinct { IsDistinct nat_eq servers.now }
         ensures begins { IfOk result (Begins cap servers.now session now) }
         ensures keeps { IfOk result (λ check. check.keeps ≡ keeps) }
     {
-        let machine = Machine::begin(alloc, cap, servers, session, now, keeps)?;
+        let machine = Machine::begin(alloc, cap, servers, session, now, keeps, ahead)?;
         Ok(Check {
             servers: Vec::from_slice(alloc, servers)?,
             machine,

@@ -1,36 +1,28 @@
-//! How a check goes on to the next shares, and how the reading of a share ends.
+//! How a check goes on to the next shares.
 
 ghost use Rattle.std.specs.Prelude.{◌≡◌, ◌≢◌, ◌<◌, ◌≤◌, ◌+◌, []};
-ghost use Rattle.std.specs.Prelude.{Some, IfOk, IsTrue, OnOk, false, length, slice_get};
+ghost use Rattle.std.specs.Prelude.{IfOk, IsTrue, OnOk, Some, false, length, slice_get, slice_set};
 ghost use Rattle.request_record.specs.Record.{outstanding_count};
-ghost use Rattle.checker.specs.Book.{AsksMore, HasBook, HasEnded, IsKept, IsSafe};
+ghost use Rattle.checker.specs.Book.{AreAwaited, AsksMore, HasBook, IsKept, IsSafe, IsWithOffers};
 ghost use Rattle.checker.specs.declared.offers.Offer.{Offer};
+ghost use Rattle.checker.specs.declared.offers.Stage.TheVariants.{Read};
 ghost use Rattle.checker.specs.declared.status.CheckStatus.TheVariants.{Failed};
 
-use crate::offers::end;
+use crate::offers::Stage;
 use crate::state::Machine;
 use crate::status::CheckStatus;
-use share_reading::{ShareReading, Verdict};
+use share_reading::ShareReading;
 use std::alloc::AllocError;
 
 /// How many requests may wait at once beside one for each server.
 const MORE_AT_ONCE: usize = 64;
 
 impl Machine {
-    /// This is the verdict on a share.
-    pub(crate) fn end(&mut self, offer: usize, verdict: Verdict)
-        requires { offer < length self.old.offers.items }
-        ensures { (o : Offer) → slice_get self.old.offers.items offer ≡ Some o
-            → HasEnded self.old offer verdict o self.new }
-    {
-        end(&mut self.offers, offer, verdict);
-        self.reading = self.reading.saturating_sub(1);
-    }
-
     /// Begins to read more shares, as many as may be read at once, and tells where it stands.
     pub(crate) fn settle(&mut self) -> Result<CheckStatus, AllocError>
         requires safe { IsSafe self.old }
         requires book { HasBook self.old [] }
+        requires awaited { AreAwaited self.old.offers.items }
         ensures kept { IfOk result (IsKept self.new) }
         ensures asks { AsksMore self.old self.new }
         ensures stands { IfOk result (λ status. status ≢ Failed) }
@@ -61,14 +53,31 @@ impl Machine {
         requires book { HasBook self.old [] }
         requires more { self.old.begun < length self.old.offers.items }
         ensures book { OnOk result (HasBook self.new []) }
+        ensures awaited { AreAwaited self.old.offers.items
+            → OnOk result (AreAwaited self.new.offers.items) }
         ensures asks { AsksMore self.old self.new }
         ensures safe { IsSafe self.new }
         ensures less { OnOk result ((self.new.begun ≡ self.old.begun + 1)
             × (length self.new.offers.items ≡ length self.old.offers.items)) }
     {
-        self.ask(self.begun, &ShareReading::start())?;
+        let reading = ShareReading::start();
+        let offer = self.begin_reading(&reading);
+        self.ask_on(offer, &reading)
+    }
+
+    // The next share is read from now on, and nothing is asked of it yet. Gives its position.
+    fn begin_reading(&mut self, reading: &ShareReading) -> usize
+        requires more { self.old.begun < length self.old.offers.items }
+        ensures position { result ≡ self.old.begun }
+        ensures begins { (o : Offer)
+            → slice_get self.old.offers.items self.old.begun ≡ Some o
+            → IsWithOffers self.old self.new (slice_set self.old.offers.items self.old.begun
+            (record o { stage = Read reading.now })) (self.old.begun + 1) }
+    {
+        let offer = self.begun;
+        self.offers[offer].stage = Stage::Read(*reading);
         self.begun += 1;
         self.reading = self.reading.saturating_add(1);
-        Ok(())
+        offer
     }
 }

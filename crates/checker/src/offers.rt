@@ -1,17 +1,16 @@
 //! The shares that servers offered, and how far each is read.
 
-ghost use Rattle.std.specs.Prelude.{◌≡◌, ◌<◌, ◌∷◌, ◌++◌, [], Some, slice_get, slice_set, vec_len};
-ghost use Rattle.std.specs.Prelude.{IfNone, IfOk, IfSome, OnOk, if◌then◌else◌};
+ghost use Rattle.std.specs.Prelude.{◌≡◌, ◌∷◌, ◌++◌, [], IfOk, OnOk, if◌then◌else◌};
 ghost use Rattle.share_reading.specs.Judged.{IsUnderway};
 ghost use Rattle.share_reading.specs.Reading.{is_behind};
-ghost use Rattle.share_reading.specs.declared.reading.ShareReading.{ShareReading};
-ghost use Rattle.checker.specs.Offers.{IsEndedBy, IsNew, IsTaken, with_stage};
-ghost use Rattle.checker.specs.declared.offers.Offer.{Offer};
+ghost use Rattle.checker.specs.Offers.{IsEndedBy, IsNew, IsTaken, IsWanting};
 
 use crate::pieces::Pieces;
+use crate::wanted::{Came, Wanted};
 use cap_text::VerifyCap;
 use share_reading::{Found, Judged, ShareReading, Verdict};
 use std::alloc::{AllocError, Global};
+use std::collections::VecDeque;
 use wire::message::NodeId;
 
 /// How far the reading of a share at a server is.
@@ -19,8 +18,8 @@ use wire::message::NodeId;
 pub(crate) enum Stage {
     /// It is not begun.
     Waiting,
-    /// It is read so far, and the request at this position asks for its next bytes.
-    Read(ShareReading, usize),
+    /// It is read so far, and pieces of it are asked for.
+    Read(ShareReading),
     /// Its verdict is found.
     Ended(Verdict),
 }
@@ -36,6 +35,8 @@ pub(crate) struct Offer {
     pub(crate) front: Vec<usize>,
     /// The positions of those that brought its extension block's length and its extension block.
     pub(crate) back: Vec<usize>,
+    /// The pieces that are asked for, in order, from the one on that is read next.
+    pub(crate) wanted: VecDeque<Wanted>,
     /// What is judged of it.
     pub(crate) judged: Judged,
     /// Its bytes, where the check keeps them.
@@ -56,6 +57,7 @@ impl Offer {
             share,
             front: Vec::new(alloc),
             back: Vec::new(alloc),
+            wanted: VecDeque::new(alloc),
             judged: Judged::begin(alloc),
             pieces: Pieces::new(alloc, keeps),
             stage: Stage::Waiting,
@@ -72,9 +74,10 @@ impl Offer {
         bytes: &[u8],
     ) -> Result<Found, AllocError>
         requires underway { IsUnderway cap.now reading.now self.old.judged }
-        ensures { IfOk result (λ found. IsTaken cap.now reading.now position bytes.now found
+        ensures taken { IfOk result (λ found. IsTaken cap.now reading.now position bytes.now found
             self.old
             self.new) }
+        ensures wanted { self.new.wanted ≡ self.old.wanted }
     {
         let found = self
             .judged
@@ -101,8 +104,9 @@ impl Offer {
         Ok(())
     }
 
-    // This is the verdict on it.
-    fn end(&mut self, verdict: Verdict)
+    /// This is the verdict on it. What was judged of it is let go, and the bytes of one that is not
+    /// good.
+    pub(crate) fn end(&mut self, verdict: Verdict)
         ensures { IsEndedBy verdict self.old self.new }
     {
         let alloc = *self.front.allocator();
@@ -112,42 +116,15 @@ impl Offer {
         }
         self.stage = Stage::Ended(verdict);
     }
-}
 
-/// How far a share is read whose next bytes the request at this position asks for.
-pub(crate) fn reading_at(stage: &Stage, position: usize) -> Option<ShareReading>
-    ensures some { IfSome result (λ reading. stage.now ≡ Stage.Read reading position) }
-    ensures none { IfNone result ((reading : ShareReading) → stage.now ≡ Stage.Read reading position
-        → ⊥) }
-{
-    match stage {
-        Stage::Read(reading, asked) => {
-            if *asked == position {
-                Some(*reading)
-            } else {
-                None
-            }
-        }
-        Stage::Waiting | Stage::Ended(_) => None,
+    /// One more piece of it is asked for, by the request at this position.
+    pub(crate) fn want(&mut self, position: usize) -> Result<(), AllocError>
+        ensures { OnOk result (IsWanting position self.old self.new) }
+    {
+        self.wanted.push_back(Wanted {
+            position,
+            came: Came::Waits,
+        })?;
+        Ok(())
     }
-}
-
-/// The request at this position asks for the next bytes of a share.
-pub(crate) fn wait(offers: &mut Vec<Offer>, offer: usize, reading: &ShareReading, position: usize)
-    requires { offer < vec_len offers.old }
-    ensures { (o : Offer) → slice_get offers.old.items offer ≡ Some o → offers.new.items
-        ≡ slice_set offers.old.items offer (with_stage (Stage.Read reading.now position) o) }
-{
-    offers[offer].stage = Stage::Read(*reading, position);
-}
-
-/// This is the verdict on a share. What was judged of it is let go, and the bytes of one that is
-/// not good.
-pub(crate) fn end(offers: &mut Vec<Offer>, offer: usize, verdict: Verdict)
-    requires { offer < vec_len offers.old }
-    ensures { (o : Offer) → slice_get offers.old.items offer ≡ Some o
-        → (n : Offer) × (offers.new.items ≡ slice_set offers.old.items offer n)
-        × IsEndedBy verdict o n }
-{
-    offers[offer].end(verdict);
 }

@@ -65,7 +65,7 @@ fn verdict_of(offer: &Offer) -> ShareVerdict
 {
     let verdict = match offer.stage {
         Stage::Ended(verdict) => verdict,
-        Stage::Waiting | Stage::Read(_, _) => unreachable!(),
+        Stage::Waiting | Stage::Read(_) => unreachable!(),
     };
     ShareVerdict {
         server: offer.server,

@@ -41,6 +41,8 @@ pub(crate) struct Machine {
     pub(crate) reading: usize,
     /// How many may be read at once.
     pub(crate) room: usize,
+    /// How many pieces of a share are asked for at once, at most; one is at least.
+    pub(crate) ahead: usize,
 }
 
 impl Machine {
@@ -52,6 +54,7 @@ impl Machine {
         session: u64,
         now: u64,
         keeps: bool,
+        ahead: usize,
     ) -> Result<Machine, AllocError>
         ensures { IfOk result (IsFresh cap servers.now session now keeps) }
     {
@@ -66,6 +69,7 @@ impl Machine {
             begun: 0,
             reading: 0,
             room: 1,
+            ahead,
         })
     }
 

@@ -1,14 +1,19 @@
 //! What a message, a tick and a send do to a check.
 
 ghost use Rattle.std.specs.Prelude.{◌≡◌, ◌≢◌, ◌<◌, ◌≤◌, ◌∷◌, List, ℕ, []};
-ghost use Rattle.std.specs.Prelude.{Some, IfOk, IsOk, OnErr, OnOk};
-ghost use Rattle.std.specs.Prelude.{filter, length, map, nat_lt, option_map, slice_get};
+ghost use Rattle.std.specs.Prelude.{Some, IfNone, IfOk, IfSome, IsOk, OnErr, OnOk};
+ghost use Rattle.std.specs.Prelude.{filter, length, map, max, nat_lt, option_map, slice_get};
 ghost use Rattle.wire.specs.Held.{AreRising};
+ghost use Rattle.wire.specs.Limits.{most_data};
 ghost use Rattle.wire.specs.declared.message.HeldShare.{HeldShare};
 ghost use Rattle.request_record.specs.Asking.{after_message};
-ghost use Rattle.checker.specs.Book.{AreLost, ArePushed, AsksMore, AsksNothing, AwaitsAt};
-ghost use Rattle.checker.specs.Book.{HasAsked, HasBook, IsBrought, IsKept, IsSafe, IsSettledAt};
+ghost use Rattle.request_record.specs.Record.{asked_more};
+ghost use Rattle.request_record.specs.declared.requests.Request.{Request};
+ghost use Rattle.checker.specs.Book.{AreAwaited, AreAwaitedBut, AreLost, ArePushed, AsksMore};
+ghost use Rattle.checker.specs.Book.{AsksNothing, HasAsked, HasBook, IsAsking, IsAwaitingAt};
+ghost use Rattle.checker.specs.Book.{IsBrought, IsKept, IsNextSpan, IsSafe, IsSettledAt};
 ghost use Rattle.checker.specs.Book.{IsTakenOnce, state_of};
+ghost use Rattle.checker.specs.Hearing.{Hears, IsHeardIn};
 ghost use Rattle.checker.specs.Moves.{Advances, FailsAt, Stops, TicksOn};
 ghost use Rattle.checker.specs.Sending.{Takes};
 ghost use Rattle.checker.specs.Shares.{offered_in};
@@ -16,15 +21,18 @@ ghost use Rattle.checker.specs.declared.offers.Offer.{Offer};
 ghost use Rattle.checker.specs.declared.status.CheckStatus.{CheckStatus};
 ghost use Rattle.checker.specs.declared.status.CheckStatus.TheVariants.{Failed, Running};
 
-use crate::offers::{Offer, reading_at, wait};
+use crate::offers::Offer;
 use crate::state::{Machine, Told, is_running};
 use crate::status::CheckStatus;
+use crate::wanted::{Span, span_ahead};
+use request_record::ledger::Ledger;
 use request_record::requests::{Asked, Outcome};
-use share_reading::{Found, ShareReading, Verdict};
+use share_reading::ShareReading;
 use std::alloc::{AllocError, Global};
-use wire::message::{Body, HeldShare, Message, NodeId, ReadLength};
+use wire::message::{Body, HeldShare, MAX_PIECE, Message, NodeId, ReadLength};
 
-/// How many bytes the shares that are read at once may need to be judged.
+/// How many bytes the shares that are read at once may need to be judged, with what waits for its
+/// turn.
 const JUDGED_AT_ONCE: u64 = 64 << 20;
 
 impl Machine {
@@ -101,6 +109,8 @@ impl Machine {
         requires lost { AreLost self.old.requests.entries positions.now }
         requires safe { IsSafe self.old }
         ensures book { OnOk result (HasBook self.new []) }
+        ensures awaited { AreAwaited self.old.offers.items
+            → OnOk result (AreAwaited self.new.offers.items) }
         ensures asks { AsksMore self.old self.new }
         ensures safe { IsSafe self.new }
     {
@@ -120,6 +130,8 @@ impl Machine {
         ensures book { (todo : List ℕ) → HasBook self.old (position ∷ todo)
             → IsTakenOnce self.old.requests.entries position todo
             → OnOk result (HasBook self.new todo) }
+        ensures awaited { AreAwaited self.old.offers.items
+            → OnOk result (AreAwaited self.new.offers.items) }
         ensures asks { AsksMore self.old self.new }
         ensures safe { IsSafe self.new }
     {
@@ -127,8 +139,8 @@ impl Machine {
             return self.take_holdings(position);
         }
         let offer = self.owners[position - self.told.len()];
-        match reading_at(&self.offers[offer].stage, position) {
-            Some(reading) => self.take_answer(offer, &reading, position, bytes),
+        match self.offers[offer].piece_at(position) {
+            Some((reading, piece)) => self.take_answer(offer, &reading, piece, bytes),
             None => Ok(()),
         }
     }
@@ -142,6 +154,8 @@ impl Machine {
         ensures book { (todo : List ℕ) → HasBook self.old (position ∷ todo)
             → IsTakenOnce self.old.requests.entries position todo
             → OnOk result (HasBook self.new todo) }
+        ensures awaited { AreAwaited self.old.offers.items
+            → OnOk result (AreAwaited self.new.offers.items) }
         ensures same { AsksNothing self.old self.new }
     {
         let first = self.offers.len();
@@ -162,73 +176,141 @@ impl Machine {
         Ok(())
     }
 
-    // Takes what became of the request for the next bytes of a share.
+    // Takes what came for a piece of a share, and asks for more of it.
     fn take_answer(
         &mut self,
         offer: usize,
         reading: &ShareReading,
-        position: usize,
+        piece: usize,
         bytes: Option<Vec<u8>>,
     ) -> Result<(), AllocError>
         requires safe { IsSafe self.old }
-        requires behind { length self.old.told.items ≤ position }
-        requires settled { IsSettledAt self.old.requests.entries position }
-        requires brought { IsBrought self.old.requests.entries position
-            (option_map (λ v. v.items) bytes) }
-        requires waits { AwaitsAt self.old offer position reading.now }
-        requires book { (todo : List ℕ) × HasBook self.old (position ∷ todo) }
-        ensures book { (todo : List ℕ) → HasBook self.old (position ∷ todo)
+        requires waits { (position : ℕ) × (todo : List ℕ) × IsAwaitingAt self.old offer reading.now
+            piece position (option_map (λ v. v.items) bytes) todo }
+        ensures book { (position : ℕ) (todo : List ℕ) → IsAwaitingAt self.old offer reading.now
+            piece position (option_map (λ v. v.items) bytes) todo
             → OnOk result (HasBook self.new todo) }
+        ensures awaited { AreAwaited self.old.offers.items
+            → OnOk result (AreAwaited self.new.offers.items) }
         ensures asks { AsksMore self.old self.new }
         ensures safe { IsSafe self.new }
     {
-        let Some(bytes) = bytes else {
-            self.end(offer, Verdict::Lost);
-            return Ok(());
-        };
-        match self.offers[offer].take(&self.cap, reading, position, &bytes)? {
-            Found::Next(next) => {
-                self.room = room_after(self.room, &next);
-                self.ask(offer, &next)
+        match self.hear_piece(offer, reading, piece, bytes)? {
+            Some(next) => self.ask_on(offer, &next),
+            None => Ok(()),
+        }
+    }
+
+    // Takes what came for a piece of a share: tells how far it is read then, or `None` where its
+    // verdict is found.
+    fn hear_piece(
+        &mut self,
+        offer: usize,
+        reading: &ShareReading,
+        piece: usize,
+        bytes: Option<Vec<u8>>,
+    ) -> Result<Option<ShareReading>, AllocError>
+        requires there { (o : Offer) × (slice_get self.old.offers.items offer ≡ Some o)
+            × ((entries : List Request) × (todo : List ℕ) × Hears self.old.cap entries todo
+            o reading.now piece (option_map (λ v. v.items) bytes)) }
+        ensures heard { IfOk result (λ next. (o : Offer)
+            → slice_get self.old.offers.items offer ≡ Some o
+            → IsHeardIn self.old offer reading.now piece (option_map (λ v. v.items) bytes)
+            o self.new next) }
+        ensures same { AsksNothing self.old self.new }
+    {
+        match self.offers[offer].hear(&self.cap, reading, piece, bytes)? {
+            Some(next) => {
+                self.room = room_after(self.room, self.ahead, &next);
+                Ok(Some(next))
             }
-            Found::Whole(verdict) => {
-                self.end(offer, verdict);
-                Ok(())
-            }
-            Found::Stopped(check) => {
-                self.end(offer, Verdict::Corrupt(check));
-                Ok(())
+            None => {
+                self.reading = self.reading.saturating_sub(1);
+                Ok(None)
             }
         }
     }
 
-    /// Asks for the next bytes of a share.
-    pub(crate) fn ask(&mut self, offer: usize, reading: &ShareReading) -> Result<(), AllocError>
-        requires { offer < length self.old.offers.items }
+    /// Asks for the next pieces of a share: as many as may be asked for at once, and one at least.
+    pub(crate) fn ask_on(&mut self, offer: usize, reading: &ShareReading) -> Result<(), AllocError>
+        requires safe { IsSafe self.old }
+        requires there { (o : Offer) × IsAsking self.old offer reading.now o }
+        requires book { (todo : List ℕ) × HasBook self.old todo }
+        ensures book { (todo : List ℕ) → HasBook self.old todo
+            → OnOk result (HasBook self.new todo) }
+        ensures awaited { AreAwaitedBut offer self.old.offers.items
+            → OnOk result (AreAwaited self.new.offers.items) }
+        ensures asks { AsksMore self.old self.new }
+        ensures safe { IsSafe self.new }
+        ensures same { OnOk result ((self.new.begun ≡ self.old.begun)
+            × (length self.new.offers.items ≡ length self.old.offers.items)) }
+    {
+        while let Some(span) = self.next_span(offer, reading) {
+            self.ask(offer, &span)?;
+        }
+        Ok(())
+    }
+
+    // The piece to ask for next of a share that is read so far, where one more is asked for: where
+    // none is, or fewer are than may be at once.
+    fn next_span(&self, offer: usize, reading: &ShareReading) -> Option<Span>
+        requires { offer < length self.now.offers.items }
+        ensures span { (o : Offer) → slice_get self.now.offers.items offer ≡ Some o
+            → IfSome result (IsNextSpan reading.now o) }
+        ensures range { IfSome result (λ s. (0 < s.length) × (s.length ≤ most_data)) }
+        ensures fewer { (o : Offer) → slice_get self.now.offers.items offer ≡ Some o
+            → IfSome result (λ _. length o.wanted.items < max 1 self.now.ahead) }
+        ensures none { (o : Offer) → slice_get self.now.offers.items offer ≡ Some o
+            → IfNone result (o.wanted.items ≢ []) }
+    {
+        let wanted = &self.offers[offer].wanted;
+        let count = wanted.len();
+        let most = self.ahead.max(1);
+        if most <= count {
+            return None;
+        }
+        span_ahead(reading, count)
+    }
+
+    // Asks for a piece of a share.
+    fn ask(&mut self, offer: usize, span: &Span) -> Result<(), AllocError>
+        requires there { offer < length self.old.offers.items }
+        requires range { (0 < span.now.length) × (span.now.length ≤ most_data) }
         ensures ok { OnOk result ((o : Offer) → slice_get self.old.offers.items offer ≡ Some o
-            → HasAsked self.old offer reading.now o self.new) }
+            → HasAsked self.old offer span.now o self.new) }
         ensures err { OnErr result (AsksNothing self.old self.new) }
     {
         let position = self.requests.len();
         let server = self.offers[offer].server;
         let share = self.offers[offer].share;
-        let length = ReadLength::new(reading.next_length()).unwrap();
         self.owners.push(offer)?;
-        self.requests.ask(server, Asked::Reading(share, reading.next_offset(), length))?;
-        wait(&mut self.offers, offer, reading, position);
-        Ok(())
+        self.offers[offer].want(position)?;
+        ask_span(&mut self.requests, server, share, span)
     }
 }
 
-// How many shares may be read at once, where the reading of one goes on so: one at least, and as
-// many as can be judged at once, once an extension block was read, which is that of each.
-fn room_after(room: usize, next: &ShareReading) -> usize {
-    match next {
-        ShareReading::Beginning(_) => room,
-        ShareReading::Remaining(rest) => (JUDGED_AT_ONCE / rest.judging_size().max(1)).max(
-            1,
-        ) as usize,
-    }
+// Asks a server for these bytes of a share.
+fn ask_span(requests: &mut Ledger, server: NodeId, share: u8, span: &Span) -> Result<(), AllocError>
+    requires range { (0 < span.now.length) × (span.now.length ≤ most_data) }
+    ensures ok { OnOk result (requests.new
+        ≡ asked_more server (Asked.Reading share span.now.offset span.now.length) requests.old) }
+    ensures err { OnErr result (requests.new ≡ requests.old) }
+{
+    let length = ReadLength::new(span.length).unwrap();
+    requests.ask(server, Asked::Reading(share, span.offset, length))
+}
+
+// How many shares may be read at once, where the reading of one goes on so, and so many pieces of
+// each may be kept until their turn: one at least, and as many as can be judged at once, once an
+// extension block was read, which is that of each.
+fn room_after(room: usize, ahead: usize, next: &ShareReading) -> usize {
+    let ShareReading::Remaining(rest) = next else {
+        return room;
+    };
+    let behind = (ahead as u64).saturating_sub(1);
+    let kept = behind.saturating_mul(MAX_PIECE as u64);
+    let size = rest.judging_size().saturating_add(kept);
+    (JUDGED_AT_ONCE / size.max(1)).max(1) as usize
 }
 
 // The shares that an answer lists.

@@ -16,14 +16,14 @@ use wire::message::{Body, HeldList, HeldShare, Message, NodeId, ReadData};
 const SIZE: usize = 131_074;
 
 // The servers.
-const NODES: [NodeId; 10] = [0, 1, 2, 3, 4, 5, 6, 7, 8, 9];
+pub(crate) const NODES: [NodeId; 10] = [0, 1, 2, 3, 4, 5, 6, 7, 8, 9];
 
 // The share with which something is wrong.
-const WRONG: usize = 1;
+pub(crate) const WRONG: usize = 1;
 
 // What is wrong.
 #[derive(Clone, Copy)]
-enum Wrong {
+pub(crate) enum Wrong {
     Nothing,
     // The servers from this one on hold nothing.
     Gone(usize),
@@ -79,15 +79,20 @@ struct Ending {
 }
 
 fn encoded(alloc: Global) -> Option<Encoded> {
-    let mut file = Vec::with_capacity(alloc, SIZE).ok()?;
-    for i in 0..SIZE {
-        file.push((i % 251) as u8).ok()?;
-    }
     let params = Params::new(3, 7, 10, 4_096).ok()?;
-    encode_all(alloc, &file, &[], &params).ok()
+    encoded_by(alloc, SIZE, &params)
 }
 
-fn verify_cap(encoded: &Encoded) -> Option<VerifyCap> {
+// The shares of a file of so many bytes.
+pub(crate) fn encoded_by(alloc: Global, size: usize, params: &Params) -> Option<Encoded> {
+    let mut file = Vec::with_capacity(alloc, size).ok()?;
+    for i in 0..size {
+        file.push((i % 251) as u8).ok()?;
+    }
+    encode_all(alloc, &file, &[], params).ok()
+}
+
+pub(crate) fn verify_cap(encoded: &Encoded) -> Option<VerifyCap> {
     match encoded.cap {
         Cap::Chk(cap) => Some(cap.to_verify()),
         _ => None,
@@ -153,7 +158,7 @@ fn number_in(bytes: &[u8]) -> Option<u64> {
 }
 
 // What a server answers, if it does.
-fn answer(
+pub(crate) fn answer(
     alloc: Global,
     encoded: &Encoded,
     wrong: Wrong,
@@ -469,7 +474,7 @@ fn answer_all(alloc: Global, encoded: &Encoded, check: &mut Check) -> Option<()>
 }
 
 // All requests that a check has to send.
-fn taken(alloc: Global, check: &mut Check) -> Option<Vec<(NodeId, Message)>> {
+pub(crate) fn taken(alloc: Global, check: &mut Check) -> Option<Vec<(NodeId, Message)>> {
     let mut sent = Vec::new(alloc);
     for _ in 0..1_000 {
         match check.take_outgoing(alloc).ok()? {

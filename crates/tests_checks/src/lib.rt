@@ -3,6 +3,7 @@
 #![tactic(auto)]
 
 #[cfg(test)]
+mod ahead_tests;
 mod checker_tests;
 #[cfg(test)]
 mod judging_tests;

@@ -1,53 +1,75 @@
-use Rattle.std.proofs.Common.{[], ◌+◌, ◌∙◌, length, ap, subst, arith}
+use Rattle.std.proofs.Common.{◌∙◌, [], length, ap, subst, sym}
 use Rattle.std.proofs.lemmas.List.{length-set}
 use Rattle.lemmas.proofs.Positions.{get_of}
-use Rattle.share_reading.specs.declared.opening.Opening.TheVariants.{Start}
-use Rattle.share_reading.specs.declared.reading.ShareReading.TheVariants.{Beginning}
+use Rattle.lemmas.proofs.Results.{on_ok_then}
 use Rattle.share_reading.specs.declared.reading.ShareReading.{ShareReading}
-use Rattle.checker.specs.Book.{HasAsked}
-use Rattle.checker.proofs.AnswerMoves.{safe_first}
-use Rattle.checker.proofs.MachineMoves.{asks_asked, asks_nothing, book_begun, kinds_asked_now, listed_at, once_asked_now, shares_asked_now, unread_at}
+use Rattle.checker.specs.Book.{AreAwaitedBut, IsAsking}
+use Rattle.checker.specs.declared.offers.Offer.{Offer}
+use Rattle.checker.specs.declared.offers.Stage.TheVariants.{Read}
+use Rattle.checker.proofs.AskingMoves.{asks_after, begins_asking, begins_awaited, begins_book, safe_with}
+use Rattle.checker.proofs.MachineMoves.{unread_at}
 use Rattle.checker.proofs.state.Machine.begin_next.Goals as goal
 
-pub overflow_add-self : goal.overflow_add-self
-overflow_add-self c =
+pub ask_on-requires-clause-safe : goal.ask_on-requires-clause-safe
+ask_on-requires-clause-safe c =
     let m = c.args.self.now in
     let o = get_of m.offers.items m.begun c.requires.more in
-    let a = c.in_ok-ask.ensures.ok o.0 o.1 in
-    omega (arith, a.begun, c.requires.more, m.offers.small)
+    let w = c.begin_reading-offer.ensures.begins o.0 o.1 in
+    safe_with m c.begin_reading-offer.new.self _ _ w c.requires.safe
+
+pub ask_on-requires-clause-there : goal.ask_on-requires-clause-there
+ask_on-requires-clause-there c =
+    let m = c.args.self.now in
+    let mid = c.begin_reading-offer.new.self in
+    let o = get_of m.offers.items m.begun c.requires.more in
+    let w = c.begin_reading-offer.ensures.begins o.0 o.1 in
+    let r = c.start-reading.result in
+    let n : Offer = record o.0 { stage = Read r } in
+    let is = ap (λ (x : ShareReading). record o.0 { stage = Read x }) c.start-reading.ensures in (
+      n,
+      subst (λ k. IsAsking mid k r n) (sym c.begin_reading-offer.ensures.position)
+          (subst (λ (x : ShareReading). IsAsking mid m.begun x n) (sym c.start-reading.ensures) (begins_asking m mid o.0 n c.requires.book o.1 is w)),
+    )
+
+pub ask_on-requires-clause-book : goal.ask_on-requires-clause-book
+ask_on-requires-clause-book c =
+    let m = c.args.self.now in
+    let mid = c.begin_reading-offer.new.self in
+    let o = get_of m.offers.items m.begun c.requires.more in
+    let w = c.begin_reading-offer.ensures.begins o.0 o.1 in
+    let is = ap (λ (x : ShareReading). record o.0 { stage = Read x }) c.start-reading.ensures in
+    ([], begins_book m mid o.0 (record o.0 { stage = Read c.start-reading.result }) c.requires.book o.1 is w)
 
 pub returns-clause-book : goal.returns-clause-book
 returns-clause-book c =
     let m = c.args.self.now in
+    let mid = c.begin_reading-offer.new.self in
     let o = get_of m.offers.items m.begun c.requires.more in
-    let a = subst (λ (r : ShareReading). HasAsked m m.begun r o.0 c.ask.new.self) c.start.ensures (c.in_ok-ask.ensures.ok o.0 o.1) in
-    book_begun m c.ask.new.self o.0 c.requires.book o.1 a
+    let w = c.begin_reading-offer.ensures.begins o.0 o.1 in
+    let is = ap (λ (x : ShareReading). record o.0 { stage = Read x }) c.start-reading.ensures in
+    c.ask_on.ensures.book [] (begins_book m mid o.0 (record o.0 { stage = Read c.start-reading.result }) c.requires.book o.1 is w)
+
+pub returns-clause-awaited : goal.returns-clause-awaited
+returns-clause-awaited c all =
+    let m = c.args.self.now in
+    let mid = c.begin_reading-offer.new.self in
+    let o = get_of m.offers.items m.begun c.requires.more in
+    let w = c.begin_reading-offer.ensures.begins o.0 o.1 in
+    let is = ap (λ (x : ShareReading). record o.0 { stage = Read x }) c.start-reading.ensures in
+    c.ask_on.ensures.awaited
+    (subst (λ k. AreAwaitedBut k mid.offers.items) (sym c.begin_reading-offer.ensures.position)
+    (begins_awaited m mid o.0 (record o.0 { stage = Read c.start-reading.result }) c.requires.book o.1 is w (unread_at m o.0 c.requires.book o.1).wanted all))
 
 pub returns-clause-asks : goal.returns-clause-asks
 returns-clause-asks c =
     let m = c.args.self.now in
     let o = get_of m.offers.items m.begun c.requires.more in
-    let more = asks_asked m c.ask.new.self m.begun c.start.result o.0 (c.in_ok-ask.ensures.ok o.0 o.1) in
-    record { cap = more.cap; keeps = more.keeps; asks = more.asks; reads = more.reads; requests = more.requests }
-
-pub returns-in_err-ask-clause-asks : goal.returns-in_err-ask-clause-asks
-returns-in_err-ask-clause-asks c = asks_nothing c.args.self.now c.ask.new.self c.in_err-ask.ensures.err
-
-pub returns-clause-safe : goal.returns-clause-safe
-returns-clause-safe c =
-    let m = c.args.self.now in
-    let o = get_of m.offers.items m.begun c.requires.more in
-    let a = subst (λ (r : ShareReading). HasAsked m m.begun r o.0 c.ask.new.self) c.start.ensures (c.in_ok-ask.ensures.ok o.0 o.1) in
-    let may = safe_first m.cap m.requests.entries o.0 (unread_at m o.0 c.requires.book o.1) (listed_at m [] c.requires.book m.begun o.0 o.1) in
-    record {
-      once = once_asked_now m c.ask.new.self m.begun (Beginning Start) o.0 c.requires.safe may a;
-      asked = kinds_asked_now m c.ask.new.self m.begun (Beginning Start) o.0 c.requires.safe may a;
-      reads = shares_asked_now m c.ask.new.self m.begun (Beginning Start) o.0 c.requires.safe may a;
-    }
+    let w = c.begin_reading-offer.ensures.begins o.0 o.1 in
+    asks_after m c.begin_reading-offer.new.self c.ask_on.new.self _ _ w c.ask_on.ensures.asks
 
 pub returns-clause-less : goal.returns-clause-less
 returns-clause-less c =
     let m = c.args.self.now in
     let o = get_of m.offers.items m.begun c.requires.more in
-    let a = c.in_ok-ask.ensures.ok o.0 o.1 in
-    (ap (λ n. n + 1) a.begun, ap length a.offers ∙ length-set m.offers.items m.begun _)
+    let w = c.begin_reading-offer.ensures.begins o.0 o.1 in
+    on_ok_then c.ask_on.result _ _ c.ask_on.ensures.same (λ s. (s.0 ∙ w.begun_is, s.1 ∙ ap length w.offers_are ∙ length-set m.offers.items m.begun _))

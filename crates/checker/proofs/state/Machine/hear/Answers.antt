@@ -76,6 +76,9 @@ settle-requires-clause-book c =
     (c.requires.kept.book (runs_well c.args.status (c.is_running.ensures.0 c.if-not-is_running.false))))
     (inl (λ h. contains_none c.in-Some.counted.position h))
 
+pub settle-requires-clause-awaited : goal.settle-requires-clause-awaited
+settle-requires-clause-awaited c = c.in_ok-take_in.ensures.awaited (c.requires.kept.awaited (runs_well c.args.status (c.is_running.ensures.0 c.if-not-is_running.false)))
+
 pub returns-clause-ok : goal.returns-clause-ok
 returns-clause-ok c =
     let m = c.args.self.now in

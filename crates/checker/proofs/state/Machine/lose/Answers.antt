@@ -26,7 +26,7 @@ loop-position-preserved c =
     (c.in_ok-take_in.ensures.book (drop (c.loop-position.position-index + 1) c.args.positions.now)
     (losing_first c.args.self.now c.loop-position.self c.args.positions.now c.loop-position.position-index c.loop-position.invariant c.loop-position-test.true)
     (inr (losing_settled c.args.self.now c.loop-position.self c.args.positions.now c.loop-position.position-index c.loop-position.invariant c.loop-position-test.true)))
-    c.in_ok-take_in.ensures.asks c.in_ok-take_in.ensures.safe
+    c.in_ok-take_in.ensures.awaited c.in_ok-take_in.ensures.asks c.in_ok-take_in.ensures.safe
 
 pub returns-in_err-take_in-clause-asks : goal.returns-in_err-take_in-clause-asks
 returns-in_err-take_in-clause-asks c = asks_trans c.args.self.now c.loop-position.self c.take_in.new.self c.loop-position.invariant.asks c.take_in.ensures.asks

@@ -34,6 +34,9 @@ lose-requires-clause-safe c =
     safe_goes m r c.in_ok-lost.lost.items (ticked_as c.args.now m.requests r c.in_ok-lost.lost.items c.in_ok-lost.ensures.lost c.in_ok-lost.ensures.ok).goes
     (once_as c.args.now m.requests r c.in_ok-lost.ensures.ok c.requires.safe.once) c.requires.safe
 
+pub settle-requires-clause-awaited : goal.settle-requires-clause-awaited
+settle-requires-clause-awaited c = c.in_ok-lose.ensures.awaited (c.requires.awaited running_not_failed)
+
 pub returns-clause-ok : goal.returns-clause-ok
 returns-clause-ok c =
     let m = c.args.self.now in

@@ -2,7 +2,7 @@ use Rattle.std.proofs.Common.{◌≡◌, ◌∙◌, Some, slice_get, refl, arith
 use Rattle.lemmas.proofs.Positions.{get_of}
 use Rattle.request_record.proofs.EntrySteps.{holdings_kept}
 use Rattle.request_record.specs.declared.requests.Request.{Request}
-use Rattle.checker.proofs.ToldMoves.{told_pushed}
+use Rattle.checker.proofs.ToldMoves.{awaited_pushed, told_pushed}
 use Rattle.checker.proofs.state.Machine.take_holdings.Goals as goal
 
 -- It asks which shares a server holds, so it is in memory.
@@ -23,5 +23,6 @@ returns c =
           told_pushed m.cap m.keeps es m.told.items m.owners.items m.offers.items c.push_offers.new.offers.items m.begun c.args.position todo q c.held_by-held.result.now c.total.result _
           b c.requires.safe.once c.requires.asks there c.in_ok-push_offers.ensures c.total.ensures.value c.held_by-held.ensures.held c.held_by-held.ensures.offered
           (c.len-first.ensures ∙ m.offers.ok.0) (omega (arith, c.len.ensures, c.len-first.ensures, m.offers.ok.0, c.push_offers.new.offers.ok.0)) once;
+      awaited = awaited_pushed m.keeps c.total.result q.server c.held_by-held.result.now m.offers.items c.push_offers.new.offers.items c.in_ok-push_offers.ensures;
       same = record { cap = refl; keeps = refl; requests = refl };
     }
