@@ -16,7 +16,9 @@ use checker::status::Report;
 use grid_faults::Fault;
 use grid_rules::becoming::fault_of_loop;
 use grid_rules::{missing_shares, read_cap, report_json, report_lines, report_status, turn_limit};
-use grid_servers::{FIRST_SESSION, FolderGrid, Purpose, asked_servers, open_servers};
+use grid_servers::{
+    FIRST_SESSION, FolderGrid, Purpose, asked_servers, open_servers, pieces_at_once,
+};
 use grid_shares::{Environment, Outcome};
 use grid_telling::{Counting, Progress, Verb, note_blame, note_servers};
 use grid_words::CheckWords;
@@ -164,7 +166,8 @@ where
     let mut nodes = open_servers(rt, words.grid, servers, Purpose::Reading, words.net)?;
     progress.begin(Verb::Check, Counting::Answered(share_bytes(&cap)), 0);
     let now = nodes.clock();
-    let check = Check::start(rt.alloc(), cap, servers, FIRST_SESSION, now)?;
+    let pieces = pieces_at_once(&nodes);
+    let check = Check::start_ahead(rt.alloc(), cap, servers, FIRST_SESSION, now, pieces)?;
     let check = carry(rt.alloc(), check, servers.len(), &mut nodes, progress)?;
     note_servers(rt, words.grid, servers, &nodes, Purpose::Reading, progress)?;
     // One without a report found no memory.

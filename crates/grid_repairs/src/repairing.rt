@@ -16,7 +16,9 @@ use checker::status::Report;
 use fetched_shares::{FetchedShares, SharePlace};
 use grid_faults::{Fault, Limit};
 use grid_rules::read_cap;
-use grid_servers::{FIRST_SESSION, FolderGrid, Purpose, asked_servers, open_servers};
+use grid_servers::{
+    FIRST_SESSION, FolderGrid, Purpose, asked_servers, open_servers, pieces_at_once,
+};
 use grid_shares::{Environment, Outcome, Placing, durability_of, place_shares};
 use grid_telling::{Counting, Progress, Verb, note_limits};
 use grid_words::RepairWords;
@@ -145,7 +147,8 @@ where
     let mut nodes = open_servers(rt, grid, servers, Purpose::Reading, placing.net)?;
     progress.begin(Verb::Repair, Counting::Answered(share_bytes(cap)), 0);
     let now = nodes.clock();
-    let check = Check::start(rt.alloc(), *cap, servers, FIRST_SESSION, now)?;
+    let pieces = pieces_at_once(&nodes);
+    let check = Check::start_ahead(rt.alloc(), *cap, servers, FIRST_SESSION, now, pieces)?;
     let check = carry(rt.alloc(), check, servers.len(), &mut nodes, progress)?;
     // One without a report found no memory.
     let report = check.report(rt.alloc())?.ok_or(Fault::OutOfMemory)?;

@@ -15,7 +15,7 @@ mod sites;
 
 pub use grid_marks::is_served_elsewhere;
 pub use locking::lock_folders;
-pub use opening::{FIRST_SESSION, FolderGrid, is_silent, open_servers};
+pub use opening::{FIRST_SESSION, FolderGrid, is_silent, open_servers, pieces_at_once};
 pub use secrets::{draw_secret, grid_secret, keep_secret, read_secret_file, secret_path};
 pub use servers::{
     asked_servers, folder_servers, is_new_grid, servers_without, some_servers, standing_servers,

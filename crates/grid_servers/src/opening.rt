@@ -1,7 +1,7 @@
 //! The servers of a grid as they are opened: each over its own folder, or elsewhere.
 
-ghost use Rattle.std.specs.Prelude.{◌≡◌, ◌<◌, ℕ, [], None, get_or, length, IfOk, IfSome, OnOk};
-ghost use Rattle.std.specs.Prelude.{IsTrue, Some};
+ghost use Rattle.std.specs.Prelude.{◌≡◌, ◌<◌, ◌≤◌, ℕ, [], None, get_or, length, IfOk, IfSome};
+ghost use Rattle.std.specs.Prelude.{IsTrue, OnOk, Some};
 ghost use Rattle.share_folders.specs.Names.{in_folder};
 ghost use Rattle.grid_faults.specs.Servers.{server_name};
 ghost use Rattle.grid_servers.specs.Opened.{AllStand, AreOpened, IsNumberOf, StandsAt};
@@ -279,4 +279,20 @@ where
         (_, Some(Some(remote))) => remote.is_away(),
         _ => true,
     }
+}
+
+/// How many pieces of a share may be on their way at once between a command and each of these
+/// servers: eight where one is served elsewhere, since a round trip to it takes its time, and one
+/// where all stand here.
+pub fn pieces_at_once<R>(grid: &FolderGrid<R>) -> usize
+where
+    R: Files + Net + Clock + AllocGlobal + Clone + Drop,
+    ensures { (1 ≤ result) × (result ≤ 8) }
+{
+    for remote in grid.remotes() {
+        if remote.is_some() {
+            return 8;
+        }
+    }
+    1
 }

