@@ -58,6 +58,7 @@ spelled_fault lines script faults.Output spells is = is
 spelled_fault lines script (faults.NoServers path) spells is = is
 spelled_fault lines script (faults.UnknownGrid path) spells is = is
 spelled_fault lines script (faults.NotEmpty path) spells is = is
+spelled_fault lines script (faults.InUse path) spells is = is
 
 -- a run of a script that lines spell is one of the lines
 pub spelled_refusal : (lines : List (List ℕ)) (script : Script) (r : Result Ending Fault)

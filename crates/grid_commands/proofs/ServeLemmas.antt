@@ -4,7 +4,7 @@ use Rattle.grid_servers.specs.Grids.{GridCalls}
 use Rattle.sources.specs.Opened.{Opened}
 use Rattle.grid_gets.specs.Files.{FileAct}
 use Rattle.grid_words.specs.declared.words.Request.{Request}
-use Rattle.grid_words.specs.declared.words.Request.TheVariants.{Init, Put, Get, Check, Repair, Scrub, Serve, World, Describe}
+use Rattle.grid_words.specs.declared.words.Request.TheVariants.{Init, Put, Get, GetFiles, Check, Repair, Scrub, Serve, World, Describe}
 use Rattle.grid_words.specs.declared.words.ServeWords.{ServeWords}
 use Rattle.grid_commands.specs.Commands.{EndsByItself, IsServedBy}
 use Rattle.grid_commands.specs.Exit.{IsServingEnd}
@@ -20,6 +20,7 @@ other_ends (Serve words) other = other words refl
 other_ends (Init words) other = tt
 other_ends (Put words) other = tt
 other_ends (Get words) other = tt
+other_ends (GetFiles words) other = tt
 other_ends (Check words) other = tt
 other_ends (Repair words) other = tt
 other_ends (Scrub words) other = tt

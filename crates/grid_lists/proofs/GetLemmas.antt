@@ -23,6 +23,10 @@ use Rattle.grid_words.specs.declared.catalogue_words.GetFilesWords.{GetFilesWord
 abbrev pub Acts : Type 0
 Acts = Option (List FileAct)
 
+-- what is chosen, by the names of these words
+pub chosen_as : (words : GetFilesWords) (name given : List ℕ) (names : List (Bor (List ℕ))) (b : Bool) → names ≡ words.names.items → given ≡ name → b ≡ chooses (map (λ (n : Bor (List ℕ)). n.now) names) given → b ≡ chooses (names_of words) name
+chosen_as words name given names b same is chosen = chosen ∙ ap (λ (ns : List (Bor (List ℕ))). chooses (map (λ (n : Bor (List ℕ)). n.now) ns) given) same ∙ ap (chooses (names_of words)) is
+
 module _ {S : Type 0} (calls : GridCalls S) (words : GetFilesWords) where
   -- ---- a file at a path
 
@@ -53,15 +57,14 @@ module _ {S : Type 0} (calls : GridCalls S) (words : GetFilesWords) where
   pub came_misnamed : (cap : Cap) (name : List ℕ) (old : Acts) → ((front rest : List ℕ) → ¬ (IsBelowBehind name front rest)) → CameOfChosen calls words cap name old old unread_status
   came_misnamed cap name old none = record { came = misnamed; chosen = refl; is = (none, refl); status_is = refl }
 
-  pub of_chosen : (cap : Cap) (name : List ℕ) (old new : Acts) (status : ℕ) → true ≡ chooses (names_of words) name → CameOfChosen calls words cap name old new status → CameOf calls words cap name old new (Some status)
-  of_chosen cap name old new status yes_chosen c = record { came = c.came; is = (c.chosen ∙ yes_chosen, c.is); chosen = sym c.chosen; status_is = c.status_is }
+  pub of_chosen : (cap : Cap) (name given : List ℕ) (old new : Acts) (status : ℕ) → given ≡ name → true ≡ chooses (names_of words) name → CameOfChosen calls words cap given old new status
+      → CameOf calls words cap name old new (Some status)
+  of_chosen cap name given old new status same yes_chosen came =
+      let c = subst (λ (n : List ℕ). CameOfChosen calls words cap n old new status) same came in
+      record { came = c.came; is = (c.chosen ∙ yes_chosen, c.is); chosen = sym c.chosen; status_is = c.status_is }
 
   pub of_passed : (cap : Cap) (name : List ℕ) (old : Acts) → false ≡ chooses (names_of words) name → CameOf calls words cap name old old None
   of_passed cap name old not_chosen = record { came = passed; is = (not_chosen, refl); chosen = refl; status_is = refl }
-
-  -- what is chosen, by the names of these words
-  pub chosen_as : (name given : List ℕ) (names : List (Bor (List ℕ))) (b : Bool) → names ≡ words.names.items → given ≡ name → b ≡ chooses (map (λ (n : Bor (List ℕ)). n.now) names) given → b ≡ chooses (names_of words) name
-  chosen_as name given names b same is chosen = chosen ∙ ap (λ (ns : List (Bor (List ℕ))). chooses (map (λ (n : Bor (List ℕ)). n.now) ns) given) same ∙ ap (chooses (names_of words)) is
 
   -- ---- the lines so far
 
@@ -77,7 +80,7 @@ module _ {S : Type 0} (calls : GridCalls S) (words : GetFilesWords) where
 
   gotten_more : (gs : List Gotten) (g : Gotten) (first mid : ℕ) (a b c : Acts) → AreGotten calls words gs first mid a b → CameTo calls words g.entry g.came b c
       → AreGotten calls words (gs ++ g ∷ []) first (status_after mid (came_status g.came)) a c
-  gotten_more [] g first mid a b c is came = (c, subst (λ (x : Acts). CameTo calls words g.entry g.came x c) is.1 came, ap (λ (s : ℕ). status_after s (came_status g.came)) is.0, refl)
+  gotten_more [] g first mid a b c is came = (c, subst (λ (x : Acts). CameTo calls words g.entry g.came x c) is.1 came, (ap (λ (s : ℕ). status_after s (came_status g.came)) is.0, refl))
   gotten_more (x ∷ gs) g first mid a b c is came = (is.0, is.1, gotten_more gs g (status_after first (came_status x.came)) mid is.0 b c is.2 came)
 
   entries_more : (gs : List Gotten) (g : Gotten) → AllByRecursion (λ (g : Gotten). IsEntry g.entry) gs → IsEntry g.entry → AllByRecursion (λ (g : Gotten). IsEntry g.entry) (gs ++ g ∷ [])

@@ -77,9 +77,9 @@ where
 }
 
 // Gets the files of the lines that are left.
-fn get_lines<R, F, E>(
-    rt: &R,
-    words: &GetFilesWords<'_>,
+fn get_lines<'a, R, F, E>(
+    rt: &'a R,
+    words: &'a GetFilesWords<'a>,
     mut catalogue: Catalogue<'_>,
     files: &mut F,
     progress: &mut Progress<'_, R, E>,
@@ -89,7 +89,7 @@ where
     F: NamedFiles,
     E: Write + IsTerminal,
     ensures { IfOk result (λ status. AreGottenFrom
-        (grid_calls R.Stream.contents R.Stream.remaining) words.now catalogue.left status
+        (grid_calls R.Stream.contents R.Stream.remaining) words.now catalogue.entry.left status
         (F.acts files.old) (F.acts files.new)) }
 {
     let mut kept = None;
@@ -177,7 +177,7 @@ where
     requires { IfSome kept.old
         (WereRead (grid_calls R.Stream.contents R.Stream.remaining) words.now.grid.now) }
     ensures came { IfOk result (CameOf (grid_calls R.Stream.contents R.Stream.remaining) words.now
-        line.cap line.name (F.acts files.old) (F.acts files.new)) }
+        line.entry.cap line.entry.name (F.acts files.old) (F.acts files.new)) }
     ensures kept { IfSome kept.new
         (WereRead (grid_calls R.Stream.contents R.Stream.remaining) words.now.grid.now) }
 {
