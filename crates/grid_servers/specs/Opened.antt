@@ -1,5 +1,5 @@
 -- The servers of a grid that were opened.
-use Rattle.std.specs.Prelude.{◌≡◌, ◌<◌, ℕ, List, [], false, Option, Some, None, get_or, ⊤}
+use Rattle.std.specs.Prelude.{◌≡◌, ◌<◌, ℕ, List, [], ◌∷◌, false, Option, Some, None, get_or, ⊤}
 use Rattle.std.specs.Prelude.{IfSome, IsSome, option_map}
 use Rattle.share_folders.specs.Folder.{FolderState}
 use Rattle.share_folders.specs.Names.{in_folder}
@@ -51,6 +51,12 @@ AllElsewhere known remotes =
 abbrev pub AreApart : {N M : Type 0} → List (Option N) → List (Option M) → Type 0
 AreApart here elsewhere = (number : ℕ)
     → IsSome (get_or elsewhere number None) → get_or here number None ≡ None
+
+-- how many pieces of a share may be on their way at once to each of these servers: one where none of
+-- them is elsewhere
+abbrev pub at_once : {W : Type 0} → List (Option (RemoteState W)) → ℕ
+at_once [] = 1
+at_once (remote ∷ more) = 8
 
 -- The servers of a grid were opened, each over its own folder or elsewhere, and no second has
 -- passed. Where the grid has a mark they are of its servers, and those elsewhere are told it.

@@ -1,10 +1,11 @@
 //! The servers of a grid as they are opened: each over its own folder, or elsewhere.
 
-ghost use Rattle.std.specs.Prelude.{◌≡◌, ◌<◌, ◌≤◌, ℕ, [], None, get_or, length, IfOk, IfSome};
-ghost use Rattle.std.specs.Prelude.{IsTrue, OnOk, Some};
+ghost use Rattle.std.specs.Prelude.{◌≡◌, ◌<◌, ℕ, [], None, get_or, length, IfOk, IfSome, OnOk};
+ghost use Rattle.std.specs.Prelude.{IsTrue, Some};
 ghost use Rattle.share_folders.specs.Names.{in_folder};
 ghost use Rattle.grid_faults.specs.Servers.{server_name};
 ghost use Rattle.grid_servers.specs.Opened.{AllStand, AreOpened, IsNumberOf, StandsAt};
+ghost use Rattle.grid_servers.specs.Opened.{at_once};
 
 use crate::elsewhere::{Elsewhere, find_elsewhere};
 use crate::links::{ServerLink, of_sockets, open_links};
@@ -287,12 +288,7 @@ where
 pub fn pieces_at_once<R>(grid: &FolderGrid<R>) -> usize
 where
     R: Files + Net + Clock + AllocGlobal + Clone + Drop,
-    ensures { (1 ≤ result) × (result ≤ 8) }
+    ensures { result ≡ at_once grid.now.remotes }
 {
-    for remote in grid.remotes() {
-        if remote.is_some() {
-            return 8;
-        }
-    }
-    1
+    if grid.remotes().is_empty() { 1 } else { 8 }
 }

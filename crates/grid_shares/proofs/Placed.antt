@@ -1,5 +1,5 @@
 -- What the end of an upload comes to.
-use Rattle.std.proofs.Common.{◌≡◌, ℕ, List, [], map, Result, Ok, IfOk, sym, subst, ◌∙◌}
+use Rattle.std.proofs.Common.{◌≡◌, ◌≤◌, ℕ, List, [], map, Result, Ok, IfOk, sym, subst, ◌∙◌}
 use Rattle.std.proofs.lemmas.Result.{IfOk-weaker}
 use Rattle.request_record.specs.Operations.{OperationCalls}
 use Rattle.upload_core.specs.Moves.{Begins}
@@ -18,6 +18,7 @@ use Rattle.std.specs.List.{range_with_len}
 use Rattle.std.proofs.Common.{Bool}
 use Rattle.cap_text.specs.Cap.{ReadCapValue}
 use Rattle.grid_servers.specs.Grids.{FolderGridState, GridCalls}
+use Rattle.grid_servers.specs.Opened.{at_once}
 use Rattle.grid_shares.specs.Placing.{ArePlaced, AreUploaded}
 use Rattle.file_encoding.specs.Params.{UploadParameters}
 use Rattle.file_upload.specs.Prepared.{Prepared, prepared_of, upload_of}
@@ -47,12 +48,13 @@ module _ {P N : Type 0} (operation : OperationCalls (Uploading P)) (calls : Grid
   -- shares whose upload was carried to its end
   pub uploaded : (ahead : ℕ) (after : FolderGridState N) (begun ended : Uploading P) (given now : ℕ) (r : Result ℕ Fault) (wanted : ℕ) (status : UploadStatus)
       → r ≡ ending_of wanted status → status ≡ ended.course.status → IsRight ended.course → given ≡ session → now ≡ calls.clock before
-      → Begins (with_ahead ahead made.goal) made.happy (map server_of servers) given now begun.course → begun.pieces ≡ made.pieces → IsCarried operation calls begun before ended after
+      → Begins (with_ahead ahead made.goal) made.happy (map server_of servers) given now begun.course → begun.pieces ≡ made.pieces → ahead ≤ at_once before.remotes → IsCarried operation calls begun before ended after
       → IfOk r (AreUploaded operation calls before session servers made)
-  uploaded ahead after begun ended given now r wanted status e same right own clock begins pieces carried =
+  uploaded ahead after begun ended given now r wanted status e same right own clock begins pieces few carried =
       IfOk-weaker r _ _ (λ happiness stored. record {
         begun = begun;
         ahead = ahead;
+        few = few;
         begins = subst (λ (s : ℕ). Begins (with_ahead ahead made.goal) made.happy (map server_of servers) s (calls.clock before) begun.course) own
             (subst (λ (n : ℕ). Begins (with_ahead ahead made.goal) made.happy (map server_of servers) given n begun.course) clock begins);
         pieces = pieces;

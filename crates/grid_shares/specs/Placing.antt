@@ -1,5 +1,5 @@
 -- What is placed, and what placing it came to.
-use Rattle.std.specs.Prelude.{◌≡◌, ◌==◌, ◌&&◌, ℕ, Bool, List, false, length, map}
+use Rattle.std.specs.Prelude.{◌≡◌, ◌≤◌, ◌==◌, ◌&&◌, ℕ, Bool, List, false, length, map}
 use Rattle.request_record.specs.Operations.{OperationCalls}
 use Rattle.upload_core.specs.Moves.{Begins}
 use Rattle.upload_core.specs.Ready.{Ready}
@@ -9,20 +9,21 @@ use Rattle.fetched_shares.specs.declared.range.SharePlace.{SharePlace}
 use Rattle.carried_operations.specs.Stored.{IsStored}
 use Rattle.grid_faults.specs.Servers.{server_of}
 use Rattle.grid_servers.specs.Grids.{FolderGridState, GridCalls}
-use Rattle.grid_servers.specs.Opened.{AreOpened}
+use Rattle.grid_servers.specs.Opened.{AreOpened, at_once}
 use Rattle.grid_servers.specs.Servers.{servers_without}
 use Rattle.grid_shares.specs.declared.placing.Stored.{Stored}
 use Rattle.grid_shares.specs.Standing.{WereOpened}
 use Rattle.grid_shares.specs.Ways.{AreCleared}
 
 -- Shares were uploaded to these servers, over a grid as it stood: their upload was begun in a
--- session with all of these servers, so many pieces of a share ahead, and is stored with this
--- happiness.
+-- session with all of these servers, of which each may have so many pieces of a share at once, and
+-- is stored with this happiness.
 pub record AreUploaded {P S : Type 0} (operation : OperationCalls (Uploading P))
     (calls : GridCalls S) (before : FolderGridState S) (session : ℕ) (servers : List ℕ)
     (made : Ready P) (happiness : ℕ) : Type 0 where
   pub begun : Uploading P
   pub ahead : ℕ
+  pub few : ahead ≤ at_once before.remotes
   pub begins : Begins (with_ahead ahead made.goal) made.happy (map server_of servers) session
       (calls.clock before) begun.course
   pub pieces : begun.pieces ≡ made.pieces

@@ -9,7 +9,7 @@ ghost use Rattle.upload_core.specs.Moves.{Begins};
 ghost use Rattle.upload_core.specs.State.{with_ahead};
 ghost use Rattle.grid_servers.specs.Grids.{grid_calls};
 ghost use Rattle.upload_core.specs.Calls.{upload_calls};
-ghost use Rattle.grid_servers.specs.Opened.{AreOpened};
+ghost use Rattle.grid_servers.specs.Opened.{AreOpened, at_once};
 ghost use Rattle.grid_shares.specs.Placing.{ArePlaced, AreUploaded};
 ghost use Rattle.grid_shares.specs.Puts.{stored_status};
 ghost use Rattle.grid_shares.specs.Standing.{WereOpened};
@@ -21,7 +21,9 @@ use fetched_shares::SharePlace;
 use grid_faults::{Fault, servers_of};
 use grid_rules::becoming::fault_of_loop;
 use grid_rules::{reached_happiness, turn_limit};
-use grid_servers::{Durability, FolderGrid, Purpose, lock_folders, servers_without};
+use grid_servers::{
+    Durability, FolderGrid, Purpose, lock_folders, pieces_at_once, servers_without,
+};
 use grid_telling::{Counting, Progress, Verb, note_servers};
 use local_grid::Outside;
 use std::alloc::Global;
@@ -262,13 +264,12 @@ fn turns_for(goal: &UploadGoal) -> u64 {
 fn pieces_ahead<R>(nodes: &FolderGrid<R>, goal: &UploadGoal, servers: &[NodeId]) -> u8
 where
     R: Files + Net + Clock + RandomSource + AllocGlobal + Clone + Drop,
-    ensures { 1 ≤ result }
+    ensures some { 1 ≤ result }
+    ensures few { result ≤ at_once nodes.now.remotes }
 {
-    if nodes.remotes().iter().all(Option::is_none) {
-        return 1;
-    }
+    let most = pieces_at_once(nodes).min(MOST_AHEAD);
     let shares_each = goal.share_count().div_ceil(servers.len().max(1)).max(1);
-    (MOST_PIECES / shares_each).clamp(1, MOST_AHEAD) as u8
+    (MOST_PIECES / shares_each).clamp(1, most) as u8
 }
 
 // Begins an upload to these servers, which are distinct, where so many pieces of a share may wait
