@@ -15,12 +15,20 @@ const ONE_CAP: &str = "URI:LIT:n5xgk";
 // Gets of this process's catalogue, with these words behind it.
 fn get(rt: &HostRuntime, names: &[&str], more: &[&str]) -> Result<Came, AllocError> {
     let (grid, caps, into) = (path(rt, "/grid")?, path(rt, "/caps")?, path(rt, "/into")?);
-    let mut words = Vec::from_slice(
-        rt.alloc(),
-        &["--caps", caps.as_str(), "--into", into.as_str()],
-    )?;
-    words.extend_from_slice(more)?;
+    let words = words_of(rt, caps.as_str(), into.as_str(), more)?;
     Ok(run(rt, "get", names, grid.as_str(), words.as_slice()))
+}
+
+// The words that name the catalogue and the folder, and others behind them.
+fn words_of<'a>(
+    rt: &HostRuntime,
+    caps: &'a str,
+    into: &'a str,
+    more: &[&'a str],
+) -> Result<Vec<&'a str>, AllocError> {
+    let mut words = Vec::from_slice(rt.alloc(), &["--caps", caps, "--into", into])?;
+    words.extend_from_slice(more)?;
+    Ok(words)
 }
 
 // Whether a file below the folder into which files are got has these bytes.

@@ -31,22 +31,37 @@ fn makes_sites(rt: &HostRuntime, grid: &str) -> io::Result<()> {
     writes(rt, grid, 4, long.as_slice())
 }
 
+// What stands for a server, by a name of its kind.
+fn kind_at(rt: &HostRuntime, grid: &str, number: u16) -> &'static str {
+    let site = find_site(rt, grid, number);
+    match &site {
+        Ok(Site::Folder) => "folder",
+        Ok(Site::Socket) => "socket",
+        Ok(Site::File(_)) => "file",
+        Ok(Site::Other) => "other",
+        Ok(Site::Missing) => "missing",
+        Err(_) => "fault",
+    }
+}
+
 // What stands there is told apart. A server that is served elsewhere counts, and one that is to be.
 #[test]
 fn sites_are_told_apart(rt: HostRuntime) -> Result<(), Fail> {
     let grid = grid(&rt, "kinds")?;
     let grid = grid.as_str();
     makes_sites(&rt, grid)?;
-    assert!(rt; matches!(find_site(&rt, grid, 0), Ok(Site::Folder)));
-    assert!(rt; matches!(find_site(&rt, grid, 1), Ok(Site::Socket)));
-    assert!(rt;
-        matches!(find_site(&rt, grid, 2), Ok(Site::File(text)) if text.as_str() == "127.0.0.1:7003\n")
+    let kinds = ["folder", "socket", "file", "other", "other", "missing"];
+    for (number, kind) in kinds.iter().enumerate() {
+        assert!(rt; kind_at(&rt, grid, number as u16) == *kind);
+    }
+    let file = find_site(&rt, grid, 2);
+    assert!(rt; matches!(&file, Ok(Site::File(text)) if text.as_str() == "127.0.0.1:7003\n"));
+    let (folder, other) = (
+        is_served_elsewhere(&rt, grid, 0),
+        is_served_elsewhere(&rt, grid, 4),
     );
-    assert!(rt; matches!(find_site(&rt, grid, 3), Ok(Site::Other)));
-    assert!(rt; matches!(find_site(&rt, grid, 4), Ok(Site::Other)));
-    assert!(rt; matches!(find_site(&rt, grid, 5), Ok(Site::Missing)));
-    assert!(rt; matches!(is_served_elsewhere(&rt, grid, 0), Ok(false)));
-    assert!(rt; matches!(is_served_elsewhere(&rt, grid, 4), Ok(true)));
+    assert!(rt; matches!(&folder, Ok(false)));
+    assert!(rt; matches!(&other, Ok(true)));
     fs::remove_dir_all(&rt, grid)?;
     Ok(())
 }

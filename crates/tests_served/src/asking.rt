@@ -49,8 +49,10 @@ impl Asking {
         let Some(position) = usize::try_from(number.saturating_sub(1)).ok() else {
             return false;
         };
-        self.asks.get(position) == Some(&(*server, *length as u32))
-            && (from..to + 1).contains(second)
+        let Some(length) = u32::try_from(*length).ok() else {
+            return false;
+        };
+        self.asks.get(position) == Some(&(*server, length)) && from <= *second && *second <= to
     }
 }
 

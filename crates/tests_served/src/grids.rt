@@ -36,5 +36,6 @@ pub(crate) fn fake_grid(
     step: usize,
 ) -> Result<Grid<FakeWire, FakeNetwork>, AllocError> {
     let network = FakeNetwork::new(alloc, kinds, step)?;
-    grid_over(alloc, kinds.len() as NodeId, network)
+    let count = NodeId::try_from(kinds.len()).unwrap_or(NodeId::MAX);
+    grid_over(alloc, count, network)
 }

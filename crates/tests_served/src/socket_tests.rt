@@ -7,9 +7,9 @@ use crate::sockets::{Both, Over, grid_at};
 use connections::Address;
 use local_grid::carry_on;
 use std::alloc::{AllocError, Global};
-use std::{fs, process};
 use std::net::{Ipv4Addr, SocketAddr};
 use std::test::Fail;
+use std::{fs, process};
 
 // A path that no other test has.
 fn socket_path(rt: &HostRuntime, name: &str, number: u16) -> Result<String, AllocError> {

@@ -3,10 +3,10 @@
 use crate::kept_tests::{Nobody, ten_hold, ten_nodes};
 use crate::upload_rounds_tests::begun_ten;
 use carried_operations::uploads::carry_upload;
-use local_grid::{Happening, Outside};
 use local_grid::error::LoopError;
 use local_grid::grid::LocalGrid;
 use local_grid::link::MemoryLink;
+use local_grid::{Happening, Outside};
 use share_store::memory::MemoryStore;
 use std::alloc::{AllocError, Global};
 use wire::message::{Message, NodeId};

@@ -1,6 +1,8 @@
 //! Uploads of which eight pieces of a share may wait at once: the order of what is asked, and what
 //! a message costs that is lost.
 
+ghost use Rattle.std.specs.Prelude.{◌≡◌, length, IfSome};
+
 use crate::courses::{Asked, Course};
 use crate::upload_core_tests::{Conduct, verify_cap};
 use crate::upload_rounds_tests::{ONE, happy_pairs};
@@ -16,7 +18,9 @@ use wire::message::ShareLength;
 // Nine whole pieces, and one of 5,088 bytes.
 const LENGTH: usize = 300_000;
 
-fn long_share(alloc: Global) -> Option<Vec<u8>> {
+fn long_share(alloc: Global) -> Option<Vec<u8>>
+    ensures { IfSome result (λ share. length share.items ≡ 300000) }
+{
     vec![in alloc; 7u8; LENGTH].ok()
 }
 
