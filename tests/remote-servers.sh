@@ -25,8 +25,7 @@ room=$(mktemp -d) || exit 2
 cd "$room" || exit 2
 # a folder that sshd wants to be there
 mkdir -p /run/sshd && mount -t tmpfs -o mode=755 none /run/sshd
-differed=0
-seen=0
+. "$here/tests/looks.sh"
 hosts=
 
 # ---- hosts, each in a network namespace of its own
@@ -92,36 +91,7 @@ brings_back() {
 
 # ---- what is looked at
 
-# Tells what was looked at, and whether it was as it has to be.
-sees() {
-    seen=$((seen + 1))
-    what=$1
-    shift
-    if ! "$@"; then
-        differed=$((differed + 1))
-        echo "differs: $what"
-        cut -c 1-90 out err | head -n 30 | sed 's/^/    /'
-    fi
-}
-
-# Whether the command ends within so many seconds with this status.
-ends() {
-    limit=$1 wanted=$2
-    shift 2
-    timeout "$limit" "$grid" "$@" > out 2> err
-    status=$?
-    echo "status $status" >> err
-    [ $status = "$wanted" ]
-}
-
-# The same, and standard output has this line.
-tells() {
-    line=$1
-    shift
-    ends "$@" && grep -qx "$line" out
-}
-
-# The same, and standard error has lines that begin so, so many.
+# Whether the command ends so, and standard error has so many lines that begin with this text.
 notes() {
     count=$1 text=$2
     shift 2
@@ -219,5 +189,4 @@ for host in 1 2 3; do cuts_off $host; done
 sees 'a put with four servers' ends 60 4 put small --grid g
 sees 'a get with four servers' gives_file 20 large
 
-echo "$seen seen, $differed differed"
-[ $differed = 0 ]
+counts

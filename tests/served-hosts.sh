@@ -24,8 +24,7 @@ for tool in ip nsenter python3; do
 done
 room=$(mktemp -d) || exit 2
 cd "$room" || exit 2
-differed=0
-seen=0
+. "$here/tests/looks.sh"
 
 # ---- hosts, each in a network namespace of its own, which serves two folders
 
@@ -51,28 +50,34 @@ makes_host() {
     inside_host "$1" ip link set far up
 }
 
+net_of() { echo "/proc/$(cat "host$1/pid")/ns/net"; }
+
 inside_host() {
     inside=$1
     shift
-    nsenter --net="/proc/$(cat "host$inside/pid")/ns/net" "$@"
+    nsenter --net="$(net_of "$inside")" "$@"
 }
 
 # The servers of a host.
 servers_of() { echo $((2 * $1 - 2)) $((2 * $1 - 1)); }
 
+# No function is called in the background, whose process would be a shell's and not the server's.
 serves() {
     for server in $(servers_of "$1"); do
         mkdir -p "host$1/$server"
-        inside_host "$1" "$grid" serve "host$1/$server" --listen "10.9.$1.2:700$server" --anyone \
-            --mark "grid $letters server $server" 2> "host$1/said.$server" &
+        nsenter --net="$(net_of "$1")" "$grid" serve "host$1/$server" \
+            --listen "10.9.$1.2:700$server" --anyone --mark "grid $letters server $server" \
+            2> "host$1/said.$server" &
         echo $! > "host$1/pid.$server"
     done
 }
 
+# One that has ended takes no signal.
 signals() {
     for server in $(servers_of "$2"); do
         [ ! -e "host$2/pid.$server" ] || kill "$1" "$(cat "host$2/pid.$server")" 2> /dev/null
     done
+    :
 }
 
 cuts_off() { ip link set "h$1" down; }
@@ -85,35 +90,6 @@ dies() { signals -KILL "$1"; }
 restarts() { dies "$1" && sleep 1 && serves "$1"; }
 
 # ---- what is looked at
-
-# Tells what was looked at, and whether it was as it has to be.
-sees() {
-    seen=$((seen + 1))
-    what=$1
-    shift
-    if ! "$@"; then
-        differed=$((differed + 1))
-        echo "differs: $what"
-        cut -c 1-90 out err | head -n 30 | sed 's/^/    /'
-    fi
-}
-
-# Whether the command ends within so many seconds with this status.
-ends() {
-    limit=$1 wanted=$2
-    shift 2
-    timeout "$limit" "$grid" "$@" > out 2> err
-    status=$?
-    echo "status $status" >> err
-    [ $status = "$wanted" ]
-}
-
-# The same, and standard output has this line.
-tells() {
-    line=$1
-    shift
-    ends "$@" && grep -qx "$line" out
-}
 
 # A put of this file ends, and has the happiness that is wanted at least. Its cap is kept.
 puts() {
@@ -252,5 +228,4 @@ for client in 1 2 3 4 5 6 7 8 9 10; do
 done
 sees 'what was acknowledged' gives_all
 
-echo "$seen seen, $differed differed"
-[ $differed = 0 ]
+counts

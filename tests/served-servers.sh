@@ -13,8 +13,7 @@ grid=${GRID:-$here/grid}
 "$grid" cap URI:LIT: > /dev/null || exit 2
 room=$(mktemp -d) || exit 2
 cd "$room" || exit 2
-differed=0
-seen=0
+. "$here/tests/looks.sh"
 port=$((20000 + $$ % 20000))
 
 ends_all() {
@@ -34,36 +33,7 @@ stops() {
     rm -f "pid.$1"
 }
 
-# Tells what was looked at, and whether it was as it has to be.
-sees() {
-    seen=$((seen + 1))
-    what=$1
-    shift
-    if ! "$@"; then
-        differed=$((differed + 1))
-        echo "differs: $what"
-        cut -c 1-90 out err | head -n 30 | sed 's/^/    /'
-    fi
-}
-
-# Whether the command ends within so many seconds with this status.
-ends() {
-    limit=$1 wanted=$2
-    shift 2
-    timeout "$limit" "$grid" "$@" > out 2> err
-    status=$?
-    echo "status $status" >> err
-    [ $status = "$wanted" ]
-}
-
-# The same, and standard output has this line.
-tells() {
-    line=$1
-    shift
-    ends "$@" && grep -qx "$line" out
-}
-
-# The same, and standard error has so many lines that begin so.
+# Whether the command ends so, and standard error has so many lines that begin with this text.
 notes() {
     count=$1 text=$2
     shift 2
@@ -180,5 +150,4 @@ sees 'a put there' tells 'happiness 3' 20 0 put small --grid h --k 2 --n 3 --hap
 sees 'one more' tells 'servers 4' 20 0 init h --add 1 --server "3=unix:$room/h3.sock"
 sees 'its file' grep -qx "unix:$room/h3.sock" h/server-003
 
-echo "$seen seen, $differed differed"
-[ $differed = 0 ]
+counts
