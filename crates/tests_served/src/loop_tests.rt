@@ -41,6 +41,22 @@ fn all_answer_at_once(rt: HostRuntime) -> Result<(), Fail> {
     Ok(())
 }
 
+// Whether a server is asked in vain.
+fn is_silent(grid: &Grid<FakeWire, FakeNetwork>, number: usize) -> bool {
+    match grid.remotes().get(number) {
+        Some(remote) => remote.as_ref().is_some_and(|server| server.is_silent()),
+        None => false,
+    }
+}
+
+// How many bytes wait for a server, where it is elsewhere.
+fn waiting(grid: &Grid<FakeWire, FakeNetwork>, number: usize) -> Option<usize> {
+    match grid.remotes().get(number) {
+        Some(remote) => remote.as_ref().map(|server| server.waiting()),
+        None => None,
+    }
+}
+
 #[test]
 fn one_that_does_not_answer_holds_nobody(rt: HostRuntime) -> Result<(), Fail> {
     let alloc = rt.alloc();
@@ -62,16 +78,12 @@ fn one_that_does_not_answer_holds_nobody(rt: HostRuntime) -> Result<(), Fail> {
         for second in 1..=waits {
             right.push(second)?;
         }
-        for skipped in 1..=(60 - waits) / 5 {
-            right.push(waits + 5 * skipped)?;
+        for skipped in 1..=60u64.saturating_sub(waits) / 5 {
+            right.push(skipped.saturating_mul(5).saturating_add(waits))?;
         }
         assert!(rt; asking.ticks.as_slice() == right.as_slice());
         // it is asked in vain from then on
-        assert!(rt;
-            grid.remotes()[4]
-                .as_ref()
-                .is_some_and(|server| server.is_silent())
-        );
+        assert!(rt; is_silent(&grid, 4));
         let again = ask_ten(alloc, &mut grid, 100)?;
         assert!(rt; again.heard.len() == 9 && grid.network().tries(4) == 1);
         assert!(rt; grid.network().rests == waits);
@@ -158,15 +170,11 @@ fn what_a_server_is_told_is_bounded(rt: HostRuntime) -> Result<(), Fail> {
         number: 1,
         body: Body::Write(LONG, 0, bytes),
     };
-    for count in 1..=600 {
+    for count in 1..=600usize {
         assert!(rt; grid.hand(0, &message)?.is_none());
         // the greeting, and frames of 32,815 bytes up to the first above 16 MiB
-        let right = 64 + 32_815 * 512.min(count);
-        assert!(rt;
-            grid.remotes()[0]
-                .as_ref()
-                .is_some_and(|server| server.waiting() == right)
-        );
+        let right = count.min(512).saturating_mul(32_815).saturating_add(64);
+        assert!(rt; waiting(&grid, 0) == Some(right));
     }
     Ok(())
 }
