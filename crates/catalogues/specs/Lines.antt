@@ -4,9 +4,17 @@ use Rattle.cap_text.specs.declared.cap.Cap.{Cap}
 use Rattle.cap_text.specs.CapText.{IsCap, cap_text}
 use Rattle.catalogues.specs.Names.{IsName, escape_mark, written}
 
+-- words, two blanks and a name
+abbrev pub words_with : List ℕ → List ℕ → List ℕ
+words_with words name = escape_mark name ++ (words ++ (codes "  " ++ written name))
+
+-- a line that tells words of a file
+abbrev pub named_text : List ℕ → List ℕ → List ℕ
+named_text words name = words_with words name ++ 10 ∷ []
+
 -- a line without its end: the cap, two blanks and the name
 abbrev pub words_text : Cap → List ℕ → List ℕ
-words_text cap name = escape_mark name ++ (cap_text cap ++ (codes "  " ++ written name))
+words_text cap name = words_with (cap_text cap) name
 
 -- a line
 abbrev pub line_text : Cap → List ℕ → List ℕ

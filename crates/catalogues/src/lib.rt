@@ -21,7 +21,7 @@ pub use below::{MAX_PART, Parts, name_below, parts_below};
 pub use error::CatalogueError;
 pub use head::{Head, MAX_SEGMENT_SIZE, MAX_SHARES, Moment, Numbers};
 pub use laws::{catalogues_are_one, lines_are_one, lines_are_read};
-pub use lines::{Line, line_of};
+pub use lines::{Line, line_of, named_line};
 pub use name::{Name, is_name};
 pub use patterns::chooses;
 pub use reading::{Catalogue, entry_count};

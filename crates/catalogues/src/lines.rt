@@ -5,7 +5,7 @@ ghost use Rattle.std.specs.Prelude.{◌≢◌, Bool, IsSomeAnd, slice_index};
 ghost use Rattle.cap_text.specs.declared.cap.Cap.{Cap};
 ghost use Rattle.cap_text.specs.CapText.{IsCap};
 ghost use Rattle.catalogues.specs.Names.{IsName, mark};
-ghost use Rattle.catalogues.specs.Lines.{IsLine, IsWords};
+ghost use Rattle.catalogues.specs.Lines.{IsLine, IsWords, named_text};
 
 use crate::error::CatalogueError;
 use crate::name::{Name, is_name, needs_mark, push_written};
@@ -43,12 +43,20 @@ fn written_line(alloc: Global, cap: &Cap, name: &[u8]) -> Result<Vec<u8>, AllocE
     requires name { IsName name.now }
     ensures { IfOk result (λ text. IsLine text.items cap.now name.now) }
 {
+    let letters = cap.to_string(alloc)?;
+    named_line(alloc, letters.as_bytes(), name)
+}
+
+/// A line that tells some words of a file: these, two blanks, and its name, escaped as in the line
+/// of a cap.
+pub fn named_line(alloc: Global, words: &[u8], name: &[u8]) -> Result<Vec<u8>, AllocError>
+    ensures { IfOk result (λ text. text.items ≡ named_text words.now name.now) }
+{
     let mut text = Vec::new(alloc);
     if needs_mark(name) {
         text.push(b'\\')?;
     }
-    let letters = cap.to_string(alloc)?;
-    text.extend_from_slice(letters.as_bytes())?;
+    text.extend_from_slice(words)?;
     text.extend_from_slice(b"  ")?;
     push_written(&mut text, name)?;
     text.push(b'\n')?;

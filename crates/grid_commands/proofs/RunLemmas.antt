@@ -12,15 +12,16 @@ use Rattle.grid_gets.specs.Files.{FileAct, IsFileBy, MayBeFileBy}
 use Rattle.grid_gets.specs.Gets.{IsBegunBy, IsGotBy, UnlessWriter}
 use Rattle.grid_rules.specs.Ending.{world_status}
 use Rattle.grid_lists.specs.Gets.{IsGetFiles}
+use Rattle.grid_lists.specs.Looks.{IsLookDone, IsLookUndone, checking, repairing}
 use Rattle.grid_lists.specs.Puts.{IsPutDone, IsPutUndone, is_one}
-use Rattle.grid_repairs.specs.Checks.{IsCheckBy}
-use Rattle.grid_repairs.specs.Repairs.{IsRepairBy}
 use Rattle.grid_shares.specs.declared.Outcome.{Outcome}
 use Rattle.grid_servers.specs.Grids.{GridCalls}
 use Rattle.grid_faults.specs.declared.fault.Fault.TheVariants as faults
 use Rattle.grid_telling.specs.declared.outcome.Failure.{Failure}
 use Rattle.grid_telling.specs.declared.outcome.Failure.TheVariants as failures
+use Rattle.grid_words.specs.declared.catalogue_words.CheckFilesWords.{CheckFilesWords}
 use Rattle.grid_words.specs.declared.catalogue_words.GetFilesWords.{GetFilesWords}
+use Rattle.grid_words.specs.declared.catalogue_words.RepairFilesWords.{RepairFilesWords}
 use Rattle.grid_words.specs.declared.words.CheckWords.{CheckWords}
 use Rattle.grid_words.specs.declared.words.GetWords.{GetWords}
 use Rattle.grid_words.specs.declared.words.InitWords.{InitWords}
@@ -28,8 +29,8 @@ use Rattle.grid_words.specs.declared.words.PutWords.{PutWords}
 use Rattle.grid_words.specs.declared.words.RepairWords.{RepairWords}
 use Rattle.grid_words.specs.declared.words.ScrubWords.{ScrubWords}
 use Rattle.grid_words.specs.declared.words.Request.{Request}
-use Rattle.grid_words.specs.declared.words.Request.TheVariants.{Init, Put, Get, GetFiles, Check, Repair, Scrub, World, Describe}
-use Rattle.grid_commands.specs.Commands.{AreCapLines, AreFiled, AreGetFiled, ArePrinted, IsDone, IsGet, IsGetBegun, IsGetFiled, IsGotTo, IsRunBy, IsUndone, IsUnwritten, IsWorld, IsWrittenOf}
+use Rattle.grid_words.specs.declared.words.Request.TheVariants.{Init, Put, Get, GetFiles, Check, CheckFiles, Repair, RepairFiles, Scrub, World, Describe}
+use Rattle.grid_commands.specs.Commands.{AreCapLines, AreFiled, AreGetFiled, ArePrinted, IsCheckFor, IsDone, IsGetBegun, IsGetFiled, IsGetFiledOf, IsGetLeft, IsGetOf, IsGotTo, IsRepairFor, IsRunBy, IsUndone, IsUnwritten, IsWorld, IsWrittenOf}
 use Rattle.grid_commands.specs.Inits.{IsInitBy}
 use Rattle.grid_commands.specs.Scrubs.{IsScrub}
 use Rattle.grid_commands.specs.Texts.{IsEndOf}
@@ -96,8 +97,8 @@ module _ {F S : Type 0} (gives : Opened F → ℕ → List ℕ → Opened F → 
       → AreFiled calls other r old new → IsRunBy gives calls request r before after old new
   by_request other is done undone filed = subst (λ (q : Request). IsRunBy gives calls q r before after old new) (sym is) (record { done = done; undone = undone; filed = filed })
 
-  pub get_run : (words : GetWords) → request ≡ Get words → IfOk r (λ status. IsGet calls words status before after) → IfErr r (λ failure. IsGetBegun calls words words.output failure before after)
-      → IsGetFiled calls words words.output r old new → IsRunBy gives calls request r before after old new
+  pub get_run : (words : GetWords) → request ≡ Get words → IfOk r (λ status. IsGetOf calls words status before after) → IfErr r (λ failure. IsGetLeft calls words failure before after)
+      → IsGetFiledOf calls words r old new → IsRunBy gives calls request r before after old new
   get_run words is done undone filed = by_request (Get words) is done undone filed
 
   pub get_files_run : (words : GetFilesWords) → request ≡ GetFiles words → after ≡ before → IfOk r (λ status. IsGetFiles calls words status old new)
@@ -125,15 +126,23 @@ module _ {F S : Type 0} (gives : Opened F → ℕ → List ℕ → Opened F → 
         → IfErr r (λ failure. IsPutUndone (is_one words) failure before after) → IsRunBy gives calls request r before after old new
     put_run words is done undone = by_request (Put words) is done undone same
 
-    pub check_run : (words : CheckWords) (came : Result Outcome Fault) → request ≡ Check words → IfOk came (IsCheckBy calls words)
+    pub check_run : (words : CheckWords) (came : Result Outcome Fault) → request ≡ Check words → IfOk came (IsCheckFor calls words)
         → IfOk r (λ status. IsOkAnd came (λ told. (status ≡ told.status) × Appends before after told.text.items)) → IfErr r (λ failure. IsUnwritten failure before after)
         → IsRunBy gives calls request r before after old new
-    check_run words came is of done undone = by_request (Check words) is (outcome_written (IsCheckBy calls words) came r before after of done) undone same
+    check_run words came is of done undone = by_request (Check words) is (outcome_written (IsCheckFor calls words) came r before after of done) undone same
 
-    pub repair_run : (words : RepairWords) (came : Result Outcome Fault) → request ≡ Repair words → IfOk came (IsRepairBy calls words)
+    pub check_files_run : (words : CheckFilesWords) → request ≡ CheckFiles words → IfOk r (λ status. IsLookDone calls (checking words) status before after)
+        → IfErr r (λ failure. IsLookUndone failure before after) → IsRunBy gives calls request r before after old new
+    check_files_run words is done undone = by_request (CheckFiles words) is done undone same
+
+    pub repair_files_run : (words : RepairFilesWords) → request ≡ RepairFiles words → IfOk r (λ status. IsLookDone calls (repairing words) status before after)
+        → IfErr r (λ failure. IsLookUndone failure before after) → IsRunBy gives calls request r before after old new
+    repair_files_run words is done undone = by_request (RepairFiles words) is done undone same
+
+    pub repair_run : (words : RepairWords) (came : Result Outcome Fault) → request ≡ Repair words → IfOk came (IsRepairFor calls words)
         → IfOk r (λ status. IsOkAnd came (λ told. (status ≡ told.status) × Appends before after told.text.items)) → IfErr r (λ failure. IsUnwritten failure before after)
         → IsRunBy gives calls request r before after old new
-    repair_run words came is of done undone = by_request (Repair words) is (outcome_written (IsRepairBy calls words) came r before after of done) undone same
+    repair_run words came is of done undone = by_request (Repair words) is (outcome_written (IsRepairFor calls words) came r before after of done) undone same
 
     pub scrub_run : (words : ScrubWords) → request ≡ Scrub words → IfOk r (λ status. IsScrub words status before after) → IsRunBy gives calls request r before after old new
     scrub_run words is done = by_request (Scrub words) is done (no_failure r) same

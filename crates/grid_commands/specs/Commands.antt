@@ -13,6 +13,7 @@ use Rattle.world_script.specs.declared.ending.Ending.{Ending}
 use Rattle.grid_gets.specs.Files.{FileAct, IsFileBy, MayBeFileBy}
 use Rattle.grid_gets.specs.Gets.{IsBegunBy, IsGotBy, UnlessWriter}
 use Rattle.grid_lists.specs.Gets.{IsGetFiles}
+use Rattle.grid_lists.specs.Looks.{IsLookDone, IsLookUndone, checking, repairing}
 use Rattle.grid_lists.specs.Puts.{IsPutDone, IsPutUndone, is_one}
 use Rattle.grid_repairs.specs.Checks.{IsCheckBy}
 use Rattle.grid_repairs.specs.Repairs.{IsRepairBy}
@@ -24,11 +25,15 @@ use Rattle.grid_faults.specs.declared.fault.Fault.TheVariants as faults
 use Rattle.grid_telling.specs.declared.outcome.Failure.{Failure}
 use Rattle.grid_telling.specs.declared.outcome.Failure.TheVariants as failures
 use Rattle.grid_words.specs.declared.catalogue_words.GetFilesWords.{GetFilesWords}
+use Rattle.grid_words.specs.declared.words.CheckWords.{CheckWords}
 use Rattle.grid_words.specs.declared.words.GetWords.{GetWords}
+use Rattle.grid_words.specs.declared.words.RepairWords.{RepairWords}
 use Rattle.grid_words.specs.declared.words.Request.{Request}
 use Rattle.grid_words.specs.declared.words.Request.TheVariants.{Init, Put, Get, GetFiles, Check}
-use Rattle.grid_words.specs.declared.words.Request.TheVariants.{Repair, Scrub, Serve, World}
+use Rattle.grid_words.specs.declared.words.Request.TheVariants.{CheckFiles, Repair, RepairFiles}
+use Rattle.grid_words.specs.declared.words.Request.TheVariants.{Scrub, Serve, World}
 use Rattle.grid_words.specs.declared.words.Request.TheVariants.{Describe}
+use Rattle.grid_commands.specs.CapFiles.{IsCheckAsked, IsGetAsked, IsRepairAsked}
 use Rattle.grid_commands.specs.Exit.{IsExit, IsServingEnd}
 use Rattle.grid_commands.specs.Inits.{IsInitBy}
 use Rattle.grid_commands.specs.Scrubs.{IsScrub}
@@ -81,6 +86,31 @@ IsGetFiled calls words (Some path) (Ok status) old new =
 IsGetFiled calls words (Some path) (Err failure) old new =
     MayBeFileBy calls words path.now old new
 
+-- ---- with the cap of a word, or of a file
+
+abbrev pub IsGetOf : {S : Type 0} → GridCalls S → GetWords → ℕ → Option (List ℕ)
+    → Option (List ℕ) → Type 0
+IsGetOf calls words status before after =
+    (asked : GetWords) × IsGetAsked words asked × IsGet calls asked status before after
+
+abbrev pub IsGetLeft : {S : Type 0} → GridCalls S → GetWords → Failure → Option (List ℕ)
+    → Option (List ℕ) → Type 0
+IsGetLeft calls words failure before after = (asked : GetWords) × IsGetAsked words asked
+    × IsGetBegun calls asked words.output failure before after
+
+abbrev pub IsGetFiledOf : {S : Type 0} → GridCalls S → GetWords → Result ℕ Failure
+    → Option (List FileAct) → Option (List FileAct) → Type 0
+IsGetFiledOf calls words ended old new = (asked : GetWords) × IsGetAsked words asked
+    × IsGetFiled calls asked words.output ended old new
+
+abbrev pub IsCheckFor : {S : Type 0} → GridCalls S → CheckWords → Outcome → Type 0
+IsCheckFor calls words outcome =
+    (asked : CheckWords) × IsCheckAsked words asked × IsCheckBy calls asked outcome
+
+abbrev pub IsRepairFor : {S : Type 0} → GridCalls S → RepairWords → Outcome → Type 0
+IsRepairFor calls words outcome =
+    (asked : RepairWords) × IsRepairAsked words asked × IsRepairBy calls asked outcome
+
 -- What a get of the files of a catalogue did with them; where it ended with a fault it did nothing,
 -- unless memory ended.
 abbrev pub AreGetFiled : {S : Type 0} → GridCalls S → GetFilesWords → Result ℕ Failure
@@ -118,10 +148,12 @@ abbrev pub IsDone : {F S : Type 0} → (Opened F → ℕ → List ℕ → Opened
     → Request → ℕ → Option (List ℕ) → Option (List ℕ) → Type 0
 IsDone gives calls (Init words) = ArePrinted (IsInitBy words)
 IsDone gives calls (Put words) = IsPutDone gives calls words
-IsDone gives calls (Get words) = IsGet calls words
+IsDone gives calls (Get words) = IsGetOf calls words
 IsDone gives calls (GetFiles words) = IsSilent
-IsDone gives calls (Check words) = IsWrittenOf (IsCheckBy calls words)
-IsDone gives calls (Repair words) = IsWrittenOf (IsRepairBy calls words)
+IsDone gives calls (Check words) = IsWrittenOf (IsCheckFor calls words)
+IsDone gives calls (CheckFiles words) = IsLookDone calls (checking words)
+IsDone gives calls (Repair words) = IsWrittenOf (IsRepairFor calls words)
+IsDone gives calls (RepairFiles words) = IsLookDone calls (repairing words)
 IsDone gives calls (Scrub words) = IsScrub words
 IsDone gives calls (Serve words) = IsServing
 IsDone gives calls (World path) = IsWorld
@@ -132,13 +164,14 @@ abbrev pub IsUnwritten : Failure → Option (List ℕ) → Option (List ℕ) →
 IsUnwritten failures.Writer before after = ⊤
 IsUnwritten (failures.Fault fault) before after = after ≡ before
 
--- A request was left undone. A get writes as it reads, a put of many tells of one file after
--- another, and so does a scrub. How serving ends is all told by its status.
+-- A request was left undone. A get writes as it reads; a put, a check and a repair of many tell of
+-- one file after another, and so does a scrub. How serving ends is all told by its status.
 abbrev pub IsUndone : {S : Type 0} → GridCalls S → Request → Failure → Option (List ℕ)
     → Option (List ℕ) → Type 0
-IsUndone calls (Get words) failure before after =
-    IsGetBegun calls words words.output failure before after
+IsUndone calls (Get words) failure before after = IsGetLeft calls words failure before after
 IsUndone calls (GetFiles words) failure before after = after ≡ before
+IsUndone calls (CheckFiles words) failure before after = IsLookUndone failure before after
+IsUndone calls (RepairFiles words) failure before after = IsLookUndone failure before after
 IsUndone calls (Put words) failure before after =
     IsPutUndone (is_one words) failure before after
 IsUndone calls (Scrub words) failure before after = ⊤
@@ -148,7 +181,7 @@ IsUndone calls request failure before after = IsUnwritten failure before after
 -- Files of a name are what gets are asked for alone.
 abbrev pub AreFiled : {S : Type 0} → GridCalls S → Request → Result ℕ Failure
     → Option (List FileAct) → Option (List FileAct) → Type 0
-AreFiled calls (Get words) ended old new = IsGetFiled calls words words.output ended old new
+AreFiled calls (Get words) ended old new = IsGetFiledOf calls words ended old new
 AreFiled calls (GetFiles words) ended old new = AreGetFiled calls words ended old new
 AreFiled calls request ended old new = new ≡ old
 

@@ -4,6 +4,7 @@ pub mod Inits
 pub mod Scrubs
 pub mod Elsewhere
 pub mod Exit
+pub mod CapFiles
 pub mod Commands
 pub mod Grid
 -- the words of private clauses

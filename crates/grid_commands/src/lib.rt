@@ -3,13 +3,15 @@
 //! `grid` takes the words of the command line and two writers, and gives the exit status. An `init`
 //! marks the folders of a grid and of its servers. A `put` stores shares, in `grid_shares`, of one
 //! file or of many, in `grid_lists`; a `check` and a `repair` look at those that are stored, in
-//! `grid_repairs`; a `get` is one download or several, in `grid_gets`, of the files of a catalogue
-//! in `grid_lists`; a `scrub` reads the servers' folders; a `serve` is one server of a grid, until
-//! the process is ended; `world` runs a script, whose text is read whole before anything runs.
+//! `grid_repairs`; a `get` is one download or several, in `grid_gets`. Where these are of the files
+//! of a catalogue they stand in `grid_lists`. A `scrub` reads the servers' folders; a `serve` is one
+//! server of a grid, until the process is ended; `world` runs a script, whose text is read whole
+//! before anything runs.
 //! Which words there are stands in `grid_words`, and what is told in `grid_faults`, `grid_rules`
 //! and `grid_telling`.
 #![tactic(auto)]
 
+mod cap_files;
 mod elsewhere;
 mod exit;
 mod faults;
@@ -23,25 +25,28 @@ mod serving;
 ghost use Rattle.std.specs.Prelude.{◌≡◌, IfErr, IfOk, IsOkAnd, map};
 ghost use Rattle.std.specs.Io.KnownBytes.{Appends};
 ghost use Rattle.std.specs.IoError.{error_kind};
-ghost use Rattle.grid_commands.specs.Commands.{AreCapLines, EndsByItself, IsGet, IsGetBegun};
-ghost use Rattle.grid_commands.specs.Commands.{IsGetFiled, IsRunBy, IsServedBy, IsUnwritten};
+ghost use Rattle.grid_commands.specs.Commands.{AreCapLines, EndsByItself, IsCheckFor, IsGet};
+ghost use Rattle.grid_commands.specs.Commands.{IsGetBegun, IsGetFiled, IsGetFiledOf, IsGetLeft};
+ghost use Rattle.grid_commands.specs.Commands.{IsGetOf, IsRepairFor, IsRunBy, IsServedBy};
+ghost use Rattle.grid_commands.specs.Commands.{IsUnwritten};
 ghost use Rattle.grid_commands.specs.Exit.{IsToldAs, unread_status};
 ghost use Rattle.grid_commands.specs.Grid.{IsGridBy};
 ghost use Rattle.grid_servers.specs.Grids.{grid_calls};
 ghost use Rattle.sources.specs.Opened.{GivesOpened};
 
+use crate::cap_files::{cap_text, check_words, get_words, repair_words};
 use crate::exit::{DONE, WRONG_WORDS, exit_of, report, tell_words, write, written};
 use crate::serving::serve_folder;
 use grid_faults::Fault;
 use grid_gets::get;
 pub use grid_gets::{DiskFiles, NamedFiles};
-use grid_lists::{get_files, put};
+use grid_lists::{check_files, get_files, put, repair_files};
 use grid_repairs::{check, repair};
 use grid_rules::{cap_lines, read_cap};
 pub use grid_shares::Environment;
 use grid_shares::Outcome;
 use grid_telling::{Failure, Progress};
-use grid_words::{GetWords, Request, read_words};
+use grid_words::{CheckWords, GetWords, RepairWords, Request, read_words};
 use std::alloc::Global;
 use std::convert::AsStr;
 use std::io::{self, IsTerminal};
@@ -183,8 +188,10 @@ where
         Request::Put(words) => put(rt, words, environment, out, progress),
         Request::Get(words) => got(rt, words, environment, files, out, progress),
         Request::GetFiles(words) => get_files(rt, words, environment, files, progress),
-        Request::Check(words) => told(out, check(rt, words, environment, progress)),
-        Request::Repair(words) => told(out, repair(rt, words, environment, progress)),
+        Request::Check(words) => told(out, checked(rt, words, environment, progress)),
+        Request::CheckFiles(words) => check_files(rt, words, environment, out, progress),
+        Request::Repair(words) => told(out, repaired(rt, words, environment, progress)),
+        Request::RepairFiles(words) => repair_files(rt, words, environment, out, progress),
         Request::Scrub(words) => scrub::scrub(rt, words, environment, out, progress),
         Request::Serve(_) => unreachable!(),
         Request::World(path) => script::world(rt, path, out),
@@ -192,8 +199,71 @@ where
     }
 }
 
-// Gets a range, and gives the exit status.
+// Gets a range of the file of a cap that is a word or stands in a file, and gives the exit status.
 fn got<R, F, O, E>(
+    rt: &R,
+    words: &GetWords<'_>,
+    environment: &Environment<'_>,
+    files: &mut F,
+    out: &mut O,
+    progress: &mut Progress<'_, R, E>,
+) -> Result<u8, Failure>
+where
+    R: Files + io::Input + Net + Clock + RandomSource + AllocGlobal + Clone + Drop,
+    F: NamedFiles,
+    O: io::Write,
+    E: io::Write + IsTerminal,
+    ensures done { IfOk result (λ status. IsGetOf (grid_calls R.Stream.contents R.Stream.remaining)
+        words.now status (O.contents out.old) (O.contents out.new)) }
+    ensures undone { IfErr result (λ failure. IsGetLeft
+        (grid_calls R.Stream.contents R.Stream.remaining) words.now failure (O.contents out.old)
+        (O.contents out.new)) }
+    ensures filed { IsGetFiledOf (grid_calls R.Stream.contents R.Stream.remaining) words.now
+        result (F.acts files.old) (F.acts files.new) }
+{
+    let cap = cap_text(rt, words.cap, words.cap_file)?;
+    let asked = get_words(words, cap.as_str());
+    got_range(rt, &asked, environment, files, out, progress)
+}
+
+// Checks the file of such a cap.
+fn checked<R, E>(
+    rt: &R,
+    words: &CheckWords<'_>,
+    environment: &Environment<'_>,
+    progress: &mut Progress<'_, R, E>,
+) -> Result<Outcome, Fault>
+where
+    R: Files + io::Input + Net + Clock + RandomSource + AllocGlobal + Clone + Drop,
+    E: io::Write + IsTerminal,
+    ensures { IfOk result
+        (IsCheckFor (grid_calls R.Stream.contents R.Stream.remaining) words.now) }
+{
+    let cap = cap_text(rt, words.cap, words.cap_file)?;
+    let asked = check_words(words, cap.as_str());
+    check(rt, &asked, environment, progress)
+}
+
+// Repairs it.
+fn repaired<R, E>(
+    rt: &R,
+    words: &RepairWords<'_>,
+    environment: &Environment<'_>,
+    progress: &mut Progress<'_, R, E>,
+) -> Result<Outcome, Fault>
+where
+    R: Files + io::Input + Net + Clock + RandomSource + Locks + AllocGlobal + Clone + Drop,
+    E: io::Write + IsTerminal,
+    ensures { IfOk result
+        (IsRepairFor (grid_calls R.Stream.contents R.Stream.remaining) words.now) }
+{
+    let cap = cap_text(rt, words.cap, words.cap_file)?;
+    let asked = repair_words(words, cap.as_str());
+    repair(rt, &asked, environment, progress)
+}
+
+// Gets a range, and gives the exit status.
+fn got_range<R, F, O, E>(
     rt: &R,
     words: &GetWords<'_>,
     environment: &Environment<'_>,

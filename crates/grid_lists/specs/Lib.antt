@@ -2,6 +2,8 @@
 pub mod Names
 pub mod Puts
 pub mod Gets
+pub mod Looks
 -- words of private clauses
 pub mod Ends
 pub mod GetEnds
+pub mod LookEnds

@@ -12,13 +12,13 @@ ghost use Rattle.grid_telling.specs.declared.outcome.Failure.TheVariants as fail
 
 use crate::below::{make_folder, make_way, may_write, path_in, text_of};
 use crate::listed::{tell_misnamed, tell_refused, tell_unfound, tell_unread};
+use crate::looking::find_grid;
 use crate::names::read_text;
 use crate::statuses::{DONE, UNREAD, status_after};
 use cap_text::Cap;
 use catalogues::{Catalogue, Line, chooses, name_below};
 use grid_faults::Fault;
 use grid_gets::{NamedFiles, OpenGrid, Place, get_file};
-use grid_marks::{is_grid, known_grid};
 use grid_shares::Environment;
 use grid_telling::{Failure, Progress};
 use grid_words::GetFilesWords;
@@ -69,10 +69,7 @@ fn begin<R>(rt: &R, words: &GetFilesWords<'_>, is_known: bool) -> Result<(), Fau
 where
     R: Files + AllocGlobal + Clone + Drop,
 {
-    is_grid(rt, words.grid)?;
-    if is_known {
-        known_grid(rt, words.grid)?;
-    }
+    find_grid(rt, words.grid, is_known)?;
     make_folder(rt, words.into)
 }
 

@@ -1,3 +1,4 @@
 pub mod Told
 pub mod Chosen
 pub mod MadeAnew
+mod StandingLemmas

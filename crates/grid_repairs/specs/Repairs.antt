@@ -1,7 +1,7 @@
 -- What a repair tells.
 use Rattle.std.specs.Prelude.{◌≡◌, ℕ, List, ◌++◌, Bool, Option, Some, None, true, false, codes}
-use Rattle.std.specs.Prelude.{All, decimal, map, nat_eq}
-use Rattle.std.specs.List.{Contains, IsDistinct}
+use Rattle.std.specs.Prelude.{All, decimal, map}
+use Rattle.std.specs.List.{Contains}
 use Rattle.cap_text.specs.Cap.{VerifyCapValue}
 use Rattle.cap_text.specs.CapText.{Spells}
 use Rattle.cap_text.specs.declared.cap.Cap.{Cap}
@@ -17,7 +17,7 @@ use Rattle.checker.specs.declared.status.ShareVerdict.{ShareVerdict}
 use Rattle.grid_servers.specs.Grids.{FolderGridState, GridCalls}
 use Rattle.grid_servers.specs.Opened.{AreOpened}
 use Rattle.grid_words.specs.declared.words.RepairWords.{RepairWords}
-use Rattle.grid_repairs.specs.Checks.{IsChecked, literal_text, verify_of}
+use Rattle.grid_repairs.specs.Checks.{IsCheckedBy, literal_text, verify_of}
 use Rattle.grid_shares.specs.Placing.{ArePlaced}
 use Rattle.grid_shares.specs.Puts.{stored_status}
 use Rattle.grid_repairs.specs.Remaking.{AreMadeAnew, lacks_memory, remade_calls}
@@ -39,14 +39,13 @@ pub record ArePlacesOfGood (verdicts : List ShareVerdict) (places : List SharePl
   pub all : (pair : Pair) → Contains (good_pairs verdicts) pair
       → Contains (map (λ (p : SharePlace). p.share) places) pair.1
 
--- A check found good shares of a cap's file, of as many numbers as are needed. All shares were made
--- anew of some of these, which were read once where they stand, and they were placed on the same
--- servers, each piece made of what was read once more; and this is told.
-pub record IsRepairOf {S : Type 0} (calls : GridCalls S) (grid : List ℕ) (mend : Bool)
-    (cap : VerifyCapValue) (happy : ℕ) (servers : List ℕ) (outcome : Outcome) : Type 0 where
-  pub report : Report
-  pub checked : IsChecked calls grid cap servers report
-  pub enough : report.recoverable ≡ true
+-- By this report a check found good shares of a cap's file, of as many numbers as are needed. All
+-- shares were made anew of some of these, which were read once where they stand, and they were
+-- placed on the same servers, which may have been kept open for it, each piece made of what was
+-- read once more.
+pub record IsRepairedOver {S : Type 0} (calls : GridCalls S) (grid : List ℕ) (kept mend : Bool)
+    (report : Report) (cap : VerifyCapValue) (happy : ℕ) (servers : List ℕ) (stored : Stored)
+    : Type 0 where
   pub places : List SharePlace
   pub of_good : ArePlacesOfGood report.verdicts places
   pub bytes : FetchedState (FolderGridState S)
@@ -55,11 +54,38 @@ pub record IsRepairOf {S : Type 0} (calls : GridCalls S) (grid : List ℕ) (mend
   pub reading : List SharePlace
   pub anew : AreMadeAnew (IsReadOver calls) (IsUnread calls) cap happy
       places bytes made reading
-  pub stored : Stored
   pub placed : ArePlaced (remade_calls
       (GivesDecoded (IsReadOver calls) (IsUnread calls))
-      (λ s. s.failures) lacks_memory) calls grid false mend reading servers made stored
-  pub told : outcome.text.items ≡ codes "happiness " ++ (decimal stored.happiness ++ codes "\n")
+      (λ s. s.failures) lacks_memory) calls grid kept mend reading servers made stored
+
+-- A file was repaired by a check at the servers of a grid, and on these; those for reading and those
+-- for writing were kept open, or just opened.
+pub record IsRepairedBy {S : Type 0} (calls : GridCalls S) (grid : List ℕ) (read_on write_on : Bool)
+    (mend : Bool) (happy : ℕ) (cap : VerifyCapValue) (stored : Stored) : Type 0 where
+  pub report : Report
+  pub by_check : IsCheckedBy calls grid read_on cap report
+  pub enough : report.recoverable ≡ true
+  pub over : IsRepairedOver calls grid write_on mend report cap happy by_check.stood.servers stored
+
+-- What became of the shares of a file among others: nothing where it has no verify cap.
+abbrev pub IsRepairedFile : {S : Type 0} → GridCalls S → List ℕ → Bool → Bool → Bool → ℕ
+    → Option VerifyCapValue → Option Stored → Type 0
+IsRepairedFile calls grid read_on write_on mend happy None stored = stored ≡ None
+IsRepairedFile calls grid read_on write_on mend happy (Some cap) None = ⊥
+IsRepairedFile calls grid read_on write_on mend happy (Some cap) (Some stored) =
+    IsRepairedBy calls grid read_on write_on mend happy cap stored
+
+-- the line of a happiness
+abbrev pub happiness_text : ℕ → List ℕ
+happiness_text happiness = codes "happiness " ++ (decimal happiness ++ codes "\n")
+
+-- What is told of a cap's file that was repaired, and the exit status. The servers were opened for
+-- it.
+pub record IsRepairOf {S : Type 0} (calls : GridCalls S) (grid : List ℕ) (mend : Bool)
+    (cap : VerifyCapValue) (happy : ℕ) (outcome : Outcome) : Type 0 where
+  pub stored : Stored
+  pub repaired : IsRepairedBy calls grid false false mend happy cap stored
+  pub told : outcome.text.items ≡ happiness_text stored.happiness
   pub status_is : outcome.status ≡ stored_status stored.is_cleared
 
 -- What these words tell by the verify cap of their cap: that there is none, or what became of its
@@ -68,8 +94,8 @@ abbrev pub IsRepairFor : {S : Type 0} → GridCalls S → RepairWords → Option
     → Type 0
 IsRepairFor calls words None outcome =
     (outcome.text.items ≡ literal_text false) × (outcome.status ≡ 0)
-IsRepairFor calls words (Some cap) outcome = (servers : List ℕ) × IsDistinct nat_eq servers
-    × IsRepairOf calls words.grid.now words.mend cap words.happy servers outcome
+IsRepairFor calls words (Some cap) outcome =
+    IsRepairOf calls words.grid.now words.mend cap words.happy outcome
 
 -- What a repair tells by its words, whose text is that of a cap.
 pub record IsRepairBy {S : Type 0} (calls : GridCalls S) (words : RepairWords) (outcome : Outcome)

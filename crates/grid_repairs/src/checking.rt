@@ -1,39 +1,29 @@
 //! `grid check`: a verdict on each share of a cap's file that the servers of a grid offer.
 
-ghost use Rattle.std.specs.Prelude.{◌≡◌, ◌<◌, length, nat_eq, IfOk};
+ghost use Rattle.std.specs.Prelude.{◌≡◌, IfOk, IfSome, is_some, nat_eq};
 ghost use Rattle.std.specs.List.{IsDistinct};
 ghost use Rattle.std.specs.String.{string_bytes};
+ghost use Rattle.grid_rules.specs.ReportLines.{report_status};
 ghost use Rattle.grid_servers.specs.Grids.{grid_calls};
-ghost use Rattle.carried_operations.specs.Checked.{HasBegun, IsCarried};
-ghost use Rattle.grid_repairs.specs.Checks.{IsCheckBy, IsCheckOf, IsChecked, check_text};
-ghost use Rattle.grid_repairs.specs.Checks.{literal_text, verify_of};
+ghost use Rattle.grid_repairs.specs.Checks.{AreCheckedTo, IsCheckBy, IsCheckedAt, IsCheckedBy};
+ghost use Rattle.grid_repairs.specs.Checks.{IsCheckedFile, WereChecked, check_text, literal_text};
+ghost use Rattle.grid_repairs.specs.Checks.{verify_of};
 
 use crate::DONE;
+use crate::standing::{OpenGrid, Place};
 use cap_text::{Cap, VerifyCap};
-use carried_operations::checks::carry_check;
-use checker::Check;
 use checker::status::Report;
 use grid_faults::Fault;
-use grid_rules::becoming::fault_of_loop;
-use grid_rules::{missing_shares, read_cap, report_json, report_lines, report_status, turn_limit};
-use grid_servers::{
-    FIRST_SESSION, FolderGrid, Purpose, asked_servers, open_servers, pieces_at_once,
-};
+use grid_rules::{missing_shares, read_cap, report_json, report_lines, report_status};
 use grid_shares::{Environment, Outcome};
-use grid_telling::{Counting, Progress, Verb, note_blame, note_servers};
+use grid_telling::{Progress, Verb, note_blame};
 use grid_words::CheckWords;
-use local_grid::Outside;
 use share_reading::Verdict;
 use std::alloc::Global;
 use std::io::{IsTerminal, Write};
 use std::net::Net;
 use std::random::RandomSource;
 use std::rt::{Clock, Files};
-use wire::message::NodeId;
-
-/// How many bytes of a share are no blocks, at most: those of three trees over 1,048,576 segments,
-/// and of its header, its share hashes and its extension block.
-const MOST_HASHES: u64 = 1 << 28;
 
 // What is told of a cap that holds its file, to people.
 const LITERAL: &[u8] = b"literal\n";
@@ -54,11 +44,87 @@ where
     E: Write + IsTerminal,
     ensures { IfOk result (IsCheckBy (grid_calls R.Stream.contents R.Stream.remaining) words.now) }
 {
-    let Some(cap) = verify_cap(read_cap(words.cap)?) else {
+    let Some(cap) = verify_cap(&read_cap(words.cap)?) else {
         return literal_outcome(rt.alloc(), words.json);
     };
-    let servers = asked_servers(rt, words.grid, words.known || environment.known)?;
-    check_over(rt, words, servers.as_slice(), cap, progress)
+    let place = Place {
+        grid: words.grid,
+        over_sockets: words.net,
+        is_known: words.known || environment.known,
+    };
+    let total = cap.total();
+    let mut kept = None;
+    let report = check_shares(rt, &place, cap, &mut kept, progress)?;
+    told_outcome(rt.alloc(), words, &report, total)
+}
+
+// What is told of a report, and the exit status.
+fn told_outcome(
+    alloc: Global,
+    words: &CheckWords<'_>,
+    report: &Report,
+    total: u16,
+) -> Result<Outcome, Fault>
+    ensures told { IfOk result
+        (λ outcome. outcome.text.items ≡ check_text report.now total words.now.json) }
+    ensures status { IfOk result
+        (λ outcome. outcome.status ≡ report_status report.now words.now.strict) }
+{
+    Ok(Outcome {
+        text: text_of(alloc, words.json, report, total)?.into_bytes(),
+        status: report_status(report, words.strict),
+    })
+}
+
+/// What a check finds of the shares of one file among others: none where its cap holds the file.
+/// The servers are those that are kept, or else those of this place, which are opened. They are
+/// kept where none of them fell silent; after a fault none are.
+pub fn check_file<R, E>(
+    rt: &R,
+    place: &Place<'_>,
+    cap: &Cap,
+    kept: &mut Option<OpenGrid<R>>,
+    progress: &mut Progress<'_, R, E>,
+) -> Result<Option<Report>, Fault>
+where
+    R: Files + Net + Clock + RandomSource + AllocGlobal + Clone + Drop,
+    E: Write + IsTerminal,
+    requires { IfSome kept.old
+        (WereChecked (grid_calls R.Stream.contents R.Stream.remaining) place.now.grid.now) }
+    ensures found { IfOk result (IsCheckedFile
+        (grid_calls R.Stream.contents R.Stream.remaining) place.now.grid.now (is_some kept.old)
+        (verify_of cap.now)) }
+    ensures kept { IfSome kept.new
+        (WereChecked (grid_calls R.Stream.contents R.Stream.remaining) place.now.grid.now) }
+{
+    match verify_cap(cap) {
+        Some(cap) => Ok(Some(check_shares(rt, place, cap, kept, progress)?)),
+        None => Ok(None),
+    }
+}
+
+// What a check finds of the shares of a cap's file.
+fn check_shares<R, E>(
+    rt: &R,
+    place: &Place<'_>,
+    cap: VerifyCap,
+    kept: &mut Option<OpenGrid<R>>,
+    progress: &mut Progress<'_, R, E>,
+) -> Result<Report, Fault>
+where
+    R: Files + Net + Clock + RandomSource + AllocGlobal + Clone + Drop,
+    E: Write + IsTerminal,
+    requires { IfSome kept.old
+        (WereChecked (grid_calls R.Stream.contents R.Stream.remaining) place.now.grid.now) }
+    ensures found { IfOk result (IsCheckedBy (grid_calls R.Stream.contents R.Stream.remaining)
+        place.now.grid.now (is_some kept.old) cap) }
+    ensures kept { IfSome kept.new
+        (WereChecked (grid_calls R.Stream.contents R.Stream.remaining) place.now.grid.now) }
+{
+    let mut open = OpenGrid::take(rt, place, kept)?;
+    let report = find_shares(rt, place, cap, &mut open, progress)?;
+    *kept = open.still_speaking();
+    Ok(report)
 }
 
 /// What is told of a cap that holds its file.
@@ -73,39 +139,13 @@ pub(crate) fn literal_outcome(alloc: Global, json: bool) -> Result<Outcome, Faul
     })
 }
 
-// What is told of a cap's file by these servers, which are distinct, and the exit status.
-fn check_over<R, E>(
-    rt: &R,
-    words: &CheckWords<'_>,
-    servers: &[NodeId],
-    cap: VerifyCap,
-    progress: &mut Progress<'_, R, E>,
-) -> Result<Outcome, Fault>
-where
-    R: Files + Net + Clock + RandomSource + AllocGlobal + Clone + Drop,
-    E: Write + IsTerminal,
-    requires { IsDistinct nat_eq servers.now }
-    ensures { IfOk result (IsCheckOf (grid_calls R.Stream.contents R.Stream.remaining)
-        words.now.grid.now cap servers.now words.now.json words.now.strict) }
-{
-    let total = cap.total();
-    let found = find_shares(rt, words, servers, cap, progress);
-    progress.clear();
-    let report = found?;
-    note_report(rt, words.grid, &report, total, progress)?;
-    Ok(Outcome {
-        text: text_of(rt.alloc(), words.json, &report, total)?.into_bytes(),
-        status: report_status(&report, words.strict),
-    })
-}
-
 /// The verify cap of a cap; none of one that holds its file.
-pub(crate) fn verify_cap(cap: Cap) -> Option<VerifyCap>
-    ensures { result ≡ verify_of cap }
+pub(crate) fn verify_cap(cap: &Cap) -> Option<VerifyCap>
+    ensures { result ≡ verify_of cap.now }
 {
     match cap {
         Cap::Chk(cap) => Some(cap.to_verify()),
-        Cap::Verify(cap) => Some(cap),
+        Cap::Verify(cap) => Some(*cap),
         Cap::Lit(_) => None,
     }
 }
@@ -148,59 +188,28 @@ where
     Ok(())
 }
 
-// What a check finds at these servers of a grid, which are distinct.
+// What a check finds at these servers of a grid.
 fn find_shares<R, E>(
     rt: &R,
-    words: &CheckWords<'_>,
-    servers: &[NodeId],
+    place: &Place<'_>,
     cap: VerifyCap,
+    open: &mut OpenGrid<R>,
     progress: &mut Progress<'_, R, E>,
 ) -> Result<Report, Fault>
 where
     R: Files + Net + Clock + RandomSource + AllocGlobal + Clone + Drop,
     E: Write + IsTerminal,
-    requires { IsDistinct nat_eq servers.now }
-    ensures { IfOk result (IsChecked (grid_calls R.Stream.contents R.Stream.remaining)
-        words.now.grid.now cap servers.now) }
+    requires { IsDistinct nat_eq open.old.servers }
+    ensures found { IfOk result
+        (IsCheckedAt (grid_calls R.Stream.contents R.Stream.remaining) cap open.old) }
+    ensures led { IfOk result (λ _.
+        AreCheckedTo (grid_calls R.Stream.contents R.Stream.remaining) open.old open.new) }
 {
-    let mut nodes = open_servers(rt, words.grid, servers, Purpose::Reading, words.net)?;
-    progress.begin(Verb::Check, Counting::Answered(share_bytes(&cap)), 0);
-    let now = nodes.clock();
-    let pieces = pieces_at_once(&nodes);
-    let check = Check::start_ahead(rt.alloc(), cap, servers, FIRST_SESSION, now, pieces)?;
-    let check = carry(rt.alloc(), check, servers.len(), &mut nodes, progress)?;
-    note_servers(rt, words.grid, servers, &nodes, Purpose::Reading, progress)?;
-    // One without a report found no memory.
-    check.report(rt.alloc())?.ok_or(Fault::OutOfMemory)
-}
-
-/// About how many bytes a share of a file has: those of its blocks.
-pub(crate) fn share_bytes(cap: &VerifyCap) -> u64 {
-    let needed = u64::from(cap.needed()).max(1);
-    cap.size().div_ceil(needed)
-}
-
-// How many turns a check at so many servers may take: each of them may offer all shares.
-fn check_limit(cap: &VerifyCap, servers: u64) -> u64 {
-    let shares = servers.saturating_mul(u64::from(cap.total()));
-    turn_limit(shares, share_bytes(cap).saturating_add(MOST_HASHES))
-}
-
-/// Carries a check at so many servers to its end.
-pub(crate) fn carry<R, E>(
-    alloc: Global,
-    check: Check,
-    servers: usize,
-    nodes: &mut FolderGrid<R>,
-    progress: &mut Progress<'_, R, E>,
-) -> Result<Check, Fault>
-where
-    R: Files + Net + Clock + RandomSource + AllocGlobal + Clone + Drop,
-    E: Write + IsTerminal,
-    requires { HasBegun check }
-    ensures { IfOk result (λ ended. IsCarried (grid_calls R.Stream.contents R.Stream.remaining)
-        check nodes.old ended nodes.new) }
-{
-    let limit = check_limit(check.cap(), servers as u64);
-    carry_check(alloc, nodes, check, limit, progress).map_err(fault_of_loop)
+    let total = cap.total();
+    let found = open.check(rt.alloc(), cap, Verb::Check, progress);
+    progress.clear();
+    let report = found?;
+    open.note(rt, place.grid, progress)?;
+    note_report(rt, place.grid, &report, total, progress)?;
+    Ok(report)
 }

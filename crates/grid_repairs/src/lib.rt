@@ -5,14 +5,17 @@
 //! to their ends. What is told of them is told by what the servers answered.
 #![tactic(auto)]
 
+mod carrying;
 mod checking;
 mod choosing;
 mod made_shares;
 mod remaking;
 mod repairing;
+mod standing;
 
-pub use checking::check;
-pub use repairing::repair;
+pub use checking::{check, check_file};
+pub use repairing::{Repairing, may_repair, repair, repair_file};
+pub use standing::{OpenGrid, Place};
 
 // The exit status of what is done.
 const DONE: u8 = 0;

@@ -90,37 +90,19 @@ impl Stored {
     }
 }
 
-/// Places shares on servers, which are opened for it. First what stands under their names in the
-/// servers' folders, and is none of them, is set aside. A server at which that fails is left out,
-/// so that nothing counts which it holds. The files of the shares at these places stay, which are
-/// read for it. Nothing was changed in any folder before this. Their locks are held meanwhile.
+/// Places shares on servers: those that are kept open, or else these, which are opened for it.
+/// First what stands under their names in the servers' folders, and is none of them, is set aside.
+/// A server at which that fails is left out, so that nothing counts which it holds. The files of
+/// the shares at these places stay, which are read for it. Nothing was changed in any folder before
+/// this. Their locks are held meanwhile.
+///
+/// The servers are opened anew where a file was touched on the way, or a folder is not there as it
+/// was: so nothing counts that they told of files which are there no longer. They are kept where
+/// each answered; after a fault none are.
 ///
 /// `InUse` where a process serves one of the folders: then nothing is changed. `Unhappy` where
 /// fewer servers than were wanted hold a share of their own.
 pub fn place_shares<R, P, E>(
-    rt: &R,
-    placing: &Placing<'_>,
-    ready: ReadyUpload<P>,
-    reading: &[SharePlace],
-    progress: &mut Progress<'_, R, E>,
-) -> Result<Stored, Fault>
-where
-    R: Files + Net + Clock + RandomSource + Locks + AllocGlobal + Clone + Drop,
-    P: Pieces + Drop,
-    E: Write + IsTerminal,
-    requires { IsDistinct nat_eq placing.now.servers.now }
-    ensures { IfOk result (ArePlaced (upload_calls P.gives P.fails)
-        (grid_calls R.Stream.contents R.Stream.remaining) placing.now.grid.now false
-        placing.now.mend reading.now placing.now.servers.now ready) }
-{
-    let mut kept = None;
-    place_more(rt, placing, &mut kept, ready, reading, progress)
-}
-
-/// The same over the servers that are kept open, and keeps them where each answered. They are
-/// opened anew where a file was touched on the way, or a folder is not there as it was: so nothing
-/// counts that they told of files which are there no longer. After a fault none are kept.
-pub(crate) fn place_more<R, P, E>(
     rt: &R,
     placing: &Placing<'_>,
     kept: &mut Option<OpenGrid<R>>,

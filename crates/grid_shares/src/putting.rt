@@ -21,7 +21,7 @@ ghost use Rattle.grid_shares.specs.Puts.{put_text, said_by, streamed_calls, whol
 ghost use Rattle.grid_shares.specs.Standing.{WereOpened};
 
 use crate::numbers::{Choices, read_choices, server_count};
-use crate::placing::{Placing, Stored, durability_of, place_more};
+use crate::placing::{Placing, Stored, durability_of, place_shares};
 use crate::standing::OpenGrid;
 use crate::{DONE, Environment, Outcome};
 use cap_text::{Cap, LitCap, ReadCap};
@@ -376,7 +376,7 @@ where
     if kept.is_none() {
         begin_grid(rt, &placing, progress)?;
     }
-    let stored = place_more(rt, &placing, kept, ready, &[], progress)?;
+    let stored = place_shares(rt, &placing, kept, ready, &[], progress)?;
     progress.clear();
     Ok(stored_file(cap, stored))
 }

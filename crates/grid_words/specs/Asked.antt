@@ -9,7 +9,10 @@ use Rattle.std.specs.Str.Parse.{digits_value, without_leading_plus}
 use Rattle.std.specs.Char.{digit_value}
 use Rattle.clap.specs.Words.{Row, Text, all_of, first_of, found_of, one_of, rows_of}
 use Rattle.clap.specs.declared.parser.matches.ArgMatches.{ArgMatches}
+use Rattle.grid_words.specs.declared.catalogue_words.CheckFilesWords.{CheckFilesWords}
+use Rattle.grid_words.specs.declared.catalogue_words.ChosenWords.{ChosenWords}
 use Rattle.grid_words.specs.declared.catalogue_words.GetFilesWords.{GetFilesWords}
+use Rattle.grid_words.specs.declared.catalogue_words.RepairFilesWords.{RepairFilesWords}
 use Rattle.grid_words.specs.declared.words.CheckWords.{CheckWords}
 use Rattle.grid_words.specs.declared.words.GetWords.{GetWords}
 use Rattle.grid_words.specs.declared.words.InitWords.{InitWords}
@@ -110,6 +113,7 @@ pub record AsksPut (rows : List Row) (words : PutWords) : Type 0 where
 
 pub record AsksGet (rows : List Row) (words : GetWords) : Type 0 where
   pub cap : words.cap.now ≡ text_under (codes "CAP") rows
+  pub cap_file : option_map (λ path. path.now) words.cap_file ≡ first_of (codes "cap-file") rows
   pub grid : words.grid.now ≡ text_under (codes "grid") rows
   pub start : words.from ≡ unwrap_or (number_under (codes "from") rows) 0
   pub to : words.to ≡ number_under (codes "to") rows
@@ -129,8 +133,34 @@ pub record AsksGetFiles (rows : List Row) (words : GetFilesWords) : Type 0 where
   pub known : IsFlag (one_of (codes "known") rows) words.known
   pub verbose : IsFlag (one_of (codes "verbose") rows) words.verbose
 
+-- files of a catalogue
+pub record AsksChosen (rows : List Row) (words : ChosenWords) : Type 0 where
+  pub caps : first_of (codes "caps") rows ≡ Some words.caps.now
+  pub names : map (λ n. n.now) words.names.items
+      ≡ option_to_list (first_of (codes "CAP") rows) ++ texts_under (codes "NAME") rows
+
+pub record AsksCheckFiles (rows : List Row) (words : CheckFilesWords) : Type 0 where
+  pub chosen : AsksChosen rows words.chosen
+  pub grid : words.grid.now ≡ text_under (codes "grid") rows
+  pub net : IsFlag (one_of (codes "net") rows) words.net
+  pub json : IsFlag (one_of (codes "json") rows) words.json
+  pub strict : IsFlag (one_of (codes "strict") rows) words.strict
+  pub known : IsFlag (one_of (codes "known") rows) words.known
+  pub verbose : IsFlag (one_of (codes "verbose") rows) words.verbose
+
+pub record AsksRepairFiles (rows : List Row) (words : RepairFilesWords) : Type 0 where
+  pub chosen : AsksChosen rows words.chosen
+  pub grid : words.grid.now ≡ text_under (codes "grid") rows
+  pub happy : words.happy ≡ unwrap_or (number_under (codes "happy") rows) 0
+  pub net : IsFlag (one_of (codes "net") rows) words.net
+  pub no_sync : IsFlag (one_of (codes "no-sync") rows) words.no_sync
+  pub mend : IsFlag (one_of (codes "mend") rows) words.mend
+  pub known : IsFlag (one_of (codes "known") rows) words.known
+  pub verbose : IsFlag (one_of (codes "verbose") rows) words.verbose
+
 pub record AsksCheck (rows : List Row) (words : CheckWords) : Type 0 where
   pub cap : words.cap.now ≡ text_under (codes "CAP") rows
+  pub cap_file : option_map (λ path. path.now) words.cap_file ≡ first_of (codes "cap-file") rows
   pub grid : words.grid.now ≡ text_under (codes "grid") rows
   pub net : IsFlag (one_of (codes "net") rows) words.net
   pub json : IsFlag (one_of (codes "json") rows) words.json
@@ -140,6 +170,7 @@ pub record AsksCheck (rows : List Row) (words : CheckWords) : Type 0 where
 
 pub record AsksRepair (rows : List Row) (words : RepairWords) : Type 0 where
   pub cap : words.cap.now ≡ text_under (codes "CAP") rows
+  pub cap_file : option_map (λ path. path.now) words.cap_file ≡ first_of (codes "cap-file") rows
   pub grid : words.grid.now ≡ text_under (codes "grid") rows
   pub happy : words.happy ≡ unwrap_or (number_under (codes "happy") rows) 0
   pub net : IsFlag (one_of (codes "net") rows) words.net
@@ -178,8 +209,12 @@ Asks name rows (requests.Put words) = (name ≡ codes "put") × AsksPut rows wor
 Asks name rows (requests.Get words) = (name ≡ codes "get")
     × (first_of (codes "caps") rows ≡ None) × AsksGet rows words
 Asks name rows (requests.GetFiles words) = (name ≡ codes "get") × AsksGetFiles rows words
-Asks name rows (requests.Check words) = (name ≡ codes "check") × AsksCheck rows words
-Asks name rows (requests.Repair words) = (name ≡ codes "repair") × AsksRepair rows words
+Asks name rows (requests.Check words) = (name ≡ codes "check")
+    × (first_of (codes "caps") rows ≡ None) × AsksCheck rows words
+Asks name rows (requests.CheckFiles words) = (name ≡ codes "check") × AsksCheckFiles rows words
+Asks name rows (requests.Repair words) = (name ≡ codes "repair")
+    × (first_of (codes "caps") rows ≡ None) × AsksRepair rows words
+Asks name rows (requests.RepairFiles words) = (name ≡ codes "repair") × AsksRepairFiles rows words
 Asks name rows (requests.Scrub words) = (name ≡ codes "scrub") × AsksScrub rows words
 Asks name rows (requests.Serve words) = (name ≡ codes "serve") × AsksServe rows words
 Asks name rows (requests.World path) = (name ≡ codes "world")
@@ -199,7 +234,9 @@ asks_notes (requests.Put words) = words.verbose
 asks_notes (requests.Get words) = words.verbose
 asks_notes (requests.GetFiles words) = words.verbose
 asks_notes (requests.Check words) = words.verbose
+asks_notes (requests.CheckFiles words) = words.verbose
 asks_notes (requests.Repair words) = words.verbose
+asks_notes (requests.RepairFiles words) = words.verbose
 asks_notes (requests.Scrub words) = words.verbose
 asks_notes (requests.Serve words) = words.verbose
 asks_notes (requests.World path) = false
@@ -211,6 +248,8 @@ wants_known (requests.Put words) = words.known
 wants_known (requests.Get words) = words.known
 wants_known (requests.GetFiles words) = words.known
 wants_known (requests.Check words) = words.known
+wants_known (requests.CheckFiles words) = words.known
 wants_known (requests.Repair words) = words.known
+wants_known (requests.RepairFiles words) = words.known
 wants_known (requests.Scrub words) = words.known
 wants_known _ = false

@@ -106,9 +106,12 @@ put_rules = files
     ∷ verbose
     ∷ []
 
--- a cap, unless there is a catalogue
+-- a cap, unless it stands in a file or a catalogue
 abbrev pub one_cap : Rule
 one_cap = excluding (new_rule (codes "CAP"))
+
+abbrev pub cap_file : Rule
+cap_file = excluding (option (codes "cap-file"))
 
 -- names of the files of a catalogue
 abbrev pub chosen : Rule
@@ -132,6 +135,7 @@ get_rules = one_cap
     ∷ number_or (codes "from") (codes "0")
     ∷ number (codes "to")
     ∷ output
+    ∷ cap_file
     ∷ caps
     ∷ into
     ∷ overwrite
@@ -141,8 +145,11 @@ get_rules = one_cap
     ∷ []
 
 abbrev pub check_rules : List Rule
-check_rules = operand (codes "CAP")
+check_rules = one_cap
+    ∷ chosen
     ∷ grid_folder
+    ∷ cap_file
+    ∷ caps
     ∷ flag (codes "net")
     ∷ flag (codes "json")
     ∷ flag (codes "strict")
@@ -151,8 +158,11 @@ check_rules = operand (codes "CAP")
     ∷ []
 
 abbrev pub repair_rules : List Rule
-repair_rules = operand (codes "CAP")
+repair_rules = one_cap
+    ∷ chosen
     ∷ grid_folder
+    ∷ cap_file
+    ∷ caps
     ∷ happy
     ∷ flag (codes "net")
     ∷ flag (codes "no-sync")

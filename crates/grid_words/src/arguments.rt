@@ -47,17 +47,6 @@ pub(crate) fn files0_from<'a>(alloc: Global) -> Arg<'a>
     )
 }
 
-/// The cap of a file whose shares are looked at.
-pub(crate) fn verify_cap<'a>(alloc: Global) -> Arg<'a>
-    ensures { HasRule (operand (codes "CAP")) result }
-{
-    operand(
-        alloc,
-        "CAP",
-        "The cap that `put` printed, or its verify cap",
-    )
-}
-
 /// A word that has to be there.
 pub(crate) fn operand<'a>(alloc: Global, name: &'a str, help: &'a str) -> Arg<'a>
     ensures { HasRule (operand name.entry.now) result }

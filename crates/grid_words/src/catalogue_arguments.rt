@@ -1,9 +1,10 @@
-//! The arguments of a `get` of the files of a catalogue.
+//! The arguments that tell whose cap is read: a word, a file, or the lines of a catalogue.
 
 ghost use Rattle.std.specs.Prelude.{IfOk};
 ghost use Rattle.clap.specs.Walk.{Rule};
 ghost use Rattle.grid_words.specs.Builds.{HasRule};
-ghost use Rattle.grid_words.specs.CommandLine.{caps, chosen, excluding, into, one_cap, overwrite};
+ghost use Rattle.grid_words.specs.CommandLine.{cap_file, caps, chosen, excluding, into, one_cap};
+ghost use Rattle.grid_words.specs.CommandLine.{overwrite};
 
 use crate::arguments::{flag, option};
 use clap::Arg;
@@ -13,9 +14,44 @@ use std::alloc::{AllocError, Global};
 pub(crate) fn read_cap<'a>(alloc: Global) -> Result<Arg<'a>, AllocError>
     ensures { IfOk result (HasRule one_cap) }
 {
+    one_cap(
+        alloc,
+        "The cap that `put` printed, or with --caps the first NAME",
+    )
+}
+
+/// The same of a file whose shares are looked at.
+pub(crate) fn verify_cap<'a>(alloc: Global) -> Result<Arg<'a>, AllocError>
+    ensures { IfOk result (HasRule one_cap) }
+{
+    one_cap(
+        alloc,
+        "The cap that `put` printed, or its verify cap, or with --caps the first NAME",
+    )
+}
+
+// A word that is a cap, unless it stands in a file or a catalogue.
+fn one_cap<'a>(alloc: Global, help: &'a str) -> Result<Arg<'a>, AllocError>
+    ensures { IfOk result (HasRule one_cap) }
+{
     Arg::new(alloc, "CAP")
-        .help("The cap that `put` printed, or with --caps the first NAME")
-        .required_unless_present("caps")
+        .help(help)
+        .required_unless_present("caps")?
+        .required_unless_present("cap-file")
+}
+
+/// The file that has the cap.
+pub(crate) fn cap_file<'a>(alloc: Global) -> Result<Arg<'a>, AllocError>
+    ensures { IfOk result (HasRule cap_file) }
+{
+    option(
+        alloc,
+        "cap-file",
+        "FILE",
+        "Take the cap that is the first line of FILE, in place of CAP; - is standard input",
+    )
+    .conflicts_with("CAP")?
+    .conflicts_with("caps")
 }
 
 /// Names of the files of a catalogue, behind the first.
@@ -25,10 +61,17 @@ pub(crate) fn chosen<'a>(alloc: Global) -> Result<Arg<'a>, AllocError>
     Arg::new(alloc, "NAME")
         .num_args(1..)
         .help(
-            "With --caps get only files with these names, and those below folders with these \
+            "With --caps take only files with these names, and those below folders with these \
 names, in which * and ? stand for what they do in a shell",
         )
         .requires_arg("caps")
+}
+
+/// The catalogue whose files are looked at.
+pub(crate) fn looked_at_caps<'a>(alloc: Global, help: &'a str) -> Result<Arg<'a>, AllocError>
+    ensures { IfOk result (HasRule caps) }
+{
+    option(alloc, "caps", "CATALOGUE", help).conflicts_with("cap-file")
 }
 
 /// The catalogue whose files are to be read.

@@ -13,9 +13,11 @@ use crate::arguments::{
     add, adopt, anyone, files, files_from, files0_from, flag, grid_folder, happy, json,
     kept_secret, known, listen, mark, max_segment, mend, needed, net, new_grid, new_servers,
     no_sync, number, operand, output, replace, room, secret, secret_file, served_folder, server,
-    servers, total, verbose, verify_cap,
+    servers, total, verbose,
 };
-use crate::catalogue_arguments::{caps, chosen, into, overwrite, read_cap};
+use crate::catalogue_arguments::{
+    cap_file, caps, chosen, into, looked_at_caps, overwrite, read_cap, verify_cap,
+};
 use clap::{Arg, Command};
 use std::alloc::{AllocError, Global};
 
@@ -201,6 +203,7 @@ fn get_arguments<'a>(alloc: Global) -> Result<Vec<Arg<'a>>, AllocError>
             "The offset behind the last byte [default: the file's size]",
         ),
         output(alloc),
+        cap_file(alloc)?,
         caps(alloc)?,
         into(alloc)?,
         overwrite(alloc)?,
@@ -217,7 +220,7 @@ fn check_command<'a>(alloc: Global) -> Result<Command<'a>, AllocError>
         alloc,
         "check",
         "Reads each share of a cap's file that a server offers, and prints a verdict on each and \
-on the file.",
+on the file. With --caps it prints one line for each file of a catalogue, and how many there are.",
         check_arguments(alloc)?,
     )
 }
@@ -226,8 +229,14 @@ fn check_arguments<'a>(alloc: Global) -> Result<Vec<Arg<'a>>, AllocError>
     ensures { IfOk result (λ arguments. HaveRules check_rules arguments.items) }
 {
     Ok(vec![in alloc;
-        verify_cap(alloc),
+        verify_cap(alloc)?,
+        chosen(alloc)?,
         grid_folder(alloc),
+        cap_file(alloc)?,
+        looked_at_caps(
+            alloc,
+            "Check the files of a catalogue that `put` printed; - is standard input",
+        )?,
         net(alloc),
         json(alloc),
         flag(
@@ -247,7 +256,7 @@ fn repair_command<'a>(alloc: Global) -> Result<Command<'a>, AllocError>
         alloc,
         "repair",
         "Makes the missing shares of a cap's file again, stores them, and prints how many servers \
-hold shares of their own.",
+hold shares of their own. With --caps it does so for each file of a catalogue.",
         repair_arguments(alloc)?,
     )
 }
@@ -256,8 +265,14 @@ fn repair_arguments<'a>(alloc: Global) -> Result<Vec<Arg<'a>>, AllocError>
     ensures { IfOk result (λ arguments. HaveRules repair_rules arguments.items) }
 {
     Ok(vec![in alloc;
-        verify_cap(alloc),
+        verify_cap(alloc)?,
+        chosen(alloc)?,
         grid_folder(alloc),
+        cap_file(alloc)?,
+        looked_at_caps(
+            alloc,
+            "Repair the files of a catalogue that `put` printed; - is standard input",
+        )?,
         happy(alloc),
         net(alloc),
         no_sync(alloc),

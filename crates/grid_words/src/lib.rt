@@ -8,7 +8,7 @@ mod catalogue_words;
 mod commands;
 mod words;
 
-pub use catalogue_words::GetFilesWords;
+pub use catalogue_words::{CheckFilesWords, ChosenWords, GetFilesWords, RepairFilesWords};
 pub use commands::VERSION;
 pub use words::{
     CheckWords, GetWords, InitWords, ListWords, Marking, PutWords, RepairWords, Request,

@@ -8,7 +8,9 @@ ghost use Rattle.grid_words.specs.Asked.{IsMarking, IsSecret, asks_notes, number
 ghost use Rattle.grid_words.specs.Asked.{text_under, texts_under, wants_known};
 ghost use Rattle.grid_words.specs.CommandLine.{grid_app};
 
-use crate::catalogue_words::{GetFilesWords, get_files_words};
+use crate::catalogue_words::{
+    CheckFilesWords, GetFilesWords, RepairFilesWords, check_request, get_request, repair_request,
+};
 use crate::commands::grid_command;
 use clap::error::ErrorKind;
 use clap::{ArgMatches, Error};
@@ -23,7 +25,9 @@ pub enum Request<'a> {
     Get(GetWords<'a>),
     GetFiles(GetFilesWords<'a>),
     Check(CheckWords<'a>),
+    CheckFiles(CheckFilesWords<'a>),
     Repair(RepairWords<'a>),
+    RepairFiles(RepairFilesWords<'a>),
     Scrub(ScrubWords<'a>),
     Serve(ServeWords<'a>),
     /// `grid world SCRIPT`, with the path of the script.
@@ -43,7 +47,9 @@ impl<'a> Request<'a> {
             Request::Get(words) => words.verbose,
             Request::GetFiles(words) => words.verbose,
             Request::Check(words) => words.verbose,
+            Request::CheckFiles(words) => words.verbose,
             Request::Repair(words) => words.verbose,
+            Request::RepairFiles(words) => words.verbose,
             Request::Scrub(words) => words.verbose,
             Request::Serve(words) => words.verbose,
             Request::World(_) | Request::Describe(_) => false,
@@ -59,7 +65,9 @@ impl<'a> Request<'a> {
             Request::Get(words) => words.known,
             Request::GetFiles(words) => words.known,
             Request::Check(words) => words.known,
+            Request::CheckFiles(words) => words.known,
             Request::Repair(words) => words.known,
+            Request::RepairFiles(words) => words.known,
             Request::Scrub(words) => words.known,
             Request::Init(_) | Request::Serve(_) => false,
             Request::World(_) | Request::Describe(_) => false,
@@ -139,7 +147,10 @@ pub struct PutWords<'a> {
 /// the file, and without `output` it is written to standard output.
 #[derive(Drop)]
 pub struct GetWords<'a> {
+    /// The cap; empty where a file has it.
     pub cap: &'a str,
+    /// `--cap-file FILE`: the path of the file that has the cap, or `-`.
+    pub cap_file: Option<&'a str>,
     pub grid: &'a str,
     pub from: u64,
     pub to: Option<u64>,
@@ -152,7 +163,10 @@ pub struct GetWords<'a> {
 /// `grid check CAP --grid DIR ..`.
 #[derive(Drop)]
 pub struct CheckWords<'a> {
+    /// The cap; empty where a file has it.
     pub cap: &'a str,
+    /// `--cap-file FILE`: the path of the file that has the cap, or `-`.
+    pub cap_file: Option<&'a str>,
     pub grid: &'a str,
     pub net: bool,
     pub json: bool,
@@ -164,7 +178,10 @@ pub struct CheckWords<'a> {
 /// `grid repair CAP --grid DIR ..`: a number as the user wrote it, in no range yet.
 #[derive(Drop)]
 pub struct RepairWords<'a> {
+    /// The cap; empty where a file has it.
     pub cap: &'a str,
+    /// `--cap-file FILE`: the path of the file that has the cap, or `-`.
+    pub cap_file: Option<&'a str>,
     pub grid: &'a str,
     pub happy: u64,
     pub net: bool,
@@ -228,8 +245,8 @@ fn request_of<'a>(
         "init" => Request::Init(init_words(alloc, found)?),
         "put" => Request::Put(put_words(alloc, found)?),
         "get" => get_request(alloc, found)?,
-        "check" => Request::Check(check_words(found)),
-        "repair" => Request::Repair(repair_words(found)),
+        "check" => check_request(alloc, found)?,
+        "repair" => repair_request(alloc, found)?,
         "scrub" => Request::Scrub(scrub_words(found)),
         "serve" => Request::Serve(serve_words(found)),
         "world" => Request::World(text_of(found, "SCRIPT")),
@@ -313,21 +330,12 @@ fn secret_words<'a>(found: &ArgMatches<'a>) -> SecretWords<'a>
     }
 }
 
-// One cap is got, or the files of a catalogue.
-fn get_request<'a>(alloc: Global, found: &ArgMatches<'a>) -> Result<Request<'a>, AllocError>
-    ensures { IfOk result (Asks (codes "get") (rows_in found.now)) }
-{
-    match found_text(found, "caps") {
-        Some(caps) => Ok(Request::GetFiles(get_files_words(alloc, caps, found)?)),
-        None => Ok(Request::Get(get_words(found))),
-    }
-}
-
-fn get_words<'a>(found: &ArgMatches<'a>) -> GetWords<'a>
+pub(crate) fn get_words<'a>(found: &ArgMatches<'a>) -> GetWords<'a>
     ensures { AsksGet (rows_in found.now) result }
 {
     GetWords {
         cap: text_of(found, "CAP"),
+        cap_file: found_text(found, "cap-file"),
         grid: text_of(found, "grid"),
         from: number_of(found, "from").unwrap_or(0),
         to: number_of(found, "to"),
@@ -338,11 +346,12 @@ fn get_words<'a>(found: &ArgMatches<'a>) -> GetWords<'a>
     }
 }
 
-fn check_words<'a>(found: &ArgMatches<'a>) -> CheckWords<'a>
+pub(crate) fn check_words<'a>(found: &ArgMatches<'a>) -> CheckWords<'a>
     ensures { AsksCheck (rows_in found.now) result }
 {
     CheckWords {
         cap: text_of(found, "CAP"),
+        cap_file: found_text(found, "cap-file"),
         grid: text_of(found, "grid"),
         net: is_set(found, "net"),
         json: is_set(found, "json"),
@@ -352,11 +361,12 @@ fn check_words<'a>(found: &ArgMatches<'a>) -> CheckWords<'a>
     }
 }
 
-fn repair_words<'a>(found: &ArgMatches<'a>) -> RepairWords<'a>
+pub(crate) fn repair_words<'a>(found: &ArgMatches<'a>) -> RepairWords<'a>
     ensures { AsksRepair (rows_in found.now) result }
 {
     RepairWords {
         cap: text_of(found, "CAP"),
+        cap_file: found_text(found, "cap-file"),
         grid: text_of(found, "grid"),
         happy: number_of(found, "happy").unwrap_or(0),
         net: is_set(found, "net"),
@@ -424,8 +434,8 @@ pub(crate) fn text_of<'a>(found: &ArgMatches<'a>, id: &str) -> &'a str
     found_text(found, id).unwrap_or("")
 }
 
-// The number of an argument, which `clap` has tested.
-fn number_of(found: &ArgMatches<'_>, id: &str) -> Option<u64>
+/// The number of an argument, which `clap` has tested.
+pub(crate) fn number_of(found: &ArgMatches<'_>, id: &str) -> Option<u64>
     ensures { result ≡ number_under id.now (rows_in found.now) }
 {
     found.get_one::<u64>(id)

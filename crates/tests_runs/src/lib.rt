@@ -3,6 +3,8 @@
 #![tactic(auto)]
 
 #[cfg(test)]
+mod checks_of_many_tests;
+#[cfg(test)]
 mod gets_tests;
 #[cfg(test)]
 mod host;

@@ -1,5 +1,5 @@
 use Rattle.std.proofs.Common.{refl}
-use Rattle.grid_commands.proofs.RunLemmas.{check_run, describe_run, get_files_run, get_run, init_run, put_run, repair_run, scrub_run, world_run}
+use Rattle.grid_commands.proofs.RunLemmas.{check_files_run, check_run, describe_run, get_files_run, get_run, init_run, put_run, repair_files_run, repair_run, scrub_run, world_run}
 use Rattle.grid_commands.proofs.run.Goals as goal
 
 pub returns-in-Init : goal.returns-in-Init
@@ -15,10 +15,16 @@ pub returns-in-GetFiles : goal.returns-in-GetFiles
 returns-in-GetFiles g c = get_files_run _ _ c.args.request.now c.get_files.result _ _ _ _ c.in-GetFiles.words c.in-GetFiles.is refl c.get_files.ensures.done c.get_files.ensures.undone
 
 pub returns-in-Check : goal.returns-in-Check
-returns-in-Check g c = check_run _ _ c.args.request.now c.told.result _ _ _ _ refl c.in-Check.words c.check.result c.in-Check.is c.check.ensures c.told.ensures.done c.told.ensures.undone
+returns-in-Check g c = check_run _ _ c.args.request.now c.told.result _ _ _ _ refl c.in-Check.words c.checked.result c.in-Check.is c.checked.ensures c.told.ensures.done c.told.ensures.undone
 
 pub returns-in-Repair : goal.returns-in-Repair
-returns-in-Repair g c = repair_run _ _ c.args.request.now c.told-in-Repair.result _ _ _ _ refl c.in-Repair.words c.repair.result c.in-Repair.is c.repair.ensures c.told-in-Repair.ensures.done c.told-in-Repair.ensures.undone
+returns-in-Repair g c = repair_run _ _ c.args.request.now c.told-in-Repair.result _ _ _ _ refl c.in-Repair.words c.repaired.result c.in-Repair.is c.repaired.ensures c.told-in-Repair.ensures.done c.told-in-Repair.ensures.undone
+
+pub returns-in-CheckFiles : goal.returns-in-CheckFiles
+returns-in-CheckFiles g c = check_files_run _ _ c.args.request.now c.check_files.result _ _ _ _ refl c.in-CheckFiles.words c.in-CheckFiles.is c.check_files.ensures.done c.check_files.ensures.undone
+
+pub returns-in-RepairFiles : goal.returns-in-RepairFiles
+returns-in-RepairFiles g c = repair_files_run _ _ c.args.request.now c.repair_files.result _ _ _ _ refl c.in-RepairFiles.words c.in-RepairFiles.is c.repair_files.ensures.done c.repair_files.ensures.undone
 
 pub returns-in-Scrub : goal.returns-in-Scrub
 returns-in-Scrub g c = scrub_run _ _ c.args.request.now c.scrub.result _ _ _ _ refl c.in-Scrub.words c.in-Scrub.is c.scrub.ensures

@@ -1,18 +1,31 @@
-use Rattle.checker.specs.Report.{IsReport}
+use Rattle.std.proofs.Common.{IfSome, Option, subst, sym, ap, ◌∙◌}
+use Rattle.std.specs.Prelude.{is_some}
 use Rattle.grid_servers.specs.Grids.{grid_calls}
-use Rattle.grid_repairs.specs.Checks.{IsChecked}
-use Rattle.grid_repairs.proofs.Told.{checked, told_value}
+use Rattle.grid_repairs.specs.Checks.{Standing, WereChecked}
+use Rattle.grid_repairs.proofs.StandingLemmas.{checked_by, checked_more, stands_distinct}
 use Rattle.grid_repairs.proofs.repairing.find_shares.Goals as goal
 
-pub returns-clause-checked : goal.returns-clause-checked
-returns-clause-checked g c =
-    let calls = grid_calls g.R.Stream.Write.contents g.R.Stream.Read.remaining in
-    let grid = c.args.placing.now.grid.now in
-    let servers = c.args.placing.now.servers.now in
-    told_value c.in_ok-report.field-0 _ c.ok_or.result c.in_ok-report-2.report (IsReport c.in_ok-check-2.check.cap c.in_ok-check-2.check.requests.entries) (IsChecked calls grid c.args.cap.now servers) c.ok_or.ensures.value c.in_ok-report-2.was
-    (λ r report. checked calls grid c.args.cap.now servers c.in_ok-check.check c.in_ok-check-2.check c.in_ok-nodes.nodes _ c.clock-now.result c.in_ok-nodes.ensures c.clock-now.ensures
-    c.in_ok-check.ensures.begins c.in_ok-check-2.ensures r report)
-    c.in_ok-report.ensures.report
+pub look_at-report-requires : goal.look_at-report-requires
+look_at-report-requires g c = stands_distinct _ c.args.place.now.grid.now (is_some c.args.kept.now) c.in_ok-open.open c.in_ok-open.ensures.stand
 
-pub returns-clause-enough : goal.returns-clause-enough
-returns-clause-enough g c = c.if-not-report.false
+pub returns-then-branch-clause-found : goal.returns-then-branch-clause-found
+returns-then-branch-clause-found g c = (
+  checked_by _ c.args.place.now.grid.now (is_some c.args.kept.now) c.args.cap.now c.in_ok-report.report c.in_ok-open.open c.in_ok-open.ensures.stand c.in_ok-report.ensures.found,
+  c.in_ok-servers.ensures.items ∙ c.servers.ensures ∙ c.in_ok-report.ensures.led.servers,
+)
+
+pub returns-clause-kept : goal.returns-clause-kept
+returns-clause-kept g c = checked_more _ c.args.place.now.grid.now (is_some c.args.kept.now) c.in_ok-open.open c.look_at-report.new.open c.still_speaking.result c.in_ok-open.ensures.stand c.in_ok-report.ensures.led c.still_speaking.ensures
+
+-- none are kept
+pub returns-in_err-open-clause-kept : goal.returns-in_err-open-clause-kept
+returns-in_err-open-clause-kept g c =
+    subst (λ (o : Option (Standing _)). IfSome o (WereChecked (grid_calls g.R.Stream.Write.contents g.R.Stream.Read.remaining) c.args.place.now.grid.now)) (sym c.take.ensures.kept) tt
+
+pub returns-in_err-report-clause-kept : goal.returns-in_err-report-clause-kept
+returns-in_err-report-clause-kept g c =
+    subst (λ (o : Option (Standing _)). IfSome o (WereChecked (grid_calls g.R.Stream.Write.contents g.R.Stream.Read.remaining) c.args.place.now.grid.now)) (sym c.take.ensures.kept) tt
+
+pub returns-in_err-servers-clause-kept : goal.returns-in_err-servers-clause-kept
+returns-in_err-servers-clause-kept g c =
+    subst (λ (o : Option (Standing _)). IfSome o (WereChecked (grid_calls g.R.Stream.Write.contents g.R.Stream.Read.remaining) c.args.place.now.grid.now)) (sym c.take.ensures.kept) tt

@@ -7,7 +7,7 @@ use Rattle.grid_shares.specs.Standing.{Standing, WereOpened}
 use Rattle.grid_shares.specs.Ways.{AreCleared}
 use Rattle.grid_shares.proofs.Placed.{used_as}
 use Rattle.grid_shares.proofs.StandingLemmas.{kept_open}
-use Rattle.grid_shares.proofs.placing.place_more.Goals as goal
+use Rattle.grid_shares.proofs.placing.place_shares.Goals as goal
 
 pub returns-clause-placed : goal.returns-clause-placed
 returns-clause-placed g c = record {

@@ -1,6 +1,6 @@
 use Rattle.std.proofs.Common.{refl}
 use Rattle.grid_commands.proofs.RunLemmas.{begun_to, filed_err, filed_ok, got_to, same_contents}
-use Rattle.grid_commands.proofs.got.Goals as goal
+use Rattle.grid_commands.proofs.got_range.Goals as goal
 
 pub returns-in-Ok-clause-done : goal.returns-in-Ok-clause-done
 returns-in-Ok-clause-done g c = record {

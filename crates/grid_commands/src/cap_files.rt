@@ -1,0 +1,124 @@
+//! Caps that stand in a file, in place of a word.
+
+ghost use Rattle.std.specs.Prelude.{◌≡◌, IfOk, IfSome, None, take};
+ghost use Rattle.std.specs.String.{string_bytes};
+ghost use Rattle.grid_commands.specs.CapFiles.{IsFirstLine};
+
+use grid_faults::Fault;
+use grid_words::{CheckWords, GetWords, RepairWords};
+use std::alloc::Global;
+use std::fs::{File, OpenFile};
+use std::io::{self, Read};
+use std::rt::Files;
+use user_files::at_path;
+
+/// The path that stands for standard input, and how it is told.
+const STANDARD_INPUT: &str = "-";
+
+const INPUT_NAME: &str = "standard input";
+
+/// How many bytes are read at most: no cap has half of it, so a text of so many is none.
+const MOST_BYTES: u64 = 256;
+
+const LINE_FEED: u8 = b'\n';
+
+/// The text that is to be a cap: a word, or what the file of this path has in place of it. That may
+/// end with a line feed.
+pub(crate) fn cap_text<R>(rt: &R, word: &str, file: Option<&str>) -> Result<String, Fault>
+where
+    R: Files + io::Input + AllocGlobal,
+    ensures { file ≡ None → IfOk result (λ text. string_bytes text ≡ word.now) }
+{
+    match file {
+        Some(path) => read_cap_file(rt, path),
+        None => Ok(String::from_str(rt.alloc(), word)?),
+    }
+}
+
+// What the file of a path has. What is no UTF-8 in it is no cap, and stays none.
+fn read_cap_file<R>(rt: &R, path: &str) -> Result<String, Fault>
+where
+    R: Files + io::Input + AllocGlobal,
+{
+    let alloc = rt.alloc();
+    let bytes = if path == STANDARD_INPUT {
+        at_path(alloc, first_bytes(alloc, rt.reader()), INPUT_NAME)
+    } else {
+        at_path(alloc, open_and_read(rt, path), path)
+    };
+    Ok(String::from_utf8_lossy(alloc, first_line(&bytes?))?)
+}
+
+fn open_and_read<R: Files + AllocGlobal>(rt: &R, path: &str) -> io::Result<Vec<u8>> {
+    first_bytes(rt.alloc(), File::open(rt, path)?)
+}
+
+// The first bytes of a reader.
+fn first_bytes<F: Read + Drop>(alloc: Global, reader: F) -> io::Result<Vec<u8>>
+    ensures { IfOk result
+        (λ bytes. IfSome (F.remaining reader) (λ all. bytes.items ≡ take 256 all)) }
+{
+    let mut bytes = Vec::with_capacity(alloc, MOST_BYTES as usize)?;
+    reader.take(MOST_BYTES).read_to_end(&mut bytes)?;
+    Ok(bytes)
+}
+
+// A text without the line feed at its end.
+fn first_line(text: &[u8]) -> &[u8]
+    ensures { IsFirstLine text.entry.now result.now }
+{
+    match text.split_last() {
+        Some((last, line)) if *last == LINE_FEED => line,
+        _ => text,
+    }
+}
+
+/// The words of a get with this cap.
+pub(crate) fn get_words<'a>(words: &GetWords<'a>, cap: &'a str) -> GetWords<'a>
+    ensures { result ≡ record words.now { cap = cap.entry } }
+{
+    GetWords {
+        cap,
+        cap_file: words.cap_file,
+        grid: words.grid,
+        from: words.from,
+        to: words.to,
+        output: words.output,
+        net: words.net,
+        known: words.known,
+        verbose: words.verbose,
+    }
+}
+
+/// Those of a check.
+pub(crate) fn check_words<'a>(words: &CheckWords<'a>, cap: &'a str) -> CheckWords<'a>
+    ensures { result ≡ record words.now { cap = cap.entry } }
+{
+    CheckWords {
+        cap,
+        cap_file: words.cap_file,
+        grid: words.grid,
+        net: words.net,
+        json: words.json,
+        strict: words.strict,
+        known: words.known,
+        verbose: words.verbose,
+    }
+}
+
+/// Those of a repair.
+pub(crate) fn repair_words<'a>(words: &RepairWords<'a>, cap: &'a str) -> RepairWords<'a>
+    ensures { result ≡ record words.now { cap = cap.entry } }
+{
+    RepairWords {
+        cap,
+        cap_file: words.cap_file,
+        grid: words.grid,
+        happy: words.happy,
+        net: words.net,
+        no_sync: words.no_sync,
+        mend: words.mend,
+        known: words.known,
+        verbose: words.verbose,
+    }
+}
