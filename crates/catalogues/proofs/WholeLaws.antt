@@ -66,7 +66,7 @@ next_left text r s all cap name begins more only files = go files.rest files.are
       count = omega (arith, count, more);
     }
 
-all_push : (entries : List Entry) (e : Entry) → AllByRecursion IsEntry entries → IsEntry e → AllByRecursion IsEntry (entries ++ e ∷ [])
+pub all_push : (entries : List Entry) (e : Entry) → AllByRecursion IsEntry entries → IsEntry e → AllByRecursion IsEntry (entries ++ e ∷ [])
 all_push [] e are is = (is, tt)
 all_push (d ∷ entries) e are is = (are.0, all_push entries e are.1 is)
 

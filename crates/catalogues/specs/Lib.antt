@@ -7,6 +7,8 @@ pub mod Laws
 pub mod Below
 pub mod Patterns
 pub mod CatalogueError
+pub mod Kept
+pub mod Known
 -- words of private clauses
 pub mod Pieces
 pub mod HeadParts

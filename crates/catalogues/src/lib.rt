@@ -10,6 +10,8 @@
 mod below;
 mod error;
 mod head;
+mod kept;
+mod known;
 mod laws;
 mod lines;
 mod name;
@@ -20,6 +22,8 @@ mod reading;
 pub use below::{MAX_PART, Parts, name_below, parts_below};
 pub use error::CatalogueError;
 pub use head::{Head, MAX_SEGMENT_SIZE, MAX_SHARES, Moment, Numbers};
+pub use kept::{FileState, is_kept};
+pub use known::Known;
 pub use laws::{catalogues_are_one, lines_are_one, lines_are_read};
 pub use lines::{Line, line_of, named_line};
 pub use name::{Name, is_name};

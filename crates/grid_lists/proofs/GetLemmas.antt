@@ -15,8 +15,8 @@ use Rattle.grid_faults.specs.declared.fault.Fault.{Fault}
 use Rattle.grid_gets.specs.Files.{FileAct, IsFileOf, MayBeFileOf}
 use Rattle.grid_gets.specs.Gets.{whole_range}
 use Rattle.grid_lists.specs.GetEnds.{CameOf, CameOfChosen, IsWritten, MayBeWritten, path_of}
-use Rattle.grid_lists.specs.Gets.{AreGotten, AreGottenFrom, Came, CameTo, Gotten, IsDoneFor, MayBeRestored, came_status, is_chosen, is_unfound, misnamed, names_of, passed, refused, restored, unread_status}
-use Rattle.grid_lists.specs.Puts.{status_after}
+use Rattle.grid_lists.specs.Gets.{AreGotten, AreGottenFrom, Came, CameTo, Gotten, IsDoneFor, MayBeRestored, came_status, is_chosen, is_unfound, misnamed, names_of, passed, refused, restored}
+use Rattle.grid_lists.specs.Statuses.{status_after, unread_status}
 use Rattle.grid_servers.specs.Grids.{GridCalls}
 use Rattle.grid_words.specs.declared.catalogue_words.GetFilesWords.{GetFilesWords}
 

@@ -12,17 +12,21 @@ use Rattle.sources.specs.Opened.{Opened}
 use Rattle.grid_words.specs.declared.words.PutWords.{PutWords}
 use Rattle.grid_lists.specs.Ends.{IsListed}
 use Rattle.cap_text.specs.Base32.{base32}
+use Rattle.cap_text.specs.declared.cap.Cap.{Cap}
 use Rattle.catalogues.specs.Catalogues.{Entry, IsEntry, entry_text}
 use Rattle.catalogues.specs.Heads.{first_text, first_then, nine_digits}
 use Rattle.catalogues.specs.Lines.{line_text}
 use Rattle.catalogues.specs.declared.head.Head.{Head}
+use Rattle.catalogues.specs.declared.known.Known.{Known}
 use Rattle.grid_faults.specs.Fault.{fault_status}
 use Rattle.grid_faults.specs.declared.fault.Fault.{Fault}
 use Rattle.grid_shares.specs.Puts.{IsPutBy, put_status}
 use Rattle.grid_shares.specs.declared.putting.PutFile.{PutFile}
 use Rattle.grid_servers.specs.Grids.{GridCalls}
 use Rattle.grid_telling.specs.declared.outcome.Failure.{Failure}
-use Rattle.grid_lists.specs.Puts.{AreListed, Fate, IsFate, IsHeadBy, IsPutDone, IsPutList, IsPutOne, IsPutUndone, Listed, fate_entries, fate_text, is_one, listed_entries, listed_status, listed_text, many, one, refused, status_after, stored}
+use Rattle.grid_lists.specs.Puts.{AreListed, Fate, IsFate, IsHeadBy, IsPutDone, IsPutList, IsPutMany, IsPutOne, IsPutUndone, Listed, fate_entries, fate_text, is_one, kept, listed_entries, listed_status, listed_text, many, one, refused, stored}
+use Rattle.grid_lists.specs.Since.{IsKeptSince, IsSince}
+use Rattle.grid_lists.specs.Statuses.{status_after}
 
 -- pieces, one behind the other
 abbrev joined : List (List ℕ) → List ℕ → List ℕ
@@ -42,9 +46,9 @@ pieces_of h = codes "# grid catalogue 1 begun " ∷ decimal h.begun.seconds ∷ 
 then_all : (h : Head) (x : List ℕ) → first_text h ++ x ≡ first_then h x
 then_all h x = joined_then (pieces_of h) x
 
-module _ {F S : Type 0} (gives : Opened F → ℕ → List ℕ → Opened F → Type 0) (calls : GridCalls S) (words : PutWords) (said : Option (List ℕ)) where
+module _ {F S : Type 0} (gives : Opened F → ℕ → List ℕ → Opened F → Type 0) (calls : GridCalls S) (words : PutWords) (said : Option (List ℕ)) (since : Option Known) (head : Head) where
   abbrev fated : Listed → Type 0
-  fated l = IsFate gives calls words said l.name l.fate
+  fated l = IsFate gives calls words said since head l.name l.fate
 
   abbrev name_of : Listed → List ℕ
   name_of l = l.name
@@ -53,12 +57,12 @@ module _ {F S : Type 0} (gives : Opened F → ℕ → List ℕ → Opened F → 
   each_both [] ys a b = b
   each_both (x ∷ xs) ys a b = (a.0, each_both xs ys a.1 b)
 
-  pub none_listed : (first : ℕ) (out : Option (List ℕ)) → AreListed gives calls words said [] first first out out
+  pub none_listed : (first : ℕ) (out : Option (List ℕ)) → AreListed gives calls words said since head [] first first out out
   none_listed first out = record { listed = []; names_are = refl; fates = tt; status_is = refl; written = Appends-nil out }
 
   -- these and then those
-  pub both_listed : (names more : List (List ℕ)) (first mid last : ℕ) (a b c : Option (List ℕ)) → AreListed gives calls words said names first mid a b → AreListed gives calls words said more mid last b c
-      → AreListed gives calls words said (names ++ more) first last a c
+  pub both_listed : (names more : List (List ℕ)) (first mid last : ℕ) (a b c : Option (List ℕ)) → AreListed gives calls words said since head names first mid a b → AreListed gives calls words said since head more mid last b c
+      → AreListed gives calls words said since head (names ++ more) first last a c
   both_listed names more first mid last a b c before behind = record {
     listed = before.listed ++ behind.listed;
     names_are = map-append name_of before.listed behind.listed ∙ ap (λ (xs : List (List ℕ)). xs ++ map name_of behind.listed) before.names_are ∙ ap (λ (xs : List (List ℕ)). names ++ xs) behind.names_are;
@@ -67,7 +71,7 @@ module _ {F S : Type 0} (gives : Opened F → ℕ → List ℕ → Opened F → 
     written = subst (Appends a c) (sym (flat_map-append listed_text before.listed behind.listed)) (Appends-trans a b c _ _ before.written behind.written);
   }
 
-  one_listed : (name : List ℕ) (first own : ℕ) (a b : Option (List ℕ)) → IsListed gives calls words said name own a b → AreListed gives calls words said (name ∷ []) first (status_after first own) a b
+  one_listed : (name : List ℕ) (first own : ℕ) (a b : Option (List ℕ)) → IsListed gives calls words said since head name own a b → AreListed gives calls words said since head (name ∷ []) first (status_after first own) a b
   one_listed name first own a b l = record {
     listed = record { name = name; fate = l.fate } ∷ [];
     names_are = refl;
@@ -78,25 +82,27 @@ module _ {F S : Type 0} (gives : Opened F → ℕ → List ℕ → Opened F → 
 
   -- one name more of a list
   pub next_listed : (names : List (Bor (List ℕ))) (i : ℕ) (name : List ℕ) (first so_far own status : ℕ) (a b c : Option (List ℕ)) (any : Bor (List ℕ)) → i < length names
-      → name ≡ (get_or names i any).now → status ≡ status_after so_far own → AreListed gives calls words said (take i (map (λ n. n.now) names)) first so_far a b → IsListed gives calls words said name own b c
-      → AreListed gives calls words said (take (i + 1) (map (λ n. n.now) names)) first status a c
+      → name ≡ (get_or names i any).now → status ≡ status_after so_far own → AreListed gives calls words said since head (take i (map (λ n. n.now) names)) first so_far a b → IsListed gives calls words said since head name own b c
+      → AreListed gives calls words said since head (take (i + 1) (map (λ n. n.now) names)) first status a c
   next_listed names i name first so_far own status a b c any within is after listed more =
       let now : Bor (List ℕ) → List ℕ = λ n. n.now in
       let long : i < length (map now names) = subst (λ (n : ℕ). i < n) (sym (length-map names now)) within in
       let here : get_or (map now names) i [] ≡ name = get_or-map now names i any [] within ∙ sym is in
       let grown = both_listed (take i (map now names)) (name ∷ []) first so_far (status_after so_far own) a b c listed (one_listed name so_far own b c more) in
-      subst (λ (s : ℕ). AreListed gives calls words said (take (i + 1) (map now names)) first s a c) (sym after)
-      (subst (λ (xs : List (List ℕ)). AreListed gives calls words said xs first (status_after so_far own) a c)
+      subst (λ (s : ℕ). AreListed gives calls words said since head (take (i + 1) (map now names)) first s a c) (sym after)
+      (subst (λ (xs : List (List ℕ)). AreListed gives calls words said since head xs first (status_after so_far own) a c)
       (sym (take_more (map now names) i [] long ∙ ap (λ (x : List ℕ). take i (map now names) ++ x ∷ []) here)) grown)
 
   -- ---- the catalogue
 
   lines_of : (name : List ℕ) (fate : Fate) → fate_text name fate ≡ flat_map entry_text (fate_entries name fate)
   lines_of name (stored file) = sym (append-nil (line_text file.cap name))
+  lines_of name (kept cap) = sym (append-nil (line_text cap name))
   lines_of name (refused fault) = refl
 
-  entries_of : (name : List ℕ) (fate : Fate) → IsFate gives calls words said name fate → AllByRecursion IsEntry (fate_entries name fate)
+  entries_of : (name : List ℕ) (fate : Fate) → IsFate gives calls words said since head name fate → AllByRecursion IsEntry (fate_entries name fate)
   entries_of name (stored file) is = (is.1, tt)
+  entries_of name (kept cap) is = (is.1, tt)
   entries_of name (refused fault) is = tt
 
   all_lines : (ls : List Listed) → flat_map listed_text ls ≡ flat_map entry_text (flat_map listed_entries ls)
@@ -114,16 +120,18 @@ module _ {F S : Type 0} (gives : Opened F → ℕ → List ℕ → Opened F → 
   all_entries (l ∷ ls) is = entries_both (listed_entries l) (flat_map listed_entries ls) (entries_of l.name l.fate is.0) (all_entries ls is.1)
 
   -- a first line, and then files
-  pub list_put : (secret : List ℕ) (head : Head) (line : List ℕ) (names : List (List ℕ)) (status : ℕ) (a b c : Option (List ℕ)) → said ≡ Some secret → IsHeadBy words secret head → line ≡ first_text head → Appends a b line
-      → AreListed gives calls words said (map (λ f. f.now) words.files.items ++ names) 0 status b c → IsPutList gives calls words status a c
-  list_put secret head line names status a b c under is_head is first files = record {
+  pub list_put : (secret line : List ℕ) (names : List (List ℕ)) (status : ℕ) (a b c : Option (List ℕ)) → said ≡ Some secret → IsHeadBy words secret head → line ≡ first_text head → IsSince words since → Appends a b line
+      → AreListed gives calls words said since head (map (λ f. f.now) words.files.items ++ names) 0 status b c → IsPutList gives calls words status a c
+  list_put secret line names status a b c under is_head is is_since first files = record {
     secret = secret;
     head = head;
     is_head = is_head;
+    since = since;
+    is_since = is_since;
     names = names;
     listed = files.listed;
     names_are = files.names_are;
-    fates = subst (λ (o : Option (List ℕ)). AllByRecursion (λ (l : Listed). IsFate gives calls words o l.name l.fate) files.listed) under files.fates;
+    fates = subst (λ (o : Option (List ℕ)). AllByRecursion (λ (l : Listed). IsFate gives calls words o since head l.name l.fate) files.listed) under files.fates;
     status_is = files.status_is;
     text = first_then head (flat_map entry_text (flat_map listed_entries files.listed));
     catalogue = record { is_head = is_head.is_head; are = all_entries files.listed files.fates; is = refl };
@@ -133,23 +141,29 @@ module _ {F S : Type 0} (gives : Opened F → ℕ → List ℕ → Opened F → 
   -- ---- one file
 
   pub stored_listed : (file : PutFile) (name : List ℕ) (r : Result ℕ Failure) (a b : Option (List ℕ)) → ((kept : Bool) × IsPutBy gives calls words said kept file) → IfOk r (λ _. IsEntry (record { cap = file.cap; name = name }))
-      → IfOk r (λ status. status ≡ put_status file) → IfOk r (λ _. Appends a b (line_text file.cap name)) → IfOk r (λ status. IsListed gives calls words said name status a b)
+      → IfOk r (λ status. status ≡ put_status file) → IfOk r (λ _. Appends a b (line_text file.cap name)) → IfOk r (λ status. IsListed gives calls words said since head name status a b)
   stored_listed file name (Ok s) a b put entry status written = record { fate = stored file; is = (put, entry); status_is = status; written = written }
   stored_listed file name (Err failure) a b put entry status written = tt
 
-  pub refused_listed : (fault : Fault) (name : List ℕ) (status : ℕ) (a : Option (List ℕ)) → status ≡ fault_status fault → IsListed gives calls words said name status a a
+  pub kept_listed : (cap : Cap) (name : List ℕ) (r : Result ℕ Failure) (a b : Option (List ℕ)) → IsKeptSince since head name cap → IfOk r (λ _. IsEntry (record { cap = cap; name = name })) → IfOk r (λ status. status ≡ 0)
+      → IfOk r (λ _. Appends a b (line_text cap name)) → IfOk r (λ status. IsListed gives calls words said since head name status a b)
+  kept_listed cap name (Ok s) a b is entry status written = record { fate = kept cap; is = (is, entry); status_is = status; written = written }
+  kept_listed cap name (Err failure) a b is entry status written = tt
+
+  pub refused_listed : (fault : Fault) (name : List ℕ) (status : ℕ) (a : Option (List ℕ)) → status ≡ fault_status fault → IsListed gives calls words said since head name status a a
   refused_listed fault name status a is = record { fate = refused fault; is = tt; status_is = is; written = Appends-nil a }
 
   -- the same files under names that are equal
-  pub listed_as : (names given : List (List ℕ)) (status : ℕ) (a b : Option (List ℕ)) → given ≡ names → AreListed gives calls words said given 0 status a b → AreListed gives calls words said names 0 status a b
-  listed_as names given status a b same files = subst (λ (ns : List (List ℕ)). AreListed gives calls words said ns 0 status a b) same files
+  pub listed_as : (names given : List (List ℕ)) (status : ℕ) (a b : Option (List ℕ)) → given ≡ names → AreListed gives calls words said since head given 0 status a b → AreListed gives calls words said since head names 0 status a b
+  listed_as names given status a b same files = subst (λ (ns : List (List ℕ)). AreListed gives calls words said since head ns 0 status a b) same files
 
-  -- ---- one file or many
+-- ---- one file or many
 
+module _ {F S : Type 0} (gives : Opened F → ℕ → List ℕ → Opened F → Type 0) (calls : GridCalls S) (words : PutWords) where
   pub one_done : (one : Bool) (r : Result ℕ Failure) (a b : Option (List ℕ)) → one ≡ is_one words → one ≡ true → IfOk r (λ status. IsPutOne gives calls words status a b) → IfOk r (λ status. IsPutDone gives calls words status a b)
   one_done o r a b is holds done = IfOk-weaker r _ _ (λ status put. one (sym is ∙ holds) put) done
 
-  pub many_done : (one : Bool) (r : Result ℕ Failure) (a b : Option (List ℕ)) → one ≡ is_one words → one ≡ false → IfOk r (λ status. IsPutList gives calls words status a b) → IfOk r (λ status. IsPutDone gives calls words status a b)
+  pub many_done : (one : Bool) (r : Result ℕ Failure) (a b : Option (List ℕ)) → one ≡ is_one words → one ≡ false → IfOk r (λ status. IsPutMany gives calls words status a b) → IfOk r (λ status. IsPutDone gives calls words status a b)
   many_done o r a b is holds done = IfOk-weaker r _ _ (λ status put. many (sym is ∙ holds) put) done
 
 pub one_undone : (words : PutWords) (one : Bool) (r : Result ℕ Failure) (a b : Option (List ℕ)) → one ≡ is_one words → one ≡ true → IfErr r (λ failure. IsPutUndone true failure a b) → IfErr r (λ failure. IsPutUndone (is_one words) failure a b)

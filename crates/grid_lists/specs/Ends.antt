@@ -2,16 +2,18 @@
 use Rattle.std.specs.Prelude.{◌≡◌, ℕ, List, Option}
 use Rattle.std.specs.Io.KnownBytes.{Appends}
 use Rattle.sources.specs.Opened.{Opened}
+use Rattle.catalogues.specs.declared.head.Head.{Head}
+use Rattle.catalogues.specs.declared.known.Known.{Known}
 use Rattle.grid_lists.specs.Puts.{Fate, IsFate, fate_status, fate_text}
 use Rattle.grid_servers.specs.Grids.{GridCalls}
 use Rattle.grid_words.specs.declared.words.PutWords.{PutWords}
 
--- a file of this name was stored or refused, with this status; the line of one that is stored was
--- written
+-- a file of this name was stored, kept or refused, with this status; the line of one that has one
+-- was written
 pub record IsListed {F S : Type 0} (gives : Opened F → ℕ → List ℕ → Opened F → Type 0)
-    (calls : GridCalls S) (words : PutWords) (said : Option (List ℕ)) (name : List ℕ) (status : ℕ)
-    (before after : Option (List ℕ)) : Type 0 where
+    (calls : GridCalls S) (words : PutWords) (said : Option (List ℕ)) (since : Option Known)
+    (head : Head) (name : List ℕ) (status : ℕ) (before after : Option (List ℕ)) : Type 0 where
   pub fate : Fate
-  pub is : IsFate gives calls words said name fate
+  pub is : IsFate gives calls words said since head name fate
   pub status_is : status ≡ fate_status fate
   pub written : Appends before after (fate_text name fate)

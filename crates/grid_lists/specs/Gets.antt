@@ -12,13 +12,9 @@ use Rattle.grid_faults.specs.Fault.{fault_status}
 use Rattle.grid_faults.specs.declared.fault.Fault.{Fault}
 use Rattle.grid_gets.specs.Files.{FileAct, IsFileOf, MayBeFileOf}
 use Rattle.grid_gets.specs.Gets.{whole_range}
-use Rattle.grid_lists.specs.Puts.{status_after}
+use Rattle.grid_lists.specs.Statuses.{status_after, unread_status}
 use Rattle.grid_servers.specs.Grids.{GridCalls}
 use Rattle.grid_words.specs.declared.catalogue_words.GetFilesWords.{GetFilesWords}
-
--- the status of what is refused as it is read: a catalogue, a line of it, or a name
-abbrev pub unread_status : ℕ
-unread_status = 3
 
 -- ---- one file
 

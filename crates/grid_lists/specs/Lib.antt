@@ -1,5 +1,7 @@
 -- what public contracts rest on
 pub mod Names
+pub mod Statuses
+pub mod Since
 pub mod Puts
 pub mod Gets
 pub mod Looks

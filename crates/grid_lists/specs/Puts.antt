@@ -1,16 +1,20 @@
 -- What a put of one file or of many writes.
 use Rattle.std.specs.Prelude.{◌≡◌, ◌==◌, ◌&&◌, ℕ, List, [], ◌∷◌, ◌++◌, Bool, Option, true, false}
-use Rattle.std.specs.Prelude.{Some, fold, if◌then◌else◌, length, map, ⊤}
+use Rattle.std.specs.Prelude.{Some, fold, if◌then◌else◌, is_some, length, map, not, ⊤}
 use Rattle.std.specs.Io.KnownBytes.{Appends}
 use Rattle.std.specs.List.{AllByRecursion, flat_map}
 use Rattle.sources.specs.Opened.{Opened}
-use Rattle.catalogues.specs.Catalogues.{Entry, IsCatalogue, IsEntry}
+use Rattle.cap_text.specs.declared.cap.Cap.{Cap}
+use Rattle.catalogues.specs.Catalogues.{Entry, HasNoHead, IsCatalogue, IsEntry}
 use Rattle.catalogues.specs.Heads.{IsHead, fingerprint_of}
 use Rattle.catalogues.specs.Lines.{line_text}
 use Rattle.catalogues.specs.declared.head.Head.{Head}
 use Rattle.catalogues.specs.declared.head.Numbers.{Numbers}
+use Rattle.catalogues.specs.declared.known.Known.{Known}
 use Rattle.grid_faults.specs.Fault.{fault_status}
 use Rattle.grid_faults.specs.declared.fault.Fault.{Fault}
+use Rattle.grid_lists.specs.Since.{IsKeptSince, IsSince}
+use Rattle.grid_lists.specs.Statuses.{status_after, unread_status}
 use Rattle.grid_shares.specs.Puts.{IsPutAlone, IsPutBy, put_status}
 use Rattle.grid_shares.specs.declared.Outcome.{Outcome}
 use Rattle.grid_shares.specs.declared.putting.PutFile.{PutFile}
@@ -23,9 +27,10 @@ use Rattle.grid_words.specs.declared.words.PutWords.{PutWords}
 
 -- ---- the files of a put
 
--- what became of a file: it was stored, or refused
+-- what became of a file: it was stored, its line was kept, or it was refused
 pub data Fate : Type 0 where
   stored : PutFile → Fate
+  kept : Cap → Fate
   refused : Fault → Fate
 
 -- a file by its name
@@ -34,17 +39,20 @@ pub record Listed : Type 0 where
   pub fate : Fate
 
 -- it was stored by these words and the secret that is said, at servers that may have been kept
--- open, and its line may stand in a catalogue; of a refusal nothing is known
+-- open, or its line was kept, and it may stand in a catalogue; of a refusal nothing is known
 abbrev pub IsFate : {F S : Type 0} → (Opened F → ℕ → List ℕ → Opened F → Type 0) → GridCalls S
-    → PutWords → Option (List ℕ) → List ℕ → Fate → Type 0
-IsFate gives calls words said name (stored file) =
+    → PutWords → Option (List ℕ) → Option Known → Head → List ℕ → Fate → Type 0
+IsFate gives calls words said since head name (stored file) =
     ((kept : Bool) × IsPutBy gives calls words said kept file)
     × IsEntry (record { cap = file.cap; name = name })
-IsFate gives calls words said name (refused fault) = ⊤
+IsFate gives calls words said since head name (kept cap) =
+    IsKeptSince since head name cap × IsEntry (record { cap = cap; name = name })
+IsFate gives calls words said since head name (refused fault) = ⊤
 
--- the line of one that was stored
+-- the line of one that has one
 abbrev pub fate_text : List ℕ → Fate → List ℕ
 fate_text name (stored file) = line_text file.cap name
+fate_text name (kept cap) = line_text cap name
 fate_text name (refused fault) = []
 
 abbrev pub listed_text : Listed → List ℕ
@@ -52,23 +60,21 @@ listed_text l = fate_text l.name l.fate
 
 abbrev pub fate_status : Fate → ℕ
 fate_status (stored file) = put_status file
+fate_status (kept cap) = 0
 fate_status (refused fault) = fault_status fault
-
--- the first status that is not 0 stays
-abbrev pub status_after : ℕ → ℕ → ℕ
-status_after first status = if first == 0 then status else first
 
 abbrev pub listed_status : ℕ → Listed → ℕ
 listed_status first l = status_after first (fate_status l.fate)
 
--- Files with these names were put one after the other: those that were stored have their lines, and
--- the status is the first that is not 0.
+-- Files with these names were put one after the other: those that were stored or kept have their
+-- lines, and the status is the first that is not 0.
 pub record AreListed {F S : Type 0} (gives : Opened F → ℕ → List ℕ → Opened F → Type 0)
-    (calls : GridCalls S) (words : PutWords) (said : Option (List ℕ)) (names : List (List ℕ))
-    (first status : ℕ) (before after : Option (List ℕ)) : Type 0 where
+    (calls : GridCalls S) (words : PutWords) (said : Option (List ℕ)) (since : Option Known)
+    (head : Head) (names : List (List ℕ)) (first status : ℕ) (before after : Option (List ℕ))
+    : Type 0 where
   pub listed : List Listed
   pub names_are : map (λ l. l.name) listed ≡ names
-  pub fates : AllByRecursion (λ l. IsFate gives calls words said l.name l.fate) listed
+  pub fates : AllByRecursion (λ l. IsFate gives calls words said since head l.name l.fate) listed
   pub status_is : status ≡ fold listed_status first listed
   pub written : Appends before after (flat_map listed_text listed)
 
@@ -88,32 +94,47 @@ pub record IsHeadBy (words : PutWords) (secret : List ℕ) (head : Head) : Type 
   pub numbers : head.numbers ≡ numbers_by words
   pub fingerprint : head.fingerprint ≡ fingerprint_of head.numbers secret
 
--- the cap and the name of one that was stored
+-- the cap and the name of one that has a line
 abbrev pub fate_entries : List ℕ → Fate → List Entry
 fate_entries name (stored file) = record { cap = file.cap; name = name } ∷ []
+fate_entries name (kept cap) = record { cap = cap; name = name } ∷ []
 fate_entries name (refused fault) = []
 
 abbrev pub listed_entries : Listed → List Entry
 listed_entries l = fate_entries l.name l.fate
 
 -- Files were put one after the other, all under one secret: those that are named by words, and then
--- those that a list names. What was written is the catalogue of those that were stored, of which
--- the first line tells the numbers and the secret. Which names a list has, and which secret a grid
--- keeps, is what the system says.
+-- those that a list names. What was written is the catalogue of those that were stored, or whose
+-- lines were kept, of which the first line tells the numbers and the secret. Which names a list has,
+-- which text the catalogue that words name, and which secret a grid keeps, is what the system says.
 pub record IsPutList {F S : Type 0} (gives : Opened F → ℕ → List ℕ → Opened F → Type 0)
     (calls : GridCalls S) (words : PutWords) (status : ℕ) (before after : Option (List ℕ))
     : Type 0 where
   pub secret : List ℕ
   pub head : Head
   pub is_head : IsHeadBy words secret head
+  pub since : Option Known
+  pub is_since : IsSince words since
   pub names : List (List ℕ)
   pub listed : List Listed
   pub names_are : map (λ l. l.name) listed ≡ map (λ f. f.now) words.files.items ++ names
-  pub fates : AllByRecursion (λ l. IsFate gives calls words (Some secret) l.name l.fate) listed
+  pub fates : AllByRecursion
+      (λ l. IsFate gives calls words (Some secret) since head l.name l.fate) listed
   pub status_is : status ≡ fold listed_status 0 listed
   pub text : List ℕ
   pub catalogue : IsCatalogue text head (flat_map listed_entries listed)
   pub written : Appends before after text
+
+-- Files are put so, or nothing is written, where the text that is to be the catalogue of words is
+-- none.
+pub data IsPutMany {F S : Type 0} (gives : Opened F → ℕ → List ℕ → Opened F → Type 0)
+    (calls : GridCalls S) (words : PutWords) (status : ℕ) (before after : Option (List ℕ))
+    : Type 0 where
+  listed : IsPutList gives calls words status before after
+      → IsPutMany gives calls words status before after
+  unread : is_some words.since ≡ true → (text : List ℕ) → HasNoHead text
+      → status ≡ unread_status → after ≡ before
+      → IsPutMany gives calls words status before after
 
 -- ---- one file or many
 
@@ -122,7 +143,7 @@ is_unsaid lists.Unsaid = true
 is_unsaid (lists.Lines path) = false
 is_unsaid (lists.Nuls path) = false
 
--- One file is named, and no list: what it came to is written.
+-- One file is named, and no list or catalogue: what it came to is written.
 pub record IsPutOne {F S : Type 0} (gives : Opened F → ℕ → List ℕ → Opened F → Type 0)
     (calls : GridCalls S) (words : PutWords) (status : ℕ) (before after : Option (List ℕ))
     : Type 0 where
@@ -132,7 +153,7 @@ pub record IsPutOne {F S : Type 0} (gives : Opened F → ℕ → List ℕ → Op
   pub status_is : status ≡ outcome.status
 
 abbrev pub is_one : PutWords → Bool
-is_one words = length words.files.items == 1 && is_unsaid words.list
+is_one words = length words.files.items == 1 && is_unsaid words.list && not (is_some words.since)
 
 -- What a put writes by its words.
 pub data IsPutDone {F S : Type 0} (gives : Opened F → ℕ → List ℕ → Opened F → Type 0)
@@ -140,7 +161,7 @@ pub data IsPutDone {F S : Type 0} (gives : Opened F → ℕ → List ℕ → Ope
     : Type 0 where
   one : is_one words ≡ true → IsPutOne gives calls words status before after
       → IsPutDone gives calls words status before after
-  many : is_one words ≡ false → IsPutList gives calls words status before after
+  many : is_one words ≡ false → IsPutMany gives calls words status before after
       → IsPutDone gives calls words status before after
 
 -- Where it has no result, nothing was written of one file, unless it was `out` that failed; of many

@@ -5,8 +5,8 @@ ghost use Rattle.std.specs.Prelude.{if◌then◌else◌, is_some, length, not, u
 ghost use Rattle.grid_faults.specs.declared.fault.Fault.TheVariants.{OutOfMemory};
 ghost use Rattle.grid_gets.specs.Gets.{WereRead};
 ghost use Rattle.grid_lists.specs.GetEnds.{CameOf, CameOfChosen, IsWritten, MayBeWritten};
-ghost use Rattle.grid_lists.specs.Gets.{AreGottenFrom, IsGetFiles, unread_status};
-ghost use Rattle.grid_lists.specs.Puts.{status_after};
+ghost use Rattle.grid_lists.specs.Gets.{AreGottenFrom, IsGetFiles};
+ghost use Rattle.grid_lists.specs.Statuses.{status_after, unread_status};
 ghost use Rattle.grid_servers.specs.Grids.{grid_calls};
 ghost use Rattle.grid_telling.specs.declared.outcome.Failure.TheVariants as failures;
 

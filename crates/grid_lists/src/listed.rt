@@ -1,15 +1,14 @@
 //! A file of a list: its name, its path, its line, and what is told where it is refused.
 
-ghost use Rattle.std.specs.Prelude.{◌≡◌, IfOk};
+ghost use Rattle.std.specs.Prelude.{IfOk};
 ghost use Rattle.std.specs.Io.KnownBytes.{Appends};
 ghost use Rattle.catalogues.specs.Catalogues.{IsEntry};
 ghost use Rattle.catalogues.specs.Lines.{line_text};
 ghost use Rattle.catalogues.specs.Names.{IsName};
-ghost use Rattle.grid_shares.specs.Puts.{put_status};
 
+use cap_text::Cap;
 use catalogues::{CatalogueError, is_name, line_of};
 use grid_faults::{Fault, reason_line, told_path};
-use grid_shares::PutFile;
 use grid_telling::{Failure, Progress, print};
 use std::alloc::{AllocError, Global};
 use std::fs;
@@ -79,24 +78,22 @@ fn told_name(alloc: Global, name: &[u8]) -> Result<String, AllocError> {
     told_path(alloc, text.as_str())
 }
 
-/// Writes the line of a file that was stored, and gives its status.
+/// Writes the line of a file that has this cap.
 pub(crate) fn write_line<O: Write>(
     alloc: Global,
-    file: &PutFile,
+    cap: &Cap,
     name: &[u8],
     out: &mut O,
-) -> Result<u8, Failure>
+) -> Result<(), Failure>
     requires { IsName name.now }
-    ensures entry { IfOk result
-        (λ _. IsEntry (record { cap = file.now.cap; name = name.now })) }
-    ensures status { IfOk result (λ status. status ≡ put_status file.now) }
+    ensures entry { IfOk result (λ _. IsEntry (record { cap = cap.now; name = name.now })) }
     ensures written { IfOk result (λ _. Appends (O.contents out.old) (O.contents out.new)
-        (line_text file.now.cap name.now)) }
+        (line_text cap.now name.now)) }
 {
-    match line_of(alloc, &file.cap, name) {
+    match line_of(alloc, cap, name) {
         Ok(line) => {
             print(out, &line)?;
-            Ok(file.status())
+            Ok(())
         }
         // It is a name, so no more is refused than memory.
         Err(_) => Err(Failure::Fault(Fault::OutOfMemory)),

@@ -160,15 +160,7 @@ where
     loop {
         match catalogue.next_line() {
             Ok(Some(line)) => {
-                let came = look_line(
-                    rt,
-                    looking,
-                    line,
-                    &mut reading,
-                    &mut writing,
-                    out,
-                    progress,
-                )?;
+                let came = look_line(rt, looking, line, &mut reading, &mut writing, out, progress)?;
                 tally = tally.after(came);
             }
             Ok(None) => return end(rt.alloc(), looking.look, tally, out, progress),

@@ -18,7 +18,7 @@ const MOST_LIST: u64 = 64 << 20;
 /// How many names it may have: each takes 16 bytes more as they are told apart.
 const MOST_NAMES: usize = 2 << 20;
 
-const LINE_FEED: u8 = b'\n';
+pub(crate) const LINE_FEED: u8 = b'\n';
 
 const NUL: u8 = 0;
 
@@ -49,8 +49,9 @@ where
     }
 }
 
-// The text of a list whose names end with this byte, where they are not too many.
-fn bounded(text: Vec<u8>, end: u8) -> Result<Vec<u8>, Fault> {
+/// The text of a list whose names, or of a catalogue whose lines, end with this byte, where they are
+/// not too many.
+pub(crate) fn bounded(text: Vec<u8>, end: u8) -> Result<Vec<u8>, Fault> {
     if text.iter().filter(|byte| **byte == end).count() > MOST_NAMES {
         return Err(Fault::TooLarge);
     }

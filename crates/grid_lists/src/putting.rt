@@ -1,29 +1,30 @@
 //! `grid put` of one file or of many.
 
-ghost use Rattle.std.specs.Prelude.{◌≡◌, ◌<◌, ◌++◌, ℕ, Bool, List, IfErr, IfOk, IfSome, Some};
+ghost use Rattle.std.specs.Prelude.{◌≡◌, ◌++◌, ℕ, Bool, List, IfErr, IfOk, IfSome, Some};
 ghost use Rattle.std.specs.Prelude.{is_some, map, true};
 ghost use Rattle.std.specs.Io.KnownBytes.{Appends};
-ghost use Rattle.tagged_hash.specs.ConvergentKey.{IsSecret};
-ghost use Rattle.catalogues.specs.Heads.{IsInRange, fingerprint_of, first_text};
+ghost use Rattle.catalogues.specs.Catalogues.{IsEntry};
+ghost use Rattle.catalogues.specs.Heads.{first_text};
+ghost use Rattle.catalogues.specs.Lines.{line_text};
 ghost use Rattle.catalogues.specs.Names.{IsName};
-ghost use Rattle.catalogues.specs.declared.head.Head.{Head};
 ghost use Rattle.sources.specs.Opened.{GivesOpened};
 ghost use Rattle.grid_servers.specs.Grids.{grid_calls};
-ghost use Rattle.grid_shares.specs.Puts.{AreChoicesBy, IsPutBy, said_by};
+ghost use Rattle.grid_shares.specs.Puts.{AreChoicesBy, IsPutBy, put_status, said_by};
 ghost use Rattle.grid_shares.specs.Standing.{WereOpened};
 ghost use Rattle.grid_lists.specs.Ends.{IsListed};
-ghost use Rattle.grid_lists.specs.Puts.{AreListed, IsHeadBy, IsPutDone, IsPutList, IsPutOne};
-ghost use Rattle.grid_lists.specs.Puts.{IsPutUndone, is_one, is_unsaid, numbers_by, status_after};
+ghost use Rattle.grid_lists.specs.Puts.{AreListed, IsHeadBy, IsPutDone, IsPutMany, IsPutOne};
+ghost use Rattle.grid_lists.specs.Puts.{IsPutUndone, is_one, is_unsaid};
+ghost use Rattle.grid_lists.specs.Since.{IsSince};
 
-use crate::listed::{STANDARD_INPUT, may_be_listed, path_of, tell_refused, write_line};
+use crate::beginning::{Begun, begin_list, input_twice};
+use crate::listed::{may_be_listed, path_of, tell_refused, tell_unread, write_line};
 use crate::names::{end_of, names_in, read_list};
-use crate::statuses::{DONE, status_after};
-use catalogues::{Head, Moment, Numbers};
-use file_encoding::Params;
+use crate::since::{kept_cap, known_since, read_since, tell_since};
+use crate::statuses::{DONE, UNREAD, status_after};
+use cap_text::Cap;
+use catalogues::{CatalogueError, Head, Known};
 use grid_faults::Fault;
-use grid_shares::{
-    Choices, Environment, OpenGrid, PutFile, may_put, put_file, read_choices, secret_of,
-};
+use grid_shares::{Choices, Environment, OpenGrid, PutFile, put_file, read_choices};
 use grid_telling::{Failure, Progress, print};
 use grid_words::{ListWords, PutWords};
 use std::alloc::{AllocError, Global};
@@ -31,7 +32,6 @@ use std::io::{self, IsTerminal, Write};
 use std::net::Net;
 use std::random::RandomSource;
 use std::rt::{Clock, Files};
-use std::time::SystemTime;
 use user_files::Locks;
 
 // What files are stored by.
@@ -40,12 +40,17 @@ struct Storing<'a> {
     words: &'a PutWords<'a>,
     choices: &'a Choices,
     environment: &'a Environment<'a>,
+    // What is known of the catalogue of which lines are kept, and the first line of the new one.
+    since: &'a Option<Known>,
+    head: &'a Head,
 }
 
 /// Stores the files of these words, and gives the exit status. Of one file its cap and its
-/// happiness are written. Of several, or of a list, a catalogue is: its first line, and then that
-/// of each file, as soon as it is stored. A file that is refused is told, with its name, and the
-/// others go on; the status is the first that is not 0.
+/// happiness are written. Of several, or of a list, or where an earlier catalogue is named, a
+/// catalogue is: its first line, and then that of each file, as soon as it is stored. The line that
+/// the earlier one has for a file is kept, and the file is not read, where it has not changed since
+/// that one was begun; where its text is none, nothing is written. A file that is refused is told,
+/// with its name, and the others go on; the status is the first that is not 0.
 pub fn put<R, O, E>(
     rt: &R,
     words: &PutWords<'_>,
@@ -69,12 +74,12 @@ where
     }
 }
 
-// The file of these words, if they name one and no list.
+// The file of these words, if they name one, and no list or catalogue.
 fn only_file<'a>(words: &PutWords<'a>) -> Option<&'a str>
     ensures { is_some result ≡ is_one words.now }
 {
     let files = words.files.as_slice();
-    if files.len() == 1 && is_unsaid(&words.list) {
+    if files.len() == 1 && is_unsaid(&words.list) && words.since.is_none() {
         Some(files[0])
     } else {
         None
@@ -113,8 +118,8 @@ where
     }
 }
 
-// Stores several files, or those of a list. What may not be, and a fault of the grid's folder or of
-// the list, end it before the first line.
+// Stores several files, or those of a list. What may not be, and a fault of the grid's folder, of
+// the list or of the catalogue of which lines are to be kept, end it before the first line.
 fn put_list<R, O, E>(
     rt: &R,
     words: &PutWords<'_>,
@@ -126,35 +131,86 @@ where
     R: Files + io::Input + Net + Clock + RandomSource + Locks + AllocGlobal + Clone + Drop,
     O: Write,
     E: Write + IsTerminal,
-    ensures { IfOk result (λ status. IsPutList (GivesOpened R.File.stream_position
+    ensures { IfOk result (λ status. IsPutMany (GivesOpened R.File.stream_position
         R.File.stream_bytes R.File.remaining) (grid_calls R.Stream.contents R.Stream.remaining)
         words.now status (O.contents out.old) (O.contents out.new)) }
 {
     let choices = read_choices(rt, words, progress)?;
-    if is_input_twice(words) {
-        progress.tell(INPUT_TWICE);
+    if let Some(told) = input_twice(words) {
+        progress.tell(told);
         return Err(Failure::Fault(Fault::BadParameters));
     }
     let begun = begin_list(rt, words, &choices, words.known || environment.known)?;
-    let text = read_list(rt, &words.list, environment.temporary)?;
+    put_begun(rt, words, environment, &begun, out, progress)
+}
+
+// The same in a grid that may be put to: reads the list, and the catalogue of which lines are to be
+// kept. Where that is none it is told, and nothing is written.
+fn put_begun<R, O, E>(
+    rt: &R,
+    words: &PutWords<'_>,
+    environment: &Environment<'_>,
+    begun: &Begun,
+    out: &mut O,
+    progress: &mut Progress<'_, R, E>,
+) -> Result<u8, Failure>
+where
+    R: Files + io::Input + Net + Clock + RandomSource + Locks + AllocGlobal + Clone + Drop,
+    O: Write,
+    E: Write + IsTerminal,
+    requires choices { AreChoicesBy words.now begun.now.choices }
+    requires line { (secret : List ℕ) × (said_by begun.now.choices ≡ Some secret)
+        × IsHeadBy words.now secret begun.now.head
+        × (begun.now.line.items ≡ first_text begun.now.head) }
+    ensures { IfOk result (λ status. IsPutMany (GivesOpened R.File.stream_position
+        R.File.stream_bytes R.File.remaining) (grid_calls R.Stream.contents R.Stream.remaining)
+        words.now status (O.contents out.old) (O.contents out.new)) }
+{
+    let list = read_list(rt, &words.list, environment.temporary)?;
+    let text = read_since(rt, words, environment.temporary)?;
+    match known_since(rt.alloc(), words, &text) {
+        Ok(since) => put_since(rt, words, environment, begun, &since, &list, out, progress),
+        Err(CatalogueError::OutOfMemory) => Err(Failure::Fault(Fault::OutOfMemory)),
+        Err(error) => {
+            tell_unread(rt.alloc(), error, progress)?;
+            Ok(UNREAD)
+        }
+    }
+}
+
+// The same with a list's text, and what is known of the catalogue.
+fn put_since<R, O, E>(
+    rt: &R,
+    words: &PutWords<'_>,
+    environment: &Environment<'_>,
+    begun: &Begun,
+    since: &Option<Known>,
+    list: &[u8],
+    out: &mut O,
+    progress: &mut Progress<'_, R, E>,
+) -> Result<u8, Failure>
+where
+    R: Files + io::Input + Net + Clock + RandomSource + Locks + AllocGlobal + Clone + Drop,
+    O: Write,
+    E: Write + IsTerminal,
+    requires choices { AreChoicesBy words.now begun.now.choices }
+    requires line { (secret : List ℕ) × (said_by begun.now.choices ≡ Some secret)
+        × IsHeadBy words.now secret begun.now.head
+        × (begun.now.line.items ≡ first_text begun.now.head) }
+    requires since { IsSince words.now since.now }
+    ensures { IfOk result (λ status. IsPutMany (GivesOpened R.File.stream_position
+        R.File.stream_bytes R.File.remaining) (grid_calls R.Stream.contents R.Stream.remaining)
+        words.now status (O.contents out.old) (O.contents out.new)) }
+{
+    tell_since(rt.alloc(), since, &begun.head, progress)?;
     let storing = Storing {
         words,
         choices: &begun.choices,
         environment,
+        since,
+        head: &begun.head,
     };
-    put_listed(rt, &storing, &begun.line, &text, out, progress)
-}
-
-// What is told where standard input is to be a list and a file.
-const INPUT_TWICE: &str = "standard input is the list, and cannot be a file too\n";
-
-// Whether standard input is to be the list, and a file too.
-fn is_input_twice(words: &PutWords<'_>) -> bool {
-    let is_list = match &words.list {
-        ListWords::Unsaid => false,
-        ListWords::Lines(path) | ListWords::Nuls(path) => *path == STANDARD_INPUT,
-    };
-    is_list && words.files.iter().any(|file| *file == STANDARD_INPUT)
+    put_listed(rt, &storing, &begun.line, list, out, progress)
 }
 
 // Writes the first line, and stores the files: those of words, and those of the list's text.
@@ -171,10 +227,11 @@ where
     O: Write,
     E: Write + IsTerminal,
     requires choices { AreChoicesBy storing.now.words.now storing.now.choices.now }
-    requires line { (secret : List ℕ) × (head : Head)
-        × (said_by storing.now.choices.now ≡ Some secret)
-        × IsHeadBy storing.now.words.now secret head × (line.now ≡ first_text head) }
-    ensures { IfOk result (λ status. IsPutList (GivesOpened R.File.stream_position
+    requires line { (secret : List ℕ) × (said_by storing.now.choices.now ≡ Some secret)
+        × IsHeadBy storing.now.words.now secret storing.now.head.now
+        × (line.now ≡ first_text storing.now.head.now) }
+    requires since { IsSince storing.now.words.now storing.now.since.now }
+    ensures { IfOk result (λ status. IsPutMany (GivesOpened R.File.stream_position
         R.File.stream_bytes R.File.remaining) (grid_calls R.Stream.contents R.Stream.remaining)
         storing.now.words.now status (O.contents out.old) (O.contents out.new)) }
 {
@@ -208,9 +265,9 @@ where
     requires { AreChoicesBy storing.now.words.now storing.now.choices.now }
     ensures { IfOk result (λ status. AreListed (GivesOpened R.File.stream_position
         R.File.stream_bytes R.File.remaining) (grid_calls R.Stream.contents R.Stream.remaining)
-        storing.now.words.now (said_by storing.now.choices.now)
-        (map (λ f. f.now) files.now ++ map (λ n. n.now) names.now) 0 status (O.contents out.old)
-        (O.contents out.new)) }
+        storing.now.words.now (said_by storing.now.choices.now) storing.now.since.now
+        storing.now.head.now (map (λ f. f.now) files.now ++ map (λ n. n.now) names.now) 0 status
+        (O.contents out.old) (O.contents out.new)) }
 {
     let mut kept = None;
     let status = put_names(rt, storing, files, true, DONE, &mut kept, out, progress)?;
@@ -238,8 +295,9 @@ where
         (grid_calls R.Stream.contents R.Stream.remaining) storing.now.words.now.grid.now g.grid) }
     ensures listed { IfOk result (λ status. AreListed (GivesOpened R.File.stream_position
         R.File.stream_bytes R.File.remaining) (grid_calls R.Stream.contents R.Stream.remaining)
-        storing.now.words.now (said_by storing.now.choices.now) (map (λ n. n.now) names.now) first
-        status (O.contents out.old) (O.contents out.new)) }
+        storing.now.words.now (said_by storing.now.choices.now) storing.now.since.now
+        storing.now.head.now (map (λ n. n.now) names.now) first status (O.contents out.old)
+        (O.contents out.new)) }
     ensures kept { IfSome kept.new (λ g. WereOpened
         (grid_calls R.Stream.contents R.Stream.remaining) storing.now.words.now.grid.now g.grid) }
 {
@@ -251,7 +309,8 @@ where
     Ok(status)
 }
 
-// Stores the file of a name and writes its line, or tells why it is refused. Gives its status.
+// Writes the line of the file of a name, which is kept or stored, or tells why it is refused. Gives
+// its status.
 fn put_name<R, O, E>(
     rt: &R,
     storing: &Storing<'_>,
@@ -270,13 +329,73 @@ where
         (grid_calls R.Stream.contents R.Stream.remaining) storing.now.words.now.grid.now g.grid) }
     ensures listed { IfOk result (λ status. IsListed (GivesOpened R.File.stream_position
         R.File.stream_bytes R.File.remaining) (grid_calls R.Stream.contents R.Stream.remaining)
-        storing.now.words.now (said_by storing.now.choices.now) name.now status (O.contents out.old)
-        (O.contents out.new)) }
+        storing.now.words.now (said_by storing.now.choices.now) storing.now.since.now
+        storing.now.head.now name.now status (O.contents out.old) (O.contents out.new)) }
+    ensures kept { IfSome kept.new (λ g. WereOpened
+        (grid_calls R.Stream.contents R.Stream.remaining) storing.now.words.now.grid.now g.grid) }
+{
+    if let Some(cap) = kept_cap(rt, storing.since, storing.head, name, has_input) {
+        return write_kept(rt.alloc(), &cap, name, out);
+    }
+    put_anew(rt, storing, name, has_input, kept, out, progress)
+}
+
+// Writes the line of a file that is kept, and gives its status.
+fn write_kept<O: Write>(alloc: Global, cap: &Cap, name: &[u8], out: &mut O) -> Result<u8, Failure>
+    requires { IsName name.now }
+    ensures entry { IfOk result (λ _. IsEntry (record { cap = cap.now; name = name.now })) }
+    ensures status { IfOk result (λ status. status ≡ 0) }
+    ensures written { IfOk result (λ _. Appends (O.contents out.old) (O.contents out.new)
+        (line_text cap.now name.now)) }
+{
+    write_line(alloc, cap, name, out)?;
+    Ok(DONE)
+}
+
+// Writes the line of a file that was stored, and gives its status.
+fn write_stored<O: Write>(
+    alloc: Global,
+    file: &PutFile,
+    name: &[u8],
+    out: &mut O,
+) -> Result<u8, Failure>
+    requires { IsName name.now }
+    ensures entry { IfOk result
+        (λ _. IsEntry (record { cap = file.now.cap; name = name.now })) }
+    ensures status { IfOk result (λ status. status ≡ put_status file.now) }
+    ensures written { IfOk result (λ _. Appends (O.contents out.old) (O.contents out.new)
+        (line_text file.now.cap name.now)) }
+{
+    write_line(alloc, &file.cap, name, out)?;
+    Ok(file.status())
+}
+
+// Stores the file of a name and writes its line, or tells why it is refused. Gives its status.
+fn put_anew<R, O, E>(
+    rt: &R,
+    storing: &Storing<'_>,
+    name: &[u8],
+    has_input: bool,
+    kept: &mut Option<OpenGrid<R>>,
+    out: &mut O,
+    progress: &mut Progress<'_, R, E>,
+) -> Result<u8, Failure>
+where
+    R: Files + io::Input + Net + Clock + RandomSource + Locks + AllocGlobal + Clone + Drop,
+    O: Write,
+    E: Write + IsTerminal,
+    requires choices { AreChoicesBy storing.now.words.now storing.now.choices.now }
+    requires kept { IfSome kept.old (λ g. WereOpened
+        (grid_calls R.Stream.contents R.Stream.remaining) storing.now.words.now.grid.now g.grid) }
+    ensures listed { IfOk result (λ status. IsListed (GivesOpened R.File.stream_position
+        R.File.stream_bytes R.File.remaining) (grid_calls R.Stream.contents R.Stream.remaining)
+        storing.now.words.now (said_by storing.now.choices.now) storing.now.since.now
+        storing.now.head.now name.now status (O.contents out.old) (O.contents out.new)) }
     ensures kept { IfSome kept.new (λ g. WereOpened
         (grid_calls R.Stream.contents R.Stream.remaining) storing.now.words.now.grid.now g.grid) }
 {
     match put_named(rt, storing, name, has_input, kept, progress) {
-        Ok(file) => write_line(rt.alloc(), &file, name, out),
+        Ok(file) => write_stored(rt.alloc(), &file, name, out),
         Err(fault) => {
             tell_refused(rt.alloc(), name, &fault, progress)?;
             Ok(fault.status())
@@ -333,79 +452,4 @@ fn bytes_of<'a>(alloc: Global, texts: &'a [&'a str]) -> Result<Vec<&'a [u8]>, Al
         bytes.push(text.as_bytes())?;
     }
     Ok(bytes)
-}
-
-// How the files of a list are put, and the first line of their catalogue.
-#[derive(Drop)]
-struct Begun {
-    choices: Choices,
-    line: Vec<u8>,
-}
-
-// All files are put under one secret, which is read once, in a grid that may be put to. The first
-// line of the catalogue tells secrets apart.
-fn begin_list<R>(
-    rt: &R,
-    words: &PutWords<'_>,
-    choices: &Choices,
-    is_known: bool,
-) -> Result<Begun, Fault>
-where
-    R: Files + Clock + AllocGlobal,
-    requires { AreChoicesBy words.now choices.now }
-    ensures choices { IfOk result (λ begun. AreChoicesBy words.now begun.choices) }
-    ensures line { IfOk result (λ begun. (secret : List ℕ) × (head : Head)
-        × (said_by begun.choices ≡ Some secret) × IsHeadBy words.now secret head
-        × (begun.line.items ≡ first_text head)) }
-{
-    may_put(rt, words.grid, is_known)?;
-    let secret = secret_of(rt, words.grid, choices.secret())?;
-    let params = choices.params;
-    let line = head_of(rt, &params, &secret).text(rt.alloc())?;
-    let said = Some(secret);
-    Ok(Begun {
-        choices: Choices { params, said },
-        line,
-    })
-}
-
-// What the first line tells: the moment, the numbers, and what tells secrets apart. Without a clock
-// the catalogue counts as begun in 1970.
-fn head_of<R: Clock>(rt: &R, params: &Params, secret: &[u8]) -> Head
-    requires { IsSecret secret.now }
-    ensures range { IsInRange result }
-    ensures numbers { result.numbers ≡ record {
-      needed = params.now.needed;
-      total = params.now.total;
-      segment_size = params.now.max_segment;
-    } }
-    ensures fingerprint { result.fingerprint ≡ fingerprint_of result.numbers secret.now }
-{
-    let numbers = Numbers {
-        needed: params.needed(),
-        total: params.total(),
-        segment_size: params.max_segment(),
-    };
-    Head {
-        begun: moment(rt),
-        numbers,
-        fingerprint: numbers.fingerprint(secret),
-    }
-}
-
-// What time it is.
-fn moment<R: Clock>(rt: &R) -> Moment
-    ensures { result.nanoseconds < 1000000000 }
-{
-    let now = SystemTime::now(rt).unwrap_or(SystemTime::UNIX_EPOCH);
-    match now.duration_since(SystemTime::UNIX_EPOCH) {
-        Ok(since) => Moment {
-            seconds: since.as_secs(),
-            nanoseconds: since.subsec_nanos(),
-        },
-        Err(_) => Moment {
-            seconds: 0,
-            nanoseconds: 0,
-        },
-    }
 }

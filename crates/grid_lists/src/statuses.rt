@@ -1,7 +1,7 @@
 //! The exit statuses of commands over many files.
 
 ghost use Rattle.std.specs.Prelude.{◌≡◌};
-ghost use Rattle.grid_lists.specs.Puts.{status_after};
+ghost use Rattle.grid_lists.specs.Statuses.{status_after};
 
 /// That of what is done.
 pub(crate) const DONE: u8 = 0;

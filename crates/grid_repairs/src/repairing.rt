@@ -78,25 +78,14 @@ where
         mend: words.mend,
     };
     let (mut reading, mut writing) = (None, None);
-    match repair_shares(
-        rt,
-        &repairing,
-        &cap,
-        &mut reading,
-        &mut writing,
-        progress,
-    ) {
+    match repair_shares(rt, &repairing, &cap, &mut reading, &mut writing, progress) {
         Ok(stored) => told_outcome(rt.alloc(), &stored),
         Err(fault) => Err(fault),
     }
 }
 
 /// Refuses a happiness that no file may have.
-pub fn may_repair<R, E>(
-    rt: &R,
-    happy: u64,
-    progress: &mut Progress<'_, R, E>,
-) -> Result<(), Fault>
+pub fn may_repair<R, E>(rt: &R, happy: u64, progress: &mut Progress<'_, R, E>) -> Result<(), Fault>
 where
     R: Clock + AllocGlobal,
     E: Write + IsTerminal,

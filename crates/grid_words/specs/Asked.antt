@@ -97,6 +97,7 @@ pub record AsksInit (rows : List Row) (words : InitWords) : Type 0 where
 pub record AsksPut (rows : List Row) (words : PutWords) : Type 0 where
   pub files : map (λ f. f.now) words.files.items ≡ texts_under (codes "FILE") rows
   pub list : IsList rows words.list
+  pub since : option_map (λ path. path.now) words.since ≡ first_of (codes "since") rows
   pub grid : words.grid.now ≡ text_under (codes "grid") rows
   pub secret : IsSecret rows words.secret
   pub needed : words.needed ≡ unwrap_or (number_under (codes "k") rows) 0

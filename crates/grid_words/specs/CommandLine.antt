@@ -90,6 +90,7 @@ abbrev pub put_rules : List Rule
 put_rules = files
     ∷ files_from
     ∷ option (codes "files0-from")
+    ∷ option (codes "since")
     ∷ grid_folder
     ∷ number_or (codes "k") (codes "3")
     ∷ happy

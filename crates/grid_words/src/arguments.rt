@@ -47,6 +47,19 @@ pub(crate) fn files0_from<'a>(alloc: Global) -> Arg<'a>
     )
 }
 
+/// A catalogue of which lines are kept.
+pub(crate) fn since<'a>(alloc: Global) -> Arg<'a>
+    ensures { HasRule (option (codes "since")) result }
+{
+    option(
+        alloc,
+        "since",
+        "CATALOGUE",
+        "Keep the lines that an earlier put into this grid wrote to CATALOGUE, for files that have \
+not changed since then; - is standard input",
+    )
+}
+
 /// A word that has to be there.
 pub(crate) fn operand<'a>(alloc: Global, name: &'a str, help: &'a str) -> Arg<'a>
     ensures { HasRule (operand name.entry.now) result }

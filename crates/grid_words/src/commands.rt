@@ -13,7 +13,7 @@ use crate::arguments::{
     add, adopt, anyone, files, files_from, files0_from, flag, grid_folder, happy, json,
     kept_secret, known, listen, mark, max_segment, mend, needed, net, new_grid, new_servers,
     no_sync, number, operand, output, replace, room, secret, secret_file, served_folder, server,
-    servers, total, verbose,
+    servers, since, total, verbose,
 };
 use crate::catalogue_arguments::{
     cap_file, caps, chosen, into, looked_at_caps, overwrite, read_cap, verify_cap,
@@ -136,8 +136,12 @@ fn put_command<'a>(alloc: Global) -> Result<Command<'a>, AllocError>
         alloc,
         "put",
         "Stores a file and prints its cap, which gives it back, and how many servers hold shares \
-of their own. Of several files, or of a list, it prints a catalogue: a line for each that is \
-stored, with its cap and its name.",
+of their own. Of several files, or of a list, or with --since, it prints a catalogue: a line for \
+each that is stored, with its cap and its name. With --since it keeps the line of a file that has \
+the size of its cap, and that was neither changed nor written since two seconds before CATALOGUE \
+was begun: such a file is not read. So it does not see one that changed with no new time of change \
+(as where a clock was set back, a disk was written beneath its file system, or another folder took \
+this one's name), and it looks at no share: `grid check` does.",
         coding_arguments(alloc)?,
     )?;
     command.args(storing_arguments(alloc)?)
@@ -145,12 +149,13 @@ stored, with its cap and its name.",
 
 // What `put` stores, and the numbers by which it is cut and placed.
 fn coding_arguments<'a>(alloc: Global) -> Result<Vec<Arg<'a>>, AllocError>
-    ensures { IfOk result (λ arguments. HaveRules (take 9 put_rules) arguments.items) }
+    ensures { IfOk result (λ arguments. HaveRules (take 10 put_rules) arguments.items) }
 {
     Ok(vec![in alloc;
         files(alloc)?,
         files_from(alloc)?,
         files0_from(alloc),
+        since(alloc),
         grid_folder(alloc),
         needed(alloc),
         happy(alloc),
@@ -162,7 +167,7 @@ fn coding_arguments<'a>(alloc: Global) -> Result<Vec<Arg<'a>>, AllocError>
 
 // How `put` keys, stores and tells.
 fn storing_arguments<'a>(alloc: Global) -> Result<Vec<Arg<'a>>, AllocError>
-    ensures { IfOk result (λ arguments. HaveRules (drop 9 put_rules) arguments.items) }
+    ensures { IfOk result (λ arguments. HaveRules (drop 10 put_rules) arguments.items) }
 {
     Ok(vec![in alloc;
         secret(alloc),

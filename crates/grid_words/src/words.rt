@@ -128,6 +128,8 @@ pub struct PutWords<'a> {
     /// Paths, or `-` for standard input. There is one at least, or a list.
     pub files: Vec<&'a str>,
     pub list: ListWords<'a>,
+    /// The path of a catalogue of which lines are kept, or `-` for standard input.
+    pub since: Option<&'a str>,
     pub grid: &'a str,
     pub secret: SecretWords<'a>,
     pub needed: u64,
@@ -286,6 +288,7 @@ fn put_words<'a>(alloc: Global, found: &ArgMatches<'a>) -> Result<PutWords<'a>, 
     Ok(PutWords {
         files: texts_of(alloc, found, "FILE")?,
         list: list_words(found),
+        since: found_text(found, "since"),
         grid: text_of(found, "grid"),
         secret: secret_words(found),
         needed: number_of(found, "k").unwrap_or(0),

@@ -21,4 +21,6 @@ mod open_grids_tests;
 #[cfg(test)]
 mod progress_tests;
 #[cfg(test)]
+mod since_tests;
+#[cfg(test)]
 mod sites_tests;

@@ -11,6 +11,8 @@ mod faulty_io_tests;
 #[cfg(test)]
 mod frames_tests;
 #[cfg(test)]
+mod kept_tests;
+#[cfg(test)]
 mod ledger_tests;
 #[cfg(test)]
 mod requests_tests;

@@ -4,11 +4,11 @@ use Rattle.grid_shares.specs.Puts.{said_by}
 use Rattle.grid_lists.proofs.putting.put_names.Goals as goal
 
 pub loop-name-init : goal.loop-name-init
-loop-name-init g c = record { listed = none_listed _ _ c.args.storing.now.words.now (said_by c.args.storing.now.choices.now) c.args.first _; kept = c.requires.kept }
+loop-name-init g c = record { listed = none_listed _ _ c.args.storing.now.words.now (said_by c.args.storing.now.choices.now) c.args.storing.now.since.now c.args.storing.now.head.now c.args.first _; kept = c.requires.kept }
 
 pub loop-name-preserved : goal.loop-name-preserved
 loop-name-preserved g c = record {
-  listed = next_listed _ _ c.args.storing.now.words.now (said_by c.args.storing.now.choices.now) c.args.names.now c.loop-name.name-index _ c.args.first c.loop-name.status c.in_ok-own.own c.status_after-status.result _ _ _ _ c.loop-name-test.true
+  listed = next_listed _ _ c.args.storing.now.words.now (said_by c.args.storing.now.choices.now) c.args.storing.now.since.now c.args.storing.now.head.now c.args.names.now c.loop-name.name-index _ c.args.first c.loop-name.status c.in_ok-own.own c.status_after-status.result _ _ _ _ c.loop-name-test.true
       refl c.status_after-status.ensures c.loop-name.invariant.listed c.in_ok-own.ensures.listed;
   kept = c.in_ok-own.ensures.kept;
 }

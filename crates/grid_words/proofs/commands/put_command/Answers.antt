@@ -8,7 +8,7 @@ use Rattle.grid_words.proofs.commands.put_command.Goals as goal
 
 pub returns : goal.returns
 returns c =
-    let first : List Rule = take 9 put_rules in
+    let first : List Rule = take 10 put_rules in
     let is : HasShape (shape (codes "put") first) c.in_ok-command.command =
     c.in_ok-command.ensures first c.in_ok-coding_arguments.ensures in
-    IfOk-weaker c.args-2.result _ _ (λ r adds. added_all _ r _ (drop 9 put_rules) (shape (codes "put") first) adds c.in_ok-storing_arguments.ensures is) c.args-2.ensures
+    IfOk-weaker c.args-2.result _ _ (λ r adds. added_all _ r _ (drop 10 put_rules) (shape (codes "put") first) adds c.in_ok-storing_arguments.ensures is) c.args-2.ensures

@@ -1,0 +1,248 @@
+// Puts that keep lines of an earlier catalogue, by a clock that is an hour ahead.
+
+use crate::host::{Odd, OddHost, Plan};
+use crate::host_runs::{Ended, run};
+use crate::list_runs::{begins, path, removes_all};
+use std::alloc::AllocError;
+use std::fs::{self, File};
+use std::os::unix::fs::symlink;
+use std::rt::Clock;
+use std::test::Fail;
+use std::time::{Duration, SystemTime};
+
+// The caps of the words `one` and `two`, which hold them in base32, and of a longer one; the cap of
+// 56 zero bytes at 3 of 10, by programs that share no code with these crates, and a verify cap.
+const ONE_CAP: &str = "URI:LIT:n5xgk";
+
+const TWO_CAP: &str = "URI:LIT:or3w6";
+
+const SEVEN_CAP: &str = "URI:LIT:onsxmzlo";
+
+const VERIFY_CAP: &str = "URI:CHK-Verifier:aaaaaaaaaaaaaaaaaaaaaaaaaa:\
+    mulphu6sadrudv3w5tjchnmax5njyq74hibk3qaudszblkawpxgq:3:10:56";
+
+// How a first line tells the usual numbers and no secret.
+const USUAL: &str = "k 3 n 10 segment 131072 under w3hm5rcm33g237wuaijiuuup7q";
+
+// What is told where the first lines differ.
+const ANEW: &str = "all files are read: the catalogue was begun with other numbers or another \
+    secret, or later than now by the clock\n";
+
+// By how many seconds the clock of these puts is ahead.
+const HOUR: u64 = 3600;
+
+// The seconds since 1970, by the system's clock.
+fn now(rt: &HostRuntime) -> Result<u64, Fail> {
+    Ok(rt.since_1970()?.as_secs())
+}
+
+// Writes a catalogue that was begun then, with such numbers and these lines.
+fn list(rt: &HostRuntime, begun: u64, numbers: &str, lines: &str) -> Result<(), Fail> {
+    let text = format!(in rt.alloc();
+        "# grid catalogue 1 begun {begun}.000000000 {numbers}\n{lines}"
+    )?;
+    fs::write(rt, path(rt, "/caps")?.as_str(), text.as_str())?;
+    Ok(())
+}
+
+// A put of these files since that catalogue, with options behind it.
+fn put(rt: &HostRuntime, files: &str, options: &str) -> Result<Ended, AllocError> {
+    let mut plan = Plan::new(Odd::Nothing);
+    plan.ahead = HOUR;
+    let (caps, grid) = (path(rt, "/caps")?, path(rt, "/grid")?);
+    let line = format!(in rt.alloc();
+        "grid put {files} --grid {grid} --since {caps}{options}"
+    )?;
+    run(&OddHost { rt: *rt, plan: &plan }, line.as_str(), false)
+}
+
+// Whether these lines were written behind a first one, and nothing else was.
+fn has_lines(ended: &Ended, lines: &str) -> bool {
+    let out = ended.out.as_slice();
+    let first = out.iter().position(|byte| *byte == b'\n').unwrap_or(0);
+    let rest = out.get(first.saturating_add(1)..).unwrap_or(&[]);
+    out.starts_with(b"# grid catalogue 1 begun ") && rest == lines.as_bytes()
+}
+
+// The line of a cap and the file `one`.
+fn line(rt: &HostRuntime, cap: &str) -> Result<String, AllocError> {
+    format!(in rt.alloc(); "{cap}  {}\n", path(rt, "/one")?)
+}
+
+// Files that have not changed keep their lines, whatever is in them: words and those of lists, with
+// one word alone too, and under odd names. The last line of a name counts.
+#[test]
+fn lines_are_kept(rt: HostRuntime) -> Result<(), Fail> {
+    assert!(rt; begins(&rt));
+    let (one, odd, names) = (path(&rt, "/one")?, path(&rt, "/o\\n\ne")?, path(&rt, "/names")?);
+    fs::write(&rt, one.as_str(), "one")?;
+    fs::write(&rt, odd.as_str(), "one")?;
+    let told = path(&rt, "/o\\\\n\\ne")?;
+    let lines = format!(in rt.alloc(); "{TWO_CAP}  {one}\n\\{TWO_CAP}  {told}\n")?;
+    let other = format!(in rt.alloc(); "{ONE_CAP}  {one}\n{lines}")?;
+    list(&rt, now(&rt)?.saturating_add(600), USUAL, other.as_str())?;
+    let alone = put(&rt, one.as_str(), "")?;
+    assert!(rt; alone.status == 0 && has_lines(&alone, line(&rt, TWO_CAP)?.as_str()));
+    assert!(rt; alone.err.rest().is_empty());
+    let files = format!(in rt.alloc(); "{one} {odd}")?;
+    let both = put(&rt, files.as_str(), "")?;
+    assert!(rt; both.status == 0 && has_lines(&both, lines.as_str()));
+    fs::write(&rt, names.as_str(), one.as_str())?;
+    let options = format!(in rt.alloc(); " --files-from {names}")?;
+    let listed = put(&rt, odd.as_str(), options.as_str())?;
+    assert!(rt; listed.status == 0 && listed.err.rest().is_empty());
+    let lines = format!(in rt.alloc(); "\\{TWO_CAP}  {told}\n{TWO_CAP}  {one}\n")?;
+    assert!(rt; has_lines(&listed, lines.as_str()));
+    assert!(rt; removes_all(&rt));
+    Ok(())
+}
+
+// A file is read anew where it changed later than two seconds before the catalogue was begun, or
+// where that has other numbers, another secret, a later time than now, or no line of its size.
+#[test]
+fn others_are_read(rt: HostRuntime) -> Result<(), Fail> {
+    assert!(rt; begins(&rt));
+    let one = path(&rt, "/one")?;
+    fs::write(&rt, one.as_str(), "one")?;
+    let now = now(&rt)?;
+    let later = now.saturating_add(600);
+    let rows = [
+        (later, USUAL, TWO_CAP, TWO_CAP, ""),
+        (now.saturating_add(1), USUAL, TWO_CAP, ONE_CAP, ""),
+        (now.saturating_sub(60), USUAL, TWO_CAP, ONE_CAP, ""),
+        (later.saturating_add(HOUR), USUAL, TWO_CAP, ONE_CAP, ANEW),
+        (later, USUAL, SEVEN_CAP, ONE_CAP, ""),
+        (later, USUAL, VERIFY_CAP, ONE_CAP, ""),
+        (
+            later,
+            "k 2 n 10 segment 131072 under w3hm5rcm33g237wuaijiuuup7q",
+            TWO_CAP,
+            ONE_CAP,
+            ANEW,
+        ),
+        (
+            later,
+            "k 3 n 9 segment 131072 under w3hm5rcm33g237wuaijiuuup7q",
+            TWO_CAP,
+            ONE_CAP,
+            ANEW,
+        ),
+        (
+            later,
+            "k 3 n 10 segment 131071 under w3hm5rcm33g237wuaijiuuup7q",
+            TWO_CAP,
+            ONE_CAP,
+            ANEW,
+        ),
+        (
+            later,
+            "k 3 n 10 segment 131072 under aaaaaaaaaaaaaaaaaaaaaaaaaa",
+            TWO_CAP,
+            ONE_CAP,
+            ANEW,
+        ),
+    ];
+    for (begun, numbers, cap, wanted, told) in rows {
+        list(&rt, begun, numbers, line(&rt, cap)?.as_str())?;
+        let ended = put(&rt, one.as_str(), "")?;
+        assert!(rt; ended.status == 0 && has_lines(&ended, line(&rt, wanted)?.as_str()));
+        assert!(rt; ended.err.rest() == told.as_bytes());
+    }
+    assert!(rt; removes_all(&rt));
+    Ok(())
+}
+
+// The last of a name's lines counts, also where it keeps none; a file whose bytes are said to be
+// younger than the catalogue is read anew, and so is one behind a link.
+#[test]
+fn odd_files_are_read(rt: HostRuntime) -> Result<(), Fail> {
+    assert!(rt; begins(&rt));
+    let (one, two) = (path(&rt, "/one")?, path(&rt, "/two")?);
+    fs::write(&rt, one.as_str(), "one")?;
+    let later = now(&rt)?.saturating_add(600);
+    let lines = format!(in rt.alloc(); "{TWO_CAP}  {one}\n{SEVEN_CAP}  {one}\n")?;
+    list(&rt, later, USUAL, lines.as_str())?;
+    let ended = put(&rt, one.as_str(), "")?;
+    assert!(rt; ended.status == 0 && has_lines(&ended, line(&rt, ONE_CAP)?.as_str()));
+    fs::rename(&rt, one.as_str(), two.as_str())?;
+    symlink(&rt, two.as_str(), one.as_str())?;
+    list(&rt, later, USUAL, line(&rt, TWO_CAP)?.as_str())?;
+    let linked = put(&rt, one.as_str(), "")?;
+    assert!(rt; linked.status == 0 && has_lines(&linked, line(&rt, ONE_CAP)?.as_str()));
+    fs::remove_file(&rt, one.as_str())?;
+    fs::write(&rt, one.as_str(), "one")?;
+    let file = File::options().write(true).open(&rt, one.as_str())?;
+    let time = SystemTime::UNIX_EPOCH.checked_add(Duration::from_secs(later));
+    file.set_modified(time.unwrap_or(SystemTime::UNIX_EPOCH))?;
+    let young = put(&rt, one.as_str(), "")?;
+    assert!(rt; young.status == 0 && has_lines(&young, line(&rt, ONE_CAP)?.as_str()));
+    file.set_modified(SystemTime::UNIX_EPOCH)?;
+    let old = put(&rt, one.as_str(), "")?;
+    assert!(rt; old.status == 0 && has_lines(&old, line(&rt, TWO_CAP)?.as_str()));
+    assert!(rt; removes_all(&rt));
+    Ok(())
+}
+
+// What a put wrote that was killed goes on: its whole lines are kept, and the rest is read anew,
+// which is told. No share is made of a file whose line is kept.
+#[test]
+fn cut_catalogues_go_on(rt: HostRuntime) -> Result<(), Fail> {
+    assert!(rt; begins(&rt));
+    let (one, two, grid) = (path(&rt, "/one")?, path(&rt, "/two")?, path(&rt, "/grid")?);
+    fs::write(&rt, one.as_str(), [0; 56])?;
+    fs::write(&rt, two.as_str(), "two")?;
+    let files = format!(in rt.alloc(); "{one} {two}")?;
+    list(&rt, now(&rt)?, USUAL, "")?;
+    let first = put(&rt, files.as_str(), "")?;
+    assert!(rt; first.status == 0 && first.err.rest().is_empty());
+    fs::remove_dir_all(&rt, grid.as_str())?;
+    let caps = path(&rt, "/caps")?;
+    let kept = first.out.len().saturating_sub(1);
+    fs::write(&rt, caps.as_str(), first.out.get(..kept).unwrap_or(&[]))?;
+    let again = put(&rt, files.as_str(), "")?;
+    assert!(rt; again.status == 0 && !fs::exists(&rt, grid.as_str())?);
+    let told = "line 3 of the catalogue is none, and what follows it is not looked at\n";
+    assert!(rt; again.err.rest() == told.as_bytes());
+    let end = first.out.iter().position(|byte| *byte == b'\n').unwrap_or(0);
+    let lines = first.out.get(end.saturating_add(1)..).unwrap_or(&[]);
+    assert!(rt; has_lines(&again, str::from_utf8(lines).unwrap_or("")));
+    assert!(rt; removes_all(&rt));
+    Ok(())
+}
+
+// What is no catalogue is refused before anything is written, and so are two of the list, the
+// catalogue and a file that are to be standard input.
+#[test]
+fn no_catalogue_to_go_on_from(rt: HostRuntime) -> Result<(), Fail> {
+    assert!(rt; begins(&rt));
+    let (one, caps) = (path(&rt, "/one")?, path(&rt, "/caps")?);
+    fs::write(&rt, one.as_str(), "one")?;
+    let missing = put(&rt, one.as_str(), "")?;
+    assert!(rt; missing.status == 7 && missing.out.is_empty());
+    fs::write(&rt, caps.as_str(), line(&rt, TWO_CAP)?.as_str())?;
+    let none = put(&rt, one.as_str(), "")?;
+    assert!(rt; none.is(3, b"", "grid: 110 NotACatalogue\n"));
+    let rows = [
+        (
+            "- --since -",
+            "standard input is the catalogue, and cannot be a file too\n",
+        ),
+        (
+            "--files-from - --since -",
+            "standard input is the list, and cannot be the catalogue too\n",
+        ),
+        (
+            "- --files0-from -",
+            "standard input is the list, and cannot be a file too\n",
+        ),
+    ];
+    let plan = Plan::new(Odd::Nothing);
+    for (words, told) in rows {
+        let line = format!(in rt.alloc(); "grid put --grid {} {words}", path(&rt, "/grid")?)?;
+        let ended = run(&OddHost { rt, plan: &plan }, line.as_str(), false)?;
+        assert!(rt; ended.status == 3 && ended.out.is_empty());
+        assert!(rt; ended.err.rest().starts_with(told.as_bytes()));
+    }
+    assert!(rt; removes_all(&rt));
+    Ok(())
+}
