@@ -12,7 +12,7 @@ use Rattle.grid_gets.specs.Files.{FileAct, IsFileBy, MayBeFileBy}
 use Rattle.grid_gets.specs.Gets.{IsBegunBy, IsGotBy, UnlessWriter}
 use Rattle.grid_rules.specs.Ending.{world_status}
 use Rattle.grid_lists.specs.Gets.{IsGetFiles}
-use Rattle.grid_lists.specs.Looks.{IsLookDone, IsLookUndone, checking, repairing}
+use Rattle.grid_surveys.specs.Looks.{IsLookDone, IsLookUndone, checking, repairing}
 use Rattle.grid_lists.specs.Puts.{IsPutDone, IsPutUndone, is_one}
 use Rattle.grid_shares.specs.declared.Outcome.{Outcome}
 use Rattle.grid_servers.specs.Grids.{GridCalls}

@@ -13,7 +13,7 @@ use Rattle.world_script.specs.declared.ending.Ending.{Ending}
 use Rattle.grid_gets.specs.Files.{FileAct, IsFileBy, MayBeFileBy}
 use Rattle.grid_gets.specs.Gets.{IsBegunBy, IsGotBy, UnlessWriter}
 use Rattle.grid_lists.specs.Gets.{IsGetFiles}
-use Rattle.grid_lists.specs.Looks.{IsLookDone, IsLookUndone, checking, repairing}
+use Rattle.grid_surveys.specs.Looks.{IsLookDone, IsLookUndone, checking, repairing}
 use Rattle.grid_lists.specs.Puts.{IsPutDone, IsPutUndone, is_one}
 use Rattle.grid_repairs.specs.Checks.{IsCheckBy}
 use Rattle.grid_repairs.specs.Repairs.{IsRepairBy}

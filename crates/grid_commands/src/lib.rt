@@ -4,9 +4,10 @@
 //! marks the folders of a grid and of its servers. A `put` stores shares, in `grid_shares`, of one
 //! file or of many, in `grid_lists`; a `check` and a `repair` look at those that are stored, in
 //! `grid_repairs`; a `get` is one download or several, in `grid_gets`. Where these are of the files
-//! of a catalogue they stand in `grid_lists`. A `scrub` reads the servers' folders; a `serve` is one
-//! server of a grid, until the process is ended; `world` runs a script, whose text is read whole
-//! before anything runs.
+//! of a catalogue they stand in `grid_lists` and `grid_surveys`. A `scrub` reads the servers'
+//! folders; a `serve` is one server of a grid, until the process is ended; `world` runs a script,
+//! whose text is read whole before anything runs.
+//!
 //! Which words there are stands in `grid_words`, and what is told in `grid_faults`, `grid_rules`
 //! and `grid_telling`.
 #![tactic(auto)]
@@ -40,11 +41,12 @@ use crate::serving::serve_folder;
 use grid_faults::Fault;
 use grid_gets::get;
 pub use grid_gets::{DiskFiles, NamedFiles};
-use grid_lists::{check_files, get_files, put, repair_files};
+use grid_lists::{get_files, put};
 use grid_repairs::{check, repair};
 use grid_rules::{cap_lines, read_cap};
 pub use grid_shares::Environment;
 use grid_shares::Outcome;
+use grid_surveys::{check_files, repair_files};
 use grid_telling::{Failure, Progress};
 use grid_words::{CheckWords, GetWords, RepairWords, Request, read_words};
 use std::alloc::Global;

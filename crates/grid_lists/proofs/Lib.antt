@@ -1,3 +1,2 @@
 mod ListLemmas
-mod GetLemmas
-mod LookLemmas
+pub mod GetLemmas

@@ -1,10 +1,14 @@
 -- How one file of a list ended, for private clauses.
-use Rattle.std.specs.Prelude.{◌≡◌, ℕ, List, Option}
+use Rattle.std.specs.Prelude.{◌≡◌, ℕ, List, Option, is_some, true}
 use Rattle.std.specs.Io.KnownBytes.{Appends}
 use Rattle.sources.specs.Opened.{Opened}
+use Rattle.catalogues.specs.Catalogues.{HasNoHead}
 use Rattle.catalogues.specs.declared.head.Head.{Head}
 use Rattle.catalogues.specs.declared.known.Known.{Known}
 use Rattle.grid_lists.specs.Puts.{Fate, IsFate, fate_status, fate_text}
+use Rattle.grid_lists.specs.Since.{IsSince}
+use Rattle.grid_lists.specs.declared.since.Earlier.{Earlier}
+use Rattle.grid_lists.specs.declared.since.Earlier.TheVariants.{Told, Unread}
 use Rattle.grid_servers.specs.Grids.{GridCalls}
 use Rattle.grid_words.specs.declared.words.PutWords.{PutWords}
 
@@ -17,3 +21,8 @@ pub record IsListed {F S : Type 0} (gives : Opened F → ℕ → List ℕ → Op
   pub is : IsFate gives calls words said since head name fate
   pub status_is : status ≡ fate_status fate
   pub written : Appends before after (fate_text name fate)
+
+-- this was read of the catalogue that words name, if they name one
+abbrev pub IsEarlier : PutWords → Earlier → Type 0
+IsEarlier words (Told since) = IsSince words since
+IsEarlier words Unread = (is_some words.since ≡ true) × (text : List ℕ) × HasNoHead text

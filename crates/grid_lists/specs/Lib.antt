@@ -4,8 +4,6 @@ pub mod Statuses
 pub mod Since
 pub mod Puts
 pub mod Gets
-pub mod Looks
 -- words of private clauses
 pub mod Ends
 pub mod GetEnds
-pub mod LookEnds

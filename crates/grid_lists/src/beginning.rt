@@ -100,7 +100,10 @@ pub(crate) fn input_twice(words: &PutWords<'_>) -> Option<&'static str> {
         ListWords::Unsaid => false,
         ListWords::Lines(path) | ListWords::Nuls(path) => *path == STANDARD_INPUT,
     };
-    let is_since = words.since.is_some_and(|path| path == STANDARD_INPUT);
+    let is_since = match words.since {
+        Some(path) => path == STANDARD_INPUT,
+        None => false,
+    };
     let is_file = words.files.iter().any(|file| *file == STANDARD_INPUT);
     if is_list && is_since {
         Some(LIST_AND_CATALOGUE)

@@ -12,13 +12,13 @@ ghost use Rattle.grid_telling.specs.declared.outcome.Failure.TheVariants as fail
 
 use crate::below::{make_folder, make_way, may_write, path_in, text_of};
 use crate::listed::{tell_misnamed, tell_refused, tell_unfound, tell_unread};
-use crate::looking::find_grid;
 use crate::names::read_text;
 use crate::statuses::{DONE, UNREAD, status_after};
 use cap_text::Cap;
 use catalogues::{Catalogue, Line, chooses, name_below};
 use grid_faults::Fault;
 use grid_gets::{NamedFiles, OpenGrid, Place, get_file};
+use grid_marks::{is_grid, known_grid};
 use grid_shares::Environment;
 use grid_telling::{Failure, Progress};
 use grid_words::GetFilesWords;
@@ -71,6 +71,18 @@ where
 {
     find_grid(rt, words.grid, is_known)?;
     make_folder(rt, words.into)
+}
+
+/// Refuses what is no grid, and where only one that is marked is wanted, another.
+pub fn find_grid<R>(rt: &R, grid: &str, is_known: bool) -> Result<(), Fault>
+where
+    R: Files + AllocGlobal + Clone + Drop,
+{
+    is_grid(rt, grid)?;
+    if is_known {
+        known_grid(rt, grid)?;
+    }
+    Ok(())
 }
 
 // Gets the files of the lines that are left.

@@ -102,7 +102,7 @@ pub(crate) fn write_line<O: Write>(
 
 /// Tells the fault of a file that was refused, with its name and, before it, the line that tells
 /// why.
-pub(crate) fn tell_refused<R, E>(
+pub fn tell_refused<R, E>(
     alloc: Global,
     name: &[u8],
     fault: &Fault,
@@ -122,7 +122,7 @@ where
 }
 
 /// Tells why a text is no catalogue, or which line of it is none.
-pub(crate) fn tell_unread<R, E>(
+pub fn tell_unread<R, E>(
     alloc: Global,
     error: CatalogueError,
     progress: &mut Progress<'_, R, E>,
@@ -154,7 +154,7 @@ where
 }
 
 /// Tells that no file of a catalogue has one of the names that are asked for.
-pub(crate) fn tell_unfound<R, E>(progress: &mut Progress<'_, R, E>)
+pub fn tell_unfound<R, E>(progress: &mut Progress<'_, R, E>)
 where
     R: Clock + AllocGlobal,
     E: Write + IsTerminal,

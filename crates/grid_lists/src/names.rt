@@ -39,7 +39,7 @@ where
 
 /// The text of a list or of a catalogue, which is held. A fault of its file where that cannot be
 /// read, and `TooLarge` where it has more than 64 MiB.
-pub(crate) fn read_text<R>(rt: &R, path: &str, temporary: &str) -> Result<Vec<u8>, Fault>
+pub fn read_text<R>(rt: &R, path: &str, temporary: &str) -> Result<Vec<u8>, Fault>
 where
     R: Files + io::Input + RandomSource + AllocGlobal,
 {

@@ -19,7 +19,7 @@ ghost use Rattle.grid_lists.specs.Since.{IsSince};
 use crate::beginning::{Begun, begin_list, input_twice};
 use crate::listed::{may_be_listed, path_of, tell_refused, tell_unread, write_line};
 use crate::names::{end_of, names_in, read_list};
-use crate::since::{kept_cap, known_since, read_since, tell_since};
+use crate::since::{Earlier, kept_cap, read_since, tell_since};
 use crate::statuses::{DONE, UNREAD, status_after};
 use cap_text::Cap;
 use catalogues::{CatalogueError, Head, Known};
@@ -167,12 +167,12 @@ where
         words.now status (O.contents out.old) (O.contents out.new)) }
 {
     let list = read_list(rt, &words.list, environment.temporary)?;
-    let text = read_since(rt, words, environment.temporary)?;
-    match known_since(rt.alloc(), words, &text) {
-        Ok(since) => put_since(rt, words, environment, begun, &since, &list, out, progress),
-        Err(CatalogueError::OutOfMemory) => Err(Failure::Fault(Fault::OutOfMemory)),
-        Err(error) => {
-            tell_unread(rt.alloc(), error, progress)?;
+    match read_since(rt, words, environment.temporary)? {
+        Earlier::Told(since) => {
+            put_since(rt, words, environment, begun, &since, &list, out, progress)
+        }
+        Earlier::Unread => {
+            tell_unread(rt.alloc(), CatalogueError::NotACatalogue, progress)?;
             Ok(UNREAD)
         }
     }

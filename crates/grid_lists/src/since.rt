@@ -1,9 +1,9 @@
 //! The lines of an earlier catalogue that a put keeps.
 
-ghost use Rattle.std.specs.Prelude.{◌≡◌, ◌⊎◌, IfErr, IfOk, IfSome, is_some, true};
-ghost use Rattle.catalogues.specs.Catalogues.{HasNoHead};
+ghost use Rattle.std.specs.Prelude.{IfOk, IfSome};
 ghost use Rattle.catalogues.specs.Names.{IsName};
-ghost use Rattle.grid_lists.specs.Since.{IsKeptSince, IsSince};
+ghost use Rattle.grid_lists.specs.Ends.{IsEarlier};
+ghost use Rattle.grid_lists.specs.Since.{IsKeptSince};
 
 use crate::listed::STANDARD_INPUT;
 use crate::names::{LINE_FEED, bounded, read_text};
@@ -19,33 +19,30 @@ use std::os::unix::fs::MetadataExt;
 use std::random::RandomSource;
 use std::rt::{Clock, Files};
 
-/// The text of the catalogue that these words name, which is held; an empty one where they name
-/// none. A fault of its file where that cannot be read, and `TooLarge` where it has more than
-/// 64 MiB or 2,097,152 lines.
-pub(crate) fn read_since<R>(rt: &R, words: &PutWords<'_>, temporary: &str) -> Result<Vec<u8>, Fault>
-where
-    R: Files + io::Input + RandomSource + AllocGlobal,
-{
-    match words.since {
-        Some(path) => bounded(read_text(rt, path, temporary)?, LINE_FEED),
-        None => Ok(Vec::new(rt.alloc())),
-    }
+/// What a put goes on from.
+#[derive(Drop)]
+pub(crate) enum Earlier {
+    /// What the catalogue tells that words name, if they name one.
+    Told(Option<Known>),
+    /// A text that is no catalogue.
+    Unread,
 }
 
-/// What the catalogue tells that these words name, by its text. `NotACatalogue` where the text is
-/// none.
-pub(crate) fn known_since(
-    alloc: Global,
-    words: &PutWords<'_>,
-    text: &[u8],
-) -> Result<Option<Known>, CatalogueError>
-    ensures known { IfOk result (IsSince words.now) }
-    ensures refused { IfErr result (λ fault. (fault ≡ CatalogueError.OutOfMemory)
-        ⊎ ((is_some words.now.since ≡ true) × HasNoHead text.now)) }
+/// Reads the catalogue that these words name, if they name one. A fault of its file where that
+/// cannot be read, and `TooLarge` where it has more than 64 MiB or 2,097,152 lines.
+pub(crate) fn read_since<R>(rt: &R, words: &PutWords<'_>, temporary: &str) -> Result<Earlier, Fault>
+where
+    R: Files + io::Input + RandomSource + AllocGlobal,
+    ensures { IfOk result (IsEarlier words.now) }
 {
-    match words.since {
-        Some(_) => Ok(Some(Known::read(alloc, text)?)),
-        None => Ok(None),
+    let Some(path) = words.since else {
+        return Ok(Earlier::Told(None));
+    };
+    let text = bounded(read_text(rt, path, temporary)?, LINE_FEED)?;
+    match Known::read(rt.alloc(), &text) {
+        Ok(known) => Ok(Earlier::Told(Some(known))),
+        Err(CatalogueError::NotACatalogue) => Ok(Earlier::Unread),
+        Err(_) => Err(Fault::OutOfMemory),
     }
 }
 

@@ -4,10 +4,10 @@ ghost use Rattle.std.specs.Prelude.{◌≡◌};
 ghost use Rattle.grid_lists.specs.Statuses.{status_after};
 
 /// That of what is done.
-pub(crate) const DONE: u8 = 0;
+pub const DONE: u8 = 0;
 
 /// That of what is refused as it is read.
-pub(crate) const UNREAD: u8 = 3;
+pub const UNREAD: u8 = 3;
 
 /// The status of files by that of the first ones and that of one more.
 pub(crate) fn status_after(first: u8, status: u8) -> u8

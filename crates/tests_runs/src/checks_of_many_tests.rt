@@ -9,10 +9,9 @@ use std::test::Fail;
 const HEAD: &str = "# grid catalogue 1 begun 1764404400.123456789 k 3 n 10 segment 131072 \
     under w3hm5rcm33g237wuaijiuuup7q\n";
 
-// The caps of the files of 56 bytes and of 300 whose byte i is i modulo 251, at 3 of 10 and at 2 of
-// 5 in segments of 20 bytes under the secret `abc`, and of 56 zeros at one of one, which were
-// computed by programs that share no code with these crates; and one of three bytes, which holds
-// them in base32.
+// The caps of the files of 56, of 300 and of 131,074 bytes whose byte i is i modulo 251, at 3 of 10,
+// and that of 300 at 2 of 5 in segments of 20 bytes under the secret `abc`, which were computed by
+// programs that share no code with these crates; and one of three bytes, which holds them in base32.
 const COUNTED_CAP: &str = "URI:CHK:5ervuplwjtqf5caeknmrecgz54:\
     24yuguv5na3h27x2i5w2i77yy5yujv6vcnbabzeljhzb4gaqqzyq:3:10:56";
 
@@ -22,8 +21,8 @@ const VERIFY_CAP: &str = "URI:CHK-Verifier:btqtqeoqjcl3aeqkqmueqgjgiy:\
 const OTHER_CAP: &str = "URI:CHK:ozwxco23qrmvvwliolssdfgjmy:\
     lycpzylpr6mublhjyrxmq3gsvqzynokcnjzknnju7glhhwjqmmyq:2:5:300";
 
-const LOST_CAP: &str = "URI:CHK:vwuwqphq6vtyhagrqwyqajtjoq:\
-    mulphu6sadrudv3w5tjchnmax5njyq74hibk3qaudszblkawpxgq:1:1:56";
+const LOST_CAP: &str = "URI:CHK:x45opozjlsd45uhibsv2apw46e:\
+    upsh3wg4mj5hhojd7qv6ug2rqe7zphsxgbnniumsdns2twtt3vyq:3:10:131074";
 
 const ONE_CAP: &str = "URI:LIT:n5xgk";
 
@@ -169,7 +168,8 @@ fn no_catalogue(rt: HostRuntime) -> Result<(), Fail> {
     let text = format!(in rt.alloc(); "{HEAD}{ONE_CAP}  a\n{COUNTED_CAP}  b\n{ONE_CAP}  c")?;
     fs::write(&rt, caps.as_str(), text.as_str())?;
     let came = over(&rt, "check", &[], &[])?;
-    assert!(rt; came.status == 5 && came.tells(b"grid: 100 NoServers (b)"));
+    let none = format!(in rt.alloc(); "grid: 100 NoServers {} (b)", path(&rt, "/grid")?)?;
+    assert!(rt; came.status == 5 && came.tells(none.as_bytes()));
     assert!(rt; came.tells(b"grid: 111 NotALine 4"));
     assert!(rt; came.out.as_slice()
         == b"literal  a\nfiles 2 healthy 1 recoverable 0 lost 0\n".as_slice());

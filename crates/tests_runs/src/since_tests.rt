@@ -22,7 +22,7 @@ const VERIFY_CAP: &str = "URI:CHK-Verifier:aaaaaaaaaaaaaaaaaaaaaaaaaa:\
     mulphu6sadrudv3w5tjchnmax5njyq74hibk3qaudszblkawpxgq:3:10:56";
 
 // How a first line tells the usual numbers and no secret.
-const USUAL: &str = "k 3 n 10 segment 131072 under w3hm5rcm33g237wuaijiuuup7q";
+const USUAL: &str = "k 3 n 10 segment 131072 under haif3ovaz4vjer7wm3n5nqj47a";
 
 // What is told where the first lines differ.
 const ANEW: &str = "all files are read: the catalogue was begun with other numbers or another \
@@ -50,10 +50,15 @@ fn put(rt: &HostRuntime, files: &str, options: &str) -> Result<Ended, AllocError
     let mut plan = Plan::new(Odd::Nothing);
     plan.ahead = HOUR;
     let (caps, grid) = (path(rt, "/caps")?, path(rt, "/grid")?);
-    let line = format!(in rt.alloc();
-        "grid put {files} --grid {grid} --since {caps}{options}"
-    )?;
-    run(&OddHost { rt: *rt, plan: &plan }, line.as_str(), false)
+    let line = format!(in rt.alloc(); "grid put {files} --grid {grid} --since {caps}{options}")?;
+    run(
+        &OddHost {
+            rt: *rt,
+            plan: &plan,
+        },
+        line.as_str(),
+        false,
+    )
 }
 
 // Whether these lines were written behind a first one, and nothing else was.
@@ -74,7 +79,11 @@ fn line(rt: &HostRuntime, cap: &str) -> Result<String, AllocError> {
 #[test]
 fn lines_are_kept(rt: HostRuntime) -> Result<(), Fail> {
     assert!(rt; begins(&rt));
-    let (one, odd, names) = (path(&rt, "/one")?, path(&rt, "/o\\n\ne")?, path(&rt, "/names")?);
+    let (one, odd, names) = (
+        path(&rt, "/one")?,
+        path(&rt, "/o\\n\ne")?,
+        path(&rt, "/names")?,
+    );
     fs::write(&rt, one.as_str(), "one")?;
     fs::write(&rt, odd.as_str(), "one")?;
     let told = path(&rt, "/o\\\\n\\ne")?;
@@ -115,21 +124,21 @@ fn others_are_read(rt: HostRuntime) -> Result<(), Fail> {
         (later, USUAL, VERIFY_CAP, ONE_CAP, ""),
         (
             later,
-            "k 2 n 10 segment 131072 under w3hm5rcm33g237wuaijiuuup7q",
+            "k 2 n 10 segment 131072 under haif3ovaz4vjer7wm3n5nqj47a",
             TWO_CAP,
             ONE_CAP,
             ANEW,
         ),
         (
             later,
-            "k 3 n 9 segment 131072 under w3hm5rcm33g237wuaijiuuup7q",
+            "k 3 n 9 segment 131072 under haif3ovaz4vjer7wm3n5nqj47a",
             TWO_CAP,
             ONE_CAP,
             ANEW,
         ),
         (
             later,
-            "k 3 n 10 segment 131071 under w3hm5rcm33g237wuaijiuuup7q",
+            "k 3 n 10 segment 131071 under haif3ovaz4vjer7wm3n5nqj47a",
             TWO_CAP,
             ONE_CAP,
             ANEW,
@@ -203,7 +212,11 @@ fn cut_catalogues_go_on(rt: HostRuntime) -> Result<(), Fail> {
     assert!(rt; again.status == 0 && !fs::exists(&rt, grid.as_str())?);
     let told = "line 3 of the catalogue is none, and what follows it is not looked at\n";
     assert!(rt; again.err.rest() == told.as_bytes());
-    let end = first.out.iter().position(|byte| *byte == b'\n').unwrap_or(0);
+    let end = first
+        .out
+        .iter()
+        .position(|byte| *byte == b'\n')
+        .unwrap_or(0);
     let lines = first.out.get(end.saturating_add(1)..).unwrap_or(&[]);
     assert!(rt; has_lines(&again, str::from_utf8(lines).unwrap_or("")));
     assert!(rt; removes_all(&rt));

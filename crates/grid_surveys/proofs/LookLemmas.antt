@@ -20,14 +20,12 @@ use Rattle.grid_shares.specs.declared.placing.Stored.{Stored}
 use Rattle.grid_telling.specs.declared.outcome.Failure.{Failure}
 use Rattle.grid_words.specs.declared.catalogue_words.CheckFilesWords.{CheckFilesWords}
 use Rattle.grid_words.specs.declared.catalogue_words.RepairFilesWords.{RepairFilesWords}
-use Rattle.grid_lists.specs.Gets.{unread_status}
-use Rattle.grid_lists.specs.LookEnds.{CameTo, IsToldAs, counted_after, fate_of, status_with, task_of}
-use Rattle.grid_lists.specs.Looks.{AreLookedAt, Gone, IsGone, IsSeen, Task, counts_of, counts_text, fate_counted, fate_status, names_of, passed, refused, seen, seen_check, seen_repair, unfound_status, worst}
-use Rattle.grid_lists.specs.declared.looking.Came.{Came}
-use Rattle.grid_lists.specs.declared.seen.Counts.{Counts}
-use Rattle.grid_lists.specs.declared.seen.Look.{Look}
-use Rattle.grid_lists.specs.declared.seen.Look.TheVariants as looks
-use Rattle.grid_lists.specs.declared.seen.Seen.{Seen}
+use Rattle.grid_lists.specs.Statuses.{unread_status}
+use Rattle.grid_surveys.specs.LookEnds.{CameTo, IsToldAs, counted_after, fate_of, status_with}
+use Rattle.grid_surveys.specs.Looks.{AreLookedAt, Gone, IsGone, IsSeen, Task, checking, counts_of, counts_text, fate_counted, fate_status, names_of, passed, refused, repairing, seen, seen_check, seen_repair, unfound_status, worst}
+use Rattle.grid_surveys.specs.declared.looking.Came.{Came}
+use Rattle.grid_surveys.specs.declared.seen.Counts.{Counts}
+use Rattle.grid_surveys.specs.declared.seen.Seen.{Seen}
 
 abbrev pub Text : Type 0
 Text = Option (List ℕ)
@@ -42,13 +40,13 @@ chosen_as task name given names b same is chosen = chosen ∙ ap (λ (ns : List 
 module _ {S : Type 0} (calls : GridCalls S) where
   -- ---- one file
 
-  pub check_seen : (look : Look) (words : Bor CheckFilesWords) (kept : Bool) (cap : Option VerifyCapValue) (found : Option Report) (s : Seen) → look ≡ looks.Check words
-      → IsCheckedFile calls words.now.grid.now kept cap found → s ≡ seen_check found → IsSeen calls (task_of look) cap s
-  check_seen look words kept cap found s is checked same = subst (λ (l : Look). IsSeen calls (task_of l) cap s) (sym is) (kept, found, checked, same)
+  pub check_seen : (words : CheckFilesWords) (kept : Bool) (cap : Option VerifyCapValue) (found given : Option Report) (s : Seen) → IsCheckedFile calls words.grid.now kept cap found → found ≡ given → s ≡ seen_check given
+      → IsSeen calls (checking words) cap s
+  check_seen words kept cap found given s checked same is = (kept, found, checked, is ∙ ap seen_check (sym same))
 
-  pub repair_seen : (look : Look) (words : Bor RepairFilesWords) (read_on write_on : Bool) (cap : Option VerifyCapValue) (stored : Option Stored) (s : Seen) → look ≡ looks.Repair words
-      → IsRepairedFile calls words.now.grid.now read_on write_on words.now.mend words.now.happy cap stored → s ≡ seen_repair stored → IsSeen calls (task_of look) cap s
-  repair_seen look words read_on write_on cap stored s is repaired same = subst (λ (l : Look). IsSeen calls (task_of l) cap s) (sym is) (read_on, write_on, stored, repaired, same)
+  pub repair_seen : (words : RepairFilesWords) (read_on write_on : Bool) (cap : Option VerifyCapValue) (stored given : Option Stored) (s : Seen)
+      → IsRepairedFile calls words.grid.now read_on write_on words.mend words.happy cap stored → stored ≡ given → s ≡ seen_repair given → IsSeen calls (repairing words) cap s
+  repair_seen words read_on write_on cap stored given s repaired same is = (read_on, write_on, stored, repaired, is ∙ ap seen_repair (sym same))
 
   module _ (task : Task) where
     pub of_chosen : (cap : Cap) (name given : List ℕ) (r : Result Seen Fault) (a b : Text) (came : Came) → given ≡ name → true ≡ chooses (names_of task) name → IfOk r (IsSeen calls task (verify_of cap)) → IsToldAs task r given a b came

@@ -24,14 +24,14 @@ use Rattle.grid_repairs.specs.Checks.{IsCheckedFile, verify_of}
 use Rattle.grid_repairs.specs.Repairs.{IsRepairedFile}
 use Rattle.grid_telling.specs.declared.outcome.Failure.{Failure}
 use Rattle.grid_telling.specs.declared.outcome.Failure.TheVariants as failures
-use Rattle.grid_lists.specs.declared.seen.Class.{Class}
-use Rattle.grid_lists.specs.declared.seen.Class.TheVariants as classes
-use Rattle.grid_lists.specs.declared.seen.Counts.{Counts}
-use Rattle.grid_lists.specs.declared.seen.Seen.{Seen}
-use Rattle.grid_lists.specs.declared.seen.Seen.TheVariants as seens
+use Rattle.grid_surveys.specs.declared.seen.Class.{Class}
+use Rattle.grid_surveys.specs.declared.seen.Class.TheVariants as classes
+use Rattle.grid_surveys.specs.declared.seen.Counts.{Counts}
+use Rattle.grid_surveys.specs.declared.seen.Seen.{Seen}
+use Rattle.grid_surveys.specs.declared.seen.Seen.TheVariants as seens
 use Rattle.grid_words.specs.declared.catalogue_words.CheckFilesWords.{CheckFilesWords}
 use Rattle.grid_words.specs.declared.catalogue_words.RepairFilesWords.{RepairFilesWords}
-use Rattle.grid_lists.specs.Gets.{unread_status}
+use Rattle.grid_lists.specs.Statuses.{unread_status}
 
 -- ---- what is asked for
 

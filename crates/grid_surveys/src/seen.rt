@@ -2,13 +2,13 @@
 //! are counted.
 
 ghost use Rattle.std.specs.Prelude.{◌≡◌, map};
-ghost use Rattle.grid_lists.specs.LookEnds.{grid_of, task_of};
-ghost use Rattle.grid_lists.specs.Looks.{counted, fault_class, is_json, is_strict, names_of};
-ghost use Rattle.grid_lists.specs.Looks.{seen_class, seen_status};
+ghost use Rattle.grid_surveys.specs.LookEnds.{grid_of, task_of};
+ghost use Rattle.grid_surveys.specs.Looks.{counted, fault_class, is_json, is_strict, names_of};
+ghost use Rattle.grid_surveys.specs.Looks.{seen_class, seen_status};
 
-use crate::statuses::DONE;
 use checker::status::Report;
 use grid_faults::Fault;
+use grid_lists::DONE;
 use grid_rules::report_status;
 use grid_shares::Stored;
 use grid_words::{CheckFilesWords, RepairFilesWords};

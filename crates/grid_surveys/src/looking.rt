@@ -5,21 +5,18 @@ ghost use Rattle.std.specs.Io.KnownBytes.{Appends};
 ghost use Rattle.grid_servers.specs.Grids.{grid_calls};
 ghost use Rattle.grid_shares.specs.Standing.{WereOpened};
 ghost use Rattle.grid_repairs.specs.Checks.{WereChecked, verify_of};
-ghost use Rattle.grid_lists.specs.LookEnds.{CameTo, IsToldAs, counted_after, grid_of, status_with};
-ghost use Rattle.grid_lists.specs.LookEnds.{task_of};
-ghost use Rattle.grid_lists.specs.Gets.{unread_status};
-ghost use Rattle.grid_lists.specs.Looks.{AreLookedAt, IsCutOff, IsLookDone, IsLookUndone, IsSeen};
-ghost use Rattle.grid_lists.specs.Looks.{checking, counts_text, repairing, unfound_status};
+ghost use Rattle.grid_surveys.specs.LookEnds.{CameTo, IsToldAs, counted_after, grid_of};
+ghost use Rattle.grid_surveys.specs.LookEnds.{status_with, task_of};
+ghost use Rattle.grid_lists.specs.Statuses.{unread_status};
+ghost use Rattle.grid_surveys.specs.Looks.{AreLookedAt, IsCutOff, IsLookDone, IsLookUndone, IsSeen};
+ghost use Rattle.grid_surveys.specs.Looks.{checking, counts_text, repairing, unfound_status};
 
-use crate::listed::{tell_refused, tell_unfound, tell_unread};
-use crate::names::read_text;
 use crate::seen::{Class, Counts, Look, Seen, fault_class};
-use crate::statuses::{DONE, UNREAD};
 use crate::told::{counts_line, seen_line};
 use cap_text::Cap;
 use catalogues::{Catalogue, Line, chooses};
 use grid_faults::Fault;
-use grid_marks::{is_grid, known_grid};
+use grid_lists::{DONE, UNREAD, find_grid, read_text, tell_refused, tell_unfound, tell_unread};
 use grid_repairs::{OpenGrid, Place, Repairing, check_file, may_repair, repair_file};
 use grid_shares::Environment;
 use grid_telling::{Failure, Progress, print};
@@ -124,18 +121,6 @@ where
             Ok(UNREAD)
         }
     }
-}
-
-/// Refuses what is no grid, and where only one that is marked is wanted, another.
-pub(crate) fn find_grid<R>(rt: &R, grid: &str, is_known: bool) -> Result<(), Fault>
-where
-    R: Files + AllocGlobal + Clone + Drop,
-{
-    is_grid(rt, grid)?;
-    if is_known {
-        known_grid(rt, grid)?;
-    }
-    Ok(())
 }
 
 // Looks at the files of the lines that are left.
@@ -360,44 +345,85 @@ where
         (grid_calls R.Stream.contents R.Stream.remaining) (grid_of looking.look) g.grid) }
 {
     match looking.look {
-        Look::Check(words) => {
-            let place = place_of(words.grid, words.net, looking.is_known);
-            match check_file(rt, &place, cap, reading, progress)? {
-                Some(report) => Ok(Seen::Checked(report)),
-                None => Ok(Seen::Literal),
-            }
-        }
-        Look::Repair(words) => {
-            let repairing = repairing_of(words, looking.is_known);
-            match repair_file(rt, &repairing, cap, reading, writing, progress)? {
-                Some(stored) => Ok(Seen::Repaired(stored)),
-                None => Ok(Seen::Literal),
-            }
-        }
+        Look::Check(words) => check_one(rt, words, looking.is_known, cap, reading, progress),
+        Look::Repair(words) => repair_one(
+            rt,
+            words,
+            looking.is_known,
+            cap,
+            reading,
+            writing,
+            progress,
+        ),
     }
 }
 
-// Where files are looked at.
-fn place_of(grid: &str, over_sockets: bool, is_known: bool) -> Place<'_>
-    ensures { result.grid.now ≡ grid.entry.now }
+// Checks the file of a cap.
+fn check_one<R, E>(
+    rt: &R,
+    words: &CheckFilesWords<'_>,
+    is_known: bool,
+    cap: &Cap,
+    reading: &mut Option<OpenGrid<R>>,
+    progress: &mut Progress<'_, R, E>,
+) -> Result<Seen, Fault>
+where
+    R: Files + Net + Clock + RandomSource + AllocGlobal + Clone + Drop,
+    E: Write + IsTerminal,
+    requires { IfSome reading.old (WereChecked
+        (grid_calls R.Stream.contents R.Stream.remaining) words.now.grid.now) }
+    ensures seen { IfOk result (IsSeen (grid_calls R.Stream.contents R.Stream.remaining)
+        (checking words.now) (verify_of cap.now)) }
+    ensures reading { IfSome reading.new (WereChecked
+        (grid_calls R.Stream.contents R.Stream.remaining) words.now.grid.now) }
 {
-    Place {
-        grid,
-        over_sockets,
+    let place = Place {
+        grid: words.grid,
+        over_sockets: words.net,
         is_known,
+    };
+    match check_file(rt, &place, cap, reading, progress)? {
+        Some(report) => Ok(Seen::Checked(report)),
+        None => Ok(Seen::Literal),
     }
 }
 
-// How these words repair files.
-fn repairing_of<'a>(words: &RepairFilesWords<'a>, is_known: bool) -> Repairing<'a>
-    ensures grid { result.place.grid.now ≡ words.now.grid.now }
-    ensures happy { result.happy ≡ words.now.happy }
-    ensures mend { result.mend ≡ words.now.mend }
+// Repairs it.
+fn repair_one<R, E>(
+    rt: &R,
+    words: &RepairFilesWords<'_>,
+    is_known: bool,
+    cap: &Cap,
+    reading: &mut Option<OpenGrid<R>>,
+    writing: &mut Option<grid_shares::OpenGrid<R>>,
+    progress: &mut Progress<'_, R, E>,
+) -> Result<Seen, Fault>
+where
+    R: Files + Net + Clock + RandomSource + Locks + AllocGlobal + Clone + Drop,
+    E: Write + IsTerminal,
+    requires reading { IfSome reading.old (WereChecked
+        (grid_calls R.Stream.contents R.Stream.remaining) words.now.grid.now) }
+    requires writing { IfSome writing.old (λ g. WereOpened
+        (grid_calls R.Stream.contents R.Stream.remaining) words.now.grid.now g.grid) }
+    ensures seen { IfOk result (IsSeen (grid_calls R.Stream.contents R.Stream.remaining)
+        (repairing words.now) (verify_of cap.now)) }
+    ensures reading { IfSome reading.new (WereChecked
+        (grid_calls R.Stream.contents R.Stream.remaining) words.now.grid.now) }
+    ensures writing { IfSome writing.new (λ g. WereOpened
+        (grid_calls R.Stream.contents R.Stream.remaining) words.now.grid.now g.grid) }
 {
-    Repairing {
-        place: place_of(words.grid, words.net, is_known),
+    let repairing = Repairing {
+        place: Place {
+            grid: words.grid,
+            over_sockets: words.net,
+            is_known,
+        },
         happy: words.happy,
         no_sync: words.no_sync,
         mend: words.mend,
+    };
+    match repair_file(rt, &repairing, cap, reading, writing, progress)? {
+        Some(stored) => Ok(Seen::Repaired(stored)),
+        None => Ok(Seen::Literal),
     }
 }

@@ -3,13 +3,13 @@ use Rattle.std.specs.Prelude.{◌≡◌, ℕ, List, [], Option, None, Some, Resu
 use Rattle.cap_text.specs.declared.cap.Cap.{Cap}
 use Rattle.std.specs.Io.KnownBytes.{Appends}
 use Rattle.grid_faults.specs.declared.fault.Fault.{Fault}
-use Rattle.grid_lists.specs.Looks.{Fate, IsGone, IsLine, Task, checking, counted, fate_counted}
-use Rattle.grid_lists.specs.Looks.{fate_status, is_json, refused, repairing, seen}
-use Rattle.grid_lists.specs.declared.looking.Came.{Came}
-use Rattle.grid_lists.specs.declared.seen.Counts.{Counts}
-use Rattle.grid_lists.specs.declared.seen.Look.{Look}
-use Rattle.grid_lists.specs.declared.seen.Look.TheVariants as looks
-use Rattle.grid_lists.specs.declared.seen.Seen.{Seen}
+use Rattle.grid_surveys.specs.Looks.{Fate, IsGone, IsLine, Task, checking, counted, fate_counted}
+use Rattle.grid_surveys.specs.Looks.{fate_status, is_json, refused, repairing, seen}
+use Rattle.grid_surveys.specs.declared.looking.Came.{Came}
+use Rattle.grid_surveys.specs.declared.seen.Counts.{Counts}
+use Rattle.grid_surveys.specs.declared.seen.Look.{Look}
+use Rattle.grid_surveys.specs.declared.seen.Look.TheVariants as looks
+use Rattle.grid_surveys.specs.declared.seen.Seen.{Seen}
 use Rattle.grid_servers.specs.Grids.{GridCalls}
 
 -- what is done with each file

@@ -1,7 +1,7 @@
 use Rattle.std.proofs.Common.{◌∙◌, sym}
-use Rattle.grid_lists.specs.LookEnds.{task_of}
-use Rattle.grid_lists.proofs.LookLemmas.{chosen_as, of_chosen, of_passed}
-use Rattle.grid_lists.proofs.looking.look_line.Goals as goal
+use Rattle.grid_surveys.specs.LookEnds.{task_of}
+use Rattle.grid_surveys.proofs.LookLemmas.{chosen_as, of_chosen, of_passed}
+use Rattle.grid_surveys.proofs.looking.look_line.Goals as goal
 
 pub returns-then-not-branch-clause-came : goal.returns-then-not-branch-clause-came
 returns-then-not-branch-clause-came g c =

@@ -2,9 +2,9 @@ use Rattle.std.proofs.Common.{IfSome, length}
 use Rattle.grid_servers.specs.Grids.{grid_calls}
 use Rattle.grid_shares.specs.Standing.{WereOpened}
 use Rattle.grid_repairs.specs.Checks.{WereChecked}
-use Rattle.grid_lists.specs.LookEnds.{grid_of, task_of}
-use Rattle.grid_lists.proofs.LookLemmas.{SoFar}
-use Rattle.grid_lists.proofs.looking.look_lines.Given as goal
+use Rattle.grid_surveys.specs.LookEnds.{grid_of, task_of}
+use Rattle.grid_surveys.proofs.LookLemmas.{SoFar}
+use Rattle.grid_surveys.proofs.looking.look_lines.Given as goal
 
 -- what became of the lines so far, and the servers that are open
 abbrev pub invariant-loop-line : goal.invariant-loop-line

@@ -1,8 +1,8 @@
 use Rattle.std.proofs.Common.{Err, ap, refl}
-use Rattle.grid_lists.specs.LookEnds.{task_of}
+use Rattle.grid_surveys.specs.LookEnds.{task_of}
 use Rattle.grid_lists.proofs.GetLemmas.{shorter}
-use Rattle.grid_lists.proofs.LookLemmas.{all_read, cut_off, none_yet, one_more}
-use Rattle.grid_lists.proofs.looking.look_lines.Goals as goal
+use Rattle.grid_surveys.proofs.LookLemmas.{all_read, cut_off, none_yet, one_more}
+use Rattle.grid_surveys.proofs.looking.look_lines.Goals as goal
 
 pub loop-line-init : goal.loop-line-init
 loop-line-init g c = record { so_far = none_yet _ (task_of c.args.looking.look) c.args.catalogue.left _; reading = tt; writing = tt }

@@ -1,7 +1,7 @@
 //! Names of files in strings of JSON.
 
 ghost use Rattle.std.specs.Prelude.{◌≡◌, ◌++◌, ◌∷◌, [], ◌<◌, IfOk, OnOk};
-ghost use Rattle.grid_lists.specs.Looks.{IsJsonName, hex_digit, hex_digits, json_byte, json_name};
+ghost use Rattle.grid_surveys.specs.Looks.{IsJsonName, hex_digit, hex_digits, json_byte, json_name};
 
 use std::alloc::{AllocError, Global};
 

@@ -4,9 +4,9 @@ ghost use Rattle.std.specs.Prelude.{◌≡◌, IfOk, true};
 ghost use Rattle.std.specs.String.{string_bytes};
 ghost use Rattle.grid_rules.specs.ReportJson.{bool_json};
 ghost use Rattle.grid_rules.specs.ReportLines.{word_of};
-ghost use Rattle.grid_lists.specs.LookEnds.{task_of};
-ghost use Rattle.grid_lists.specs.Looks.{IsLine, counts_text, named_json, report_json};
-ghost use Rattle.grid_lists.specs.Looks.{report_words, seen_json, seen_words};
+ghost use Rattle.grid_surveys.specs.LookEnds.{task_of};
+ghost use Rattle.grid_surveys.specs.Looks.{IsLine, counts_text, named_json, report_json};
+ghost use Rattle.grid_surveys.specs.Looks.{report_words, seen_json, seen_words};
 
 use crate::objects::json_name;
 use crate::seen::{Counts, Look, Seen};
