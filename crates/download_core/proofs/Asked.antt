@@ -26,9 +26,10 @@ use Rattle.download_file.specs.Asked.{AsksParts, HasAsked, IsOneOf, IsPlannedRea
 use Rattle.download_file.specs.Changes.{StaysRead}
 use Rattle.download_file.specs.Laws.{ReadsStay}
 use Rattle.download_file.specs.Right.{IsFile}
-use Rattle.download_file.specs.State.{CopyState, FileState, IsLive, ReaderState, copies, copy_of}
+use Rattle.download_file.specs.State.{CopyState, FileState, IsHeard, ReaderState, copies, copy_of}
 use Rattle.download_core.specs.Reading.{AreKept, AreLinked, IsOf, IsOfReader, IsReadNow, IsReaderOf}
 use Rattle.download_core.specs.ReadingState.{ReadingState}
+use Rattle.download_core.proofs.Listed.{heard_same}
 use Rattle.download_core.specs.ReadingSteps as steps
 use Rattle.download_core.specs.ReadingSteps.{Grows}
 
@@ -70,7 +71,7 @@ later f from right low high = record { valid = right.range.valid; some = high; w
 
 -- ---- it is asked
 
-module _ (s : BeginningsState) (r : ReadingState) (f : FileState) (reader holding : ℕ) (wanted : List Wanted) (before : AreLinked s r) (live : IsLive r.file reader)
+module _ (s : BeginningsState) (r : ReadingState) (f : FileState) (reader holding : ℕ) (wanted : List Wanted) (before : AreLinked s r) (live : IsHeard r.file reader)
     (of : IsOf r reader holding) (asks : AsksParts r.file reader wanted f) where
   abbrev pub now : IsReadNow s r reader
   now = before.live reader live
@@ -106,7 +107,7 @@ module _ (s : BeginningsState) (r : ReadingState) (f : FileState) (reader holdin
   pub parts_unasked : All (λ (w : Wanted). IsUnasked s.holdings holding w.read.offset w.read.length) wanted
   parts_unasked k d lt = part_unasked (slice_index_or wanted k d) (asks.planned k d lt) (λ offset len asked. asks.fresh offset len asked k d lt)
 
-  module _ (t : BeginningsState) (done : steps.AsksParts holding wanted s t) (grows : Grows s t) (right : IsFile f) (law : ReadsStay) (stays : StaysRead r.file f) (lives : f.live ≡ r.file.live) (shared : copies f ≡ copies r.file)
+  module _ (t : BeginningsState) (done : steps.AsksParts holding wanted s t) (grows : Grows s t) (right : IsFile f) (law : ReadsStay) (stays : StaysRead r.file f) (lives : f.live ≡ r.file.live) (asides : f.aside ≡ r.file.aside) (shared : copies f ≡ copies r.file)
       (geometry : f.handout.geometry ≡ r.file.handout.geometry) where
     abbrev pub asked_state : ReadingState
     asked_state = record r { file = f }
@@ -139,7 +140,7 @@ module _ (s : BeginningsState) (r : ReadingState) (f : FileState) (reader holdin
             reads = ap (λ (l : List CopyState). slice_get l q) shared ∙ k.reads;
           });
       back = λ x q b there e. before.kept.back x q b (begun_back x b there) e;
-      alive = λ x q g b held there e left. subst (λ (l : List ℕ). Contains l q) (sym lives) (before.kept.alive x q g b (held_back x g held) (begun_back x b there) e left);
+      alive = λ x q g b held there e left. heard_same f r.file (sym lives) (sym asides) q (before.kept.alive x q g b (held_back x g held) (begun_back x b there) e left);
       reads = λ x i offset len g b held there left read. by_read x i offset len g b (held_back x g held) (begun_back x b there) left (done.reads g i offset len read);
       answers = law s.holdings.requests.entries t.holdings.requests.entries f grows.stays (stays s.holdings.requests.entries before.kept.answers);
     }
@@ -164,7 +165,7 @@ module _ (s : BeginningsState) (r : ReadingState) (f : FileState) (reader holdin
     asked_reading = record {
       kept = asked_kept;
       live = λ q alive. (
-          let k = before.live q (subst (λ (l : List ℕ). Contains l q) lives alive) in
+          let k = before.live q (heard_same r.file f lives asides q alive) in
           record {
             holding = k.holding;
             of = k.of;

@@ -7,7 +7,7 @@ use Rattle.std.proofs.lemmas.Option.{slice_get_within}
 use Rattle.lemmas.proofs.Members.{contains_tail}
 use Rattle.lemmas.proofs.Positions.{get_pushed, get_push}
 use Rattle.lemmas.proofs.Options.{one_there}
-use Rattle.placement.proofs.Members.{Contains-head, Contains-nil, Contains-uncons}
+use Rattle.placement.proofs.Members.{Contains-head, Contains-nil}
 use Rattle.request_record.specs.declared.requests.Asked.{Asked}
 use Rattle.request_record.specs.declared.requests.Asked.TheVariants.{Reading}
 use Rattle.request_record.specs.declared.requests.Request.{Request}
@@ -15,18 +15,18 @@ use Rattle.request_record.specs.Record.{RequestsState, asked_all, asked_more, fi
 use Rattle.download_shares.specs.HoldingState.{TableState}
 use Rattle.download_shares.specs.Table.{IsHolding}
 use Rattle.download_shares.specs.declared.holding.Holding.{Holding}
-use Rattle.download_shares.proofs.Lists.{from_without}
 use Rattle.download_shares.specs.BeginningMoves.{GoesOn}
 use Rattle.download_shares.specs.Reads.{IsAnsweredBy, IsOutAt, IsReadAt}
 use Rattle.download_shares.specs.BeginningState.{BeginningsState}
 use Rattle.download_supply.specs.declared.wanted.Wanted.{Wanted}
 use Rattle.download_file.specs.Changes.{OthersWait}
-use Rattle.download_file.specs.State.{FileState, IsLive, ReaderState, first_position, first_waiting, waiting_from, waiting_at, waiting_in, without}
+use Rattle.download_file.specs.State.{FileState, IsHeard, ReaderState, first_position, first_waiting, waiting_from, waiting_at, waiting_in, without}
 use Rattle.download_file.specs.declared.reader.Waiting.{Waiting}
 use Rattle.download_core.specs.Reading.{AreAwaited, AreKept, AreLinked, AreReadingBut, IsAskedOf, IsOf, IsReading}
 use Rattle.download_core.specs.ReadingState.{ReadingState}
 use Rattle.download_core.specs.ReadingSteps.{AsksParts}
 use Rattle.download_core.proofs.Follows.{Follows}
+use Rattle.download_core.proofs.Listed.{heard_pushed, heard_same, heard_without}
 
 -- ---- requests
 
@@ -109,21 +109,21 @@ module _ (but : Option ℕ) (s : BeginningsState) (r : ReadingState) (f : FileSt
   abbrev pub going : ReadingState
   going = record r { file = f }
 
-  pub read_before : ((q : ℕ) → IsLive f q → IsLive r.file q) → (reader : ℕ) (h : Holding) → IsReading s going reader h → IsReading s r reader h
+  pub read_before : ((q : ℕ) → IsHeard f q → IsHeard r.file q) → (reader : ℕ) (h : Holding) → IsReading s going reader h → IsReading s r reader h
   read_before lives reader h k = record { live = lives reader k.live; holding = k.holding; of = k.of; is = k.is; left = k.left }
 
-  pub goes_awaits : ((q : ℕ) → IsLive f q → IsLive r.file q) → ((q : ℕ) → IsLive f q → waiting_at f q ≡ waiting_at r.file q) → AreAwaited but s going
+  pub goes_awaits : ((q : ℕ) → IsHeard f q → IsHeard r.file q) → ((q : ℕ) → IsHeard f q → waiting_at f q ≡ waiting_at r.file q) → AreAwaited but s going
   goes_awaits lives same = record {
     asked = λ reader h w k among. before.asked reader h w (read_before lives reader h k) (subst (λ (l : List Waiting). Contains l w) (same reader k.live) among);
     first = λ reader position h k other e. before.first reader position h (read_before lives reader h k) other (sym (ap first_position (same reader k.live)) ∙ e);
   }
 
 -- a reader ends
-pub ended_awaits : (but : Option ℕ) (s : BeginningsState) (r : ReadingState) (f : FileState) (reader : ℕ) → AreAwaited but s r → f.live ≡ without reader r.file.live → OthersWait r.file reader f → AreAwaited but s (record r { file = f })
-ended_awaits but s r f reader before lives others =
+pub ended_awaits : (but : Option ℕ) (s : BeginningsState) (r : ReadingState) (f : FileState) (reader : ℕ) → AreAwaited but s r → f.live ≡ without reader r.file.live → f.aside ≡ without reader r.file.aside → OthersWait r.file reader f → AreAwaited but s (record r { file = f })
+ended_awaits but s r f reader before lives asides others =
     goes_awaits but s r f before
-    (λ q k. (from_without reader q r.file.live (subst (λ (l : List ℕ). Contains l q) lives k)).0)
-    (λ q k. others q (from_without reader q r.file.live (subst (λ (l : List ℕ). Contains l q) lives k)).1)
+    (λ q k. (heard_without r.file f reader lives asides q k).0)
+    (λ q k. others q (heard_without r.file f reader lives asides q k).1)
 
 -- ---- an answer is taken
 
@@ -131,15 +131,15 @@ dropped : (ws : List Waiting) (w : Waiting) → Contains (drop 1 ws) w → Conta
 dropped [] w among = among
 dropped (v ∷ ws) w among = contains_tail v w ws among
 
-pub taken_awaits : (s : BeginningsState) (r : ReadingState) (f : FileState) (reader : ℕ) → AreAwaited (Some reader) s r → f.live ≡ r.file.live → OthersWait r.file reader f → waiting_at f reader ≡ drop 1 (waiting_at r.file reader)
+pub taken_awaits : (s : BeginningsState) (r : ReadingState) (f : FileState) (reader : ℕ) → AreAwaited (Some reader) s r → f.live ≡ r.file.live → f.aside ≡ r.file.aside → OthersWait r.file reader f → waiting_at f reader ≡ drop 1 (waiting_at r.file reader)
     → AreAwaited (Some reader) s (record r { file = f })
-taken_awaits s r f reader before lives others taken = record {
+taken_awaits s r f reader before lives asides others taken = record {
   asked = λ q h w k among. before.asked q h w (was q h k) (more q w among (cases_eq q reader));
   first = λ q position h k other e. before.first q position h (was q h k) other (sym (ap first_position (others q (λ same. other (ap Some (sym same))))) ∙ e);
 }
   where
     was : (q : ℕ) (h : Holding) → IsReading s (record r { file = f }) q h → IsReading s r q h
-    was q h k = record { live = subst (λ (l : List ℕ). Contains l q) lives k.live; holding = k.holding; of = k.of; is = k.is; left = k.left }
+    was q h k = record { live = heard_same r.file f lives asides q k.live; holding = k.holding; of = k.of; is = k.is; left = k.left }
 
     more : (q : ℕ) (w : Waiting) → Contains (waiting_at f q) w → (q ≡ reader) ⊎ (q ≡ reader → ⊥) → Contains (waiting_at r.file q) w
     more q w among (inl same) =
@@ -179,8 +179,8 @@ reading_less but s r k = record { linked = k.linked; awaits = awaits_less but s 
 -- ---- a reader begins
 
 pub begun_awaits : (s t : BeginningsState) (r : ReadingState) (f : FileState) (holding : ℕ) → AreLinked s r → AreAwaited None s r → t.holdings.requests ≡ s.holdings.requests → t.holdings.table.holdings ≡ s.holdings.table.holdings
-    → f.live ≡ r.file.live ++ length r.file.readers ∷ [] → ((q : ℕ) → waiting_at f q ≡ waiting_at r.file q) → AreAwaited None t (record { file = f; holdings = r.holdings ++ holding ∷ [] })
-begun_awaits s t r f holding linked before requests held lives waits = record {
+    → f.live ≡ r.file.live ++ length r.file.readers ∷ [] → f.aside ≡ r.file.aside → ((q : ℕ) → waiting_at f q ≡ waiting_at r.file q) → AreAwaited None t (record { file = f; holdings = r.holdings ++ holding ∷ [] })
+begun_awaits s t r f holding linked before requests held lives asides waits = record {
   asked = λ q h w k among.
       let old = subst (λ (l : List Waiting). Contains l w) (waits q) among in
       subst (λ (y : RequestsState). IsAskedOf y.entries h w) (sym requests) (before.asked q h w (was q h k (w, old)) old);
@@ -200,9 +200,9 @@ begun_awaits s t r f holding linked before requests held lives waits = record {
 
     was : (q : ℕ) (h : Holding) → IsReading t (record { file = f; holdings = r.holdings ++ holding ∷ [] }) q h → (w : Waiting) × Contains (waiting_at r.file q) w → IsReading s r q h
     was q h k some = record {
-      live = elim (Contains-append_cases r.file.live (length r.file.readers ∷ []) q (subst (λ (l : List ℕ). Contains l q) lives k.live)) [
+      live = elim (heard_pushed r.file f (length r.file.readers) lives asides q k.live) [
         | inl old ↦ old
-        | inr new ↦ elim (Contains-uncons (length r.file.readers) [] q new) [ inl e ↦ absurd (nothing q some.0 (sym e) some.1) | inr none ↦ absurd (Contains-nil q none) ]
+        | inr new ↦ absurd (nothing q some.0 (sym new) some.1)
       ];
       holding = k.holding;
       of = elim (get_pushed r.holdings holding k.holding q k.of) [
@@ -216,7 +216,7 @@ begun_awaits s t r f holding linked before requests held lives waits = record {
 -- ---- more is asked
 
 module _ (s t : BeginningsState) (r : ReadingState) (f : FileState) (reader holding : ℕ) (wanted : List Wanted) (before : AreAwaited None s r) (of : IsOf r reader holding) (done : AsksParts holding wanted s t)
-    (goes : GoesOn s t) (lives : f.live ≡ r.file.live) (waits : waiting_at f reader ≡ waiting_at r.file reader ++ waiting_from (length s.holdings.requests.entries) wanted) (others : OthersWait r.file reader f) where
+    (goes : GoesOn s t) (lives : f.live ≡ r.file.live) (asides : f.aside ≡ r.file.aside) (waits : waiting_at f reader ≡ waiting_at r.file reader ++ waiting_from (length s.holdings.requests.entries) wanted) (others : OthersWait r.file reader f) where
   abbrev pub asked_next : ReadingState
   asked_next = record r { file = f }
 
@@ -225,7 +225,7 @@ module _ (s t : BeginningsState) (r : ReadingState) (f : FileState) (reader hold
 
   was : (q : ℕ) (h : Holding) → IsReading t asked_next q h → IsReading s r q h
   was q h k = record {
-    live = subst (λ (l : List ℕ). Contains l q) lives k.live;
+    live = heard_same r.file f lives asides q k.live;
     holding = k.holding;
     of = k.of;
     is = sym (ap (λ (u : TableState). slice_get u.holdings k.holding) done.table) ∙ k.is;

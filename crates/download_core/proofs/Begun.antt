@@ -23,9 +23,10 @@ use Rattle.download_file.specs.Answers.{IsRead}
 use Rattle.download_file.specs.Asked.{AsksNoMore}
 use Rattle.download_file.specs.Changes.{StaysRead}
 use Rattle.download_file.specs.Right.{IsFile}
-use Rattle.download_file.specs.State.{CopyState, FileState, IsLive, ReaderState, copies, copy, copy_of}
+use Rattle.download_file.specs.State.{CopyState, FileState, IsHeard, ReaderState, copies, copy, copy_of}
 use Rattle.download_core.specs.Reading.{AreKept, AreLinked, IsOf, IsOfReader, IsReaderOf}
 use Rattle.download_core.specs.ReadingState.{ReadingState}
+use Rattle.download_core.proofs.Listed.{heard_pushed, pushed_heard, pushed_in}
 
 -- ---- the one of its number that is read
 
@@ -65,7 +66,7 @@ taken_now holding t u h is free k =
 -- ---- all of them
 
 module _ (s t : BeginningsState) (r : ReadingState) (f : FileState) (holding : ℕ) (h : Holding) (before : AreLinked s r) (is : IsHolding s.holdings.table holding h) (free : IsFree s.holdings.table h)
-    (reader : ℕ) (position : reader ≡ length r.file.readers) (shared : copies f ≡ copies r.file ++ copy h.server h.share ∷ []) (lives : f.live ≡ r.file.live ++ length r.file.readers ∷ [])
+    (reader : ℕ) (position : reader ≡ length r.file.readers) (shared : copies f ≡ copies r.file ++ copy h.server h.share ∷ []) (lives : f.live ≡ r.file.live ++ length r.file.readers ∷ []) (asides : f.aside ≡ r.file.aside)
     (asked : AsksNoMore r.file f) (stays : StaysRead r.file f) (right : IsFile f) (geometry : f.handout.geometry ≡ r.file.handout.geometry) (known : AreBegun t) (reads : moves.IsReaderOf holding reader s t) where
   abbrev pub next : ReadingState
   next = record { file = f; holdings = r.holdings ++ holding ∷ [] }
@@ -154,11 +155,11 @@ module _ (s t : BeginningsState) (r : ReadingState) (f : FileState) (holding : �
           let of = before.kept.back x q b k.1 e in
           get_push r.holdings holding q (slice_get_within r.holdings q x of) ∙ of)
 
-      alive : (x q : ℕ) (g : Holding) (b : Begun) → IsHolding s.holdings.table x g → b.reader ≡ Some q → g.left ≡ true → ((x ≡ holding) × (b.reader ≡ Some reader)) ⊎ ((x ≡ holding → ⊥) × IsBegun s x b) → IsLive f q
+      alive : (x q : ℕ) (g : Holding) (b : Begun) → IsHolding s.holdings.table x g → b.reader ≡ Some q → g.left ≡ true → ((x ≡ holding) × (b.reader ≡ Some reader)) ⊎ ((x ≡ holding → ⊥) × IsBegun s x b) → IsHeard f q
       alive x q g b held e left (inl k) =
           let one : length r.file.readers ≡ q = sym position ∙ one_there b.reader reader q k.1 e in
-          subst (λ (l : List ℕ). Contains l q) (sym lives) (Contains-append_right r.file.live (length r.file.readers ∷ []) q (subst (Contains (length r.file.readers ∷ [])) one (Contains-head (length r.file.readers) [])))
-      alive x q g b held e left (inr k) = subst (λ (l : List ℕ). Contains l q) (sym lives) (Contains-append_left r.file.live (length r.file.readers ∷ []) q (before.kept.alive x q g b held k.1 e left))
+          inl (subst (λ (l : List ℕ). Contains l q) (sym lives) (subst (λ n. Contains (r.file.live ++ length r.file.readers ∷ []) n) one (pushed_in r.file.live (length r.file.readers))))
+      alive x q g b held e left (inr k) = pushed_heard r.file f (length r.file.readers) lives asides q (before.kept.alive x q g b held k.1 e left)
 
       more : (b : Begun) (offset len : ℕ) → IsOfReader r.file b offset len → IsOfReader f b offset len
       more b offset len (inl beside) = inl (subst (λ g. IsBeside g offset len) (sym geometry) beside)
@@ -177,7 +178,7 @@ module _ (s t : BeginningsState) (r : ReadingState) (f : FileState) (holding : �
   pub begun_reading : AreLinked t next
   begun_reading = record {
     kept = begun_kept;
-    live = λ q alive. elim (Contains-append_cases r.file.live (length r.file.readers ∷ []) q (subst (λ (l : List ℕ). Contains l q) lives alive)) [
+    live = λ q alive. elim (heard_pushed r.file f (length r.file.readers) lives asides q alive) [
       | inl old ↦ (
           let k = before.live q old in
           record {
@@ -189,7 +190,7 @@ module _ (s t : BeginningsState) (r : ReadingState) (f : FileState) (holding : �
             taken = taken_kept holding k.holding s.holdings.table t.holdings.table h k.held is free reads.takes k.taken;
           })
       | inr new ↦ (
-          let one : length r.file.readers ≡ q = elim (Contains-uncons (length r.file.readers) [] q new) [ inl e ↦ e | inr none ↦ absurd (Contains-nil q none) ] in
+          let one : length r.file.readers ≡ q = new in
           record {
             holding = holding;
             of = ap (slice_get (r.holdings ++ holding ∷ [])) (sym (before.kept.linked ∙ one)) ∙ get_last r.holdings holding;

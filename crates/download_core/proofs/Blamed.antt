@@ -13,7 +13,7 @@ use Rattle.download_shares.specs.BeginningState.{BeginningsState}
 use Rattle.download_shares.specs.declared.begun.Begun.{Begun}
 use Rattle.download_shares.proofs.Falling.{falls_one, retired_left}
 use Rattle.share_verify.specs.declared.check.Check.{Check}
-use Rattle.download_file.specs.State.{IsLive}
+use Rattle.download_file.specs.State.{IsHeard}
 use Rattle.download_core.specs.Reading.{AreAwaited, AreBusy, AreLinked, IsOf}
 use Rattle.download_core.specs.ReadingState.{ReadingState}
 use Rattle.download_core.specs.ReadingSteps.{left_count}
@@ -28,7 +28,7 @@ pub record OwnBlamed (s : BeginningsState) (r : ReadingState) (reader holding : 
   pub is : IsHolding s.holdings.table holding held
   pub left : held.left ≡ true
 
-pub own_blamed : (s : BeginningsState) (now r : ReadingState) (reader holding : ℕ) → r ≡ now → AreLinked s now → IsLive now.file reader → holding ≡ get_or r.holdings reader holding → OwnBlamed s now reader holding
+pub own_blamed : (s : BeginningsState) (now r : ReadingState) (reader holding : ℕ) → r ≡ now → AreLinked s now → IsHeard now.file reader → holding ≡ get_or r.holdings reader holding → OwnBlamed s now reader holding
 own_blamed s now r reader holding e linked live index =
     let k = linked.live reader live in
     let at : IsOf r reader k.holding = ap (λ (x : ReadingState). slice_get x.holdings reader) e ∙ k.of in

@@ -23,7 +23,7 @@ use Rattle.download_parts.specs.declared.part.Part.TheVariants.{Data}
 use Rattle.download_file.specs.Answers.{AnswersFirst}
 use Rattle.download_file.specs.Changes.{IsSameFile}
 use Rattle.download_file.specs.Making.{RefutesReader}
-use Rattle.download_file.specs.State.{CopyState, FileState, IsLive, ReaderState, copies, copy, copy_of, first_position, first_waiting, waiting_at, waiting_in}
+use Rattle.download_file.specs.State.{CopyState, FileState, IsHeard, ReaderState, copies, copy, copy_of, first_position, first_waiting, waiting_at, waiting_in}
 use Rattle.download_file.specs.Taking.{IsRefused}
 use Rattle.download_file.specs.declared.reader.Waiting.{Waiting}
 use Rattle.cap_text.specs.Cap.{VerifyCapValue}
@@ -102,7 +102,7 @@ first_of f reader position None (w ∷ ws) there same e = absurd cc
 first_of f reader position (Some r) (w ∷ ws) there same e = record { r = r; there = there; first = w; others = ws; waits = same; at = cc }
 
 -- the bytes are what the reader's own server answered
-pub answers_first : (but : Option ℕ) (s : BeginningsState) (r : ReadingState) (reader position : ℕ) (bytes : List ℕ) → AreReadingBut but s r → IsLive r.file reader → first_waiting r.file reader ≡ Some position
+pub answers_first : (but : Option ℕ) (s : BeginningsState) (r : ReadingState) (reader position : ℕ) (bytes : List ℕ) → AreReadingBut but s r → IsHeard r.file reader → first_waiting r.file reader ≡ Some position
     → IsAnsweredBy s.holdings.requests.entries position bytes → AnswersFirst s.holdings.requests.entries r.file reader bytes
 answers_first but s r reader position bytes reading live first answered =
     let w = first_of r.file reader position (slice_get r.file.readers reader) (waiting_at r.file reader) refl refl first in
@@ -131,7 +131,7 @@ answers_first but s r reader position bytes reading live first answered =
     }
 
 -- the part that a reader waited for is refused
-pub part_fault : (but : Option ℕ) (s : BeginningsState) (r : ReadingState) (reader position : ℕ) (check : Check) (bytes : List ℕ) (b : Blame) → AreReadingBut but s r → IsLive r.file reader → first_waiting r.file reader ≡ Some position
+pub part_fault : (but : Option ℕ) (s : BeginningsState) (r : ReadingState) (reader position : ℕ) (check : Check) (bytes : List ℕ) (b : Blame) → AreReadingBut but s r → IsHeard r.file reader → first_waiting r.file reader ≡ Some position
     → IsAnsweredBy s.holdings.requests.entries position bytes → IsRefused r.file reader bytes check → IsBlameOf s r reader check b → IsPartFault s.holdings.requests.entries r.file b
 part_fault but s r reader position check bytes b reading live first answered refused blame =
     let now = reading.linked.live reader live in

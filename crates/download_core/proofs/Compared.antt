@@ -17,7 +17,7 @@ use Rattle.download_shares.specs.BeginningState.{BeginningsState}
 use Rattle.download_shares.specs.declared.begun.Begun.{Begun}
 use Rattle.download_shares.proofs.Falling.{Falls, falls_none, falls_one, retired_left}
 use Rattle.download_file.specs.Answers.{IsRead}
-use Rattle.download_file.specs.State.{IsLive}
+use Rattle.download_file.specs.State.{IsHeard}
 use Rattle.download_core.specs.Reading.{AreAwaited, AreBusy, AreKept, AreLinked, IsGone, IsReadNow}
 use Rattle.download_core.specs.ReadingState.{ReadingState}
 use Rattle.download_core.specs.ReadingSteps.{IsTold}
@@ -66,7 +66,7 @@ module _ (s t : BeginningsState) (r : ReadingState) (holding : ℕ) (told : IsTo
   pub compared_kept : AreKept t r
   compared_kept = fallen_kept s t r told.linked known follows readers alike answers
 
-  pub compared_live : (q : ℕ) → IsLive r.file q → IsReadNow t r q ⊎ IsGone t r q
+  pub compared_live : (q : ℕ) → IsHeard r.file q → IsReadNow t r q ⊎ IsGone t r q
   compared_live = fallen_live s t r told.linked known follows readers alike answers
 
   compared_awaits : AreAwaited told.begun.reader t r

@@ -2,7 +2,7 @@
 use Rattle.std.proofs.Common.{◌≡◌, ℕ, ◌+◌, ◌<◌, ◌≤◌, ◌⊎◌, inl, inr, Bool, true, false, cond, not, List, [], ◌∷◌, ◌++◌, Contains, length, take, refl, sym, ap, subst, ◌∙◌, arith, true≢false}
 use Rattle.std.specs.Prelude.{◌==◌, All, slice_get, slice_index_or}
 use Rattle.std.proofs.lemmas.Bool.{eq-eqb}
-use Rattle.std.proofs.lemmas.List.{append-nil, append_assoc, length-map, take_more}
+use Rattle.std.proofs.lemmas.List.{append-nil, append_assoc, length-map}
 use Rattle.std.proofs.lemmas.List.Elements.{All-contains, Contains-push_cases}
 use Rattle.std.proofs.lemmas.Option.{slice_get-get_or}
 use Rattle.lemmas.proofs.Options.{one_there}
@@ -13,7 +13,6 @@ use Rattle.share_layout.specs.Geometry.{Geometry}
 use Rattle.download_segments.specs.State.{HandoutState}
 use Rattle.download_shares.specs.Table.{IsHolding}
 use Rattle.download_shares.specs.declared.holding.Holding.{Holding}
-use Rattle.download_shares.proofs.Lists.{from_without, without_keeps}
 use Rattle.request_record.specs.Record.{RequestsState}
 use Rattle.download_shares.specs.Reads.{AddsReads, IsBeside}
 use Rattle.download_shares.specs.BeginningState.{BeginningsState}
@@ -25,12 +24,14 @@ use Rattle.download_file.specs.Asked.{AsksNoMore, IsOneOf, IsPlannedRead}
 use Rattle.download_file.specs.Changes.{IsSameFile, StaysRead}
 use Rattle.download_supply.specs.declared.wanted.Wanted.{Wanted}
 use Rattle.download_file.specs.Right.{IsFile}
-use Rattle.download_file.specs.State.{CopyState, FileState, IsLive, ReaderState, copies, copy_of, without}
+use Rattle.download_file.specs.State.{CopyState, FileState, IsHeard, ReaderState, copies, copy_of, without}
 use Rattle.download_file.proofs.GrowLemmas.{same_itself}
 use Rattle.download_core.specs.Reading.{AreKept, AreLinked, IsGone, IsOf, IsOfReader, IsReadNow}
 use Rattle.download_core.specs.ReadingState.{ReadingState}
 use Rattle.download_core.specs.ReadingSteps.{AddsPieces, Continues, IsReadFor}
+use Rattle.download_file.proofs.StateLemmas.{heard_there}
 use Rattle.download_core.proofs.Awaited.{goes_stays}
+use Rattle.download_core.proofs.Listed.{heard_without, without_heard}
 
 -- the plan of the same file
 planned_alike : (f g : FileState) (offset len : ℕ) → IsSameFile f g → IsPlannedRead g offset len → IsPlannedRead f offset len
@@ -74,7 +75,7 @@ continues_trans s t u r q p f g = record {
       (λ position n share offset len there le asked. planned_alike r.file q.file offset len f.same (g.reads position n share offset len there le asked));
 }
 
-module _ (s : BeginningsState) (r : ReadingState) (f : FileState) (reader : ℕ) (before : AreKept s r) (gone : IsGone s r reader) (lives : f.live ≡ without reader r.file.live) (shared : copies f ≡ copies r.file)
+module _ (s : BeginningsState) (r : ReadingState) (f : FileState) (reader : ℕ) (before : AreKept s r) (gone : IsGone s r reader) (lives : f.live ≡ without reader r.file.live) (asides : f.aside ≡ without reader r.file.aside) (shared : copies f ≡ copies r.file)
     (asked : AsksNoMore r.file f) (stays : StaysRead r.file f) (right : IsFile f) (geometry : f.handout.geometry ≡ r.file.handout.geometry) where
   abbrev pub ended : ReadingState
   ended = record r { file = f }
@@ -95,12 +96,12 @@ module _ (s : BeginningsState) (r : ReadingState) (f : FileState) (reader : ℕ)
         record { held = k.held; is = k.is; begun = k.begun; there = k.there; of_reader = k.of_reader; reads = ap (λ (l : List CopyState). slice_get l q) shared ∙ k.reads });
     back = before.back;
     alive = λ x q h b is there e left.
-        subst (λ (l : List ℕ). Contains l q) (sym lives) (without_keeps reader q r.file.live (before.alive x q h b is there e left)
+        without_heard r.file f reader lives asides q (before.alive x q h b is there e left)
         (λ same.
         let of : IsOf r reader x = ap (slice_get r.holdings) (sym same) ∙ before.back x q b there e in
         let one : x ≡ gone.holding = one_there (slice_get r.holdings reader) x gone.holding of gone.of in
         let held : h ≡ gone.held = one_there (slice_get s.holdings.table.holdings x) h gone.held is (ap (slice_get s.holdings.table.holdings) one ∙ gone.is) in
-        true≢false (sym left ∙ ap (λ (y : Holding). y.left) held ∙ gone.gone)));
+        true≢false (sym left ∙ ap (λ (y : Holding). y.left) held ∙ gone.gone));
     reads = λ x i offset len h b is there left read. more b offset len (before.reads x i offset len h b is there left read);
     answers = stays s.holdings.requests.entries before.answers;
   }
@@ -109,13 +110,13 @@ module _ (s : BeginningsState) (r : ReadingState) (f : FileState) (reader : ℕ)
       more b offset len (inl beside) = inl (subst (λ g. IsBeside g offset len) (sym geometry) beside)
       more b offset len (inr k) = inr (k.0, k.1, (asked k.0 offset len).1 k.2)
 
-  pub still_live : ((q : ℕ) → IsLive r.file q → IsReadNow s r q ⊎ IsGone s r q) → (q : ℕ) → IsLive f q → IsReadNow s ended q ⊎ IsGone s ended q
-  still_live live q alive = elim (live q (from_without reader q r.file.live (subst (λ (l : List ℕ). Contains l q) lives alive)).0) [
+  pub still_live : ((q : ℕ) → IsHeard r.file q → IsReadNow s r q ⊎ IsGone s r q) → (q : ℕ) → IsHeard f q → IsReadNow s ended q ⊎ IsGone s ended q
+  still_live live q alive = elim (live q (heard_without r.file f reader lives asides q alive).0) [
     | inl k ↦ inl (record { holding = k.holding; of = k.of; held = k.held; is = k.is; left = k.left; taken = k.taken })
     | inr k ↦ inr (record { holding = k.holding; of = k.of; held = k.held; is = k.is; gone = k.gone })
   ]
 
-pub all_live : (s : BeginningsState) (r : ReadingState) → AreKept s r → ((q : ℕ) → IsLive r.file q → IsReadNow s r q ⊎ IsGone s r q) → ((q : ℕ) → IsLive r.file q → IsGone s r q → ⊥) → AreLinked s r
+pub all_live : (s : BeginningsState) (r : ReadingState) → AreKept s r → ((q : ℕ) → IsHeard r.file q → IsReadNow s r q ⊎ IsGone s r q) → ((q : ℕ) → IsHeard r.file q → IsGone s r q → ⊥) → AreLinked s r
 all_live s r kept live none = record {
   kept = kept;
   live = λ q alive. elim (live q alive) [ inl k ↦ k | inr k ↦ absurd (none q alive k) ];
@@ -130,6 +131,17 @@ fewer x (y ∷ ys) h = by (y == x) refl (Contains-uncons y ys x h) (length-witho
     by false e (inl same) low rest = absurd (true≢false (sym (eq-eqb y x same) ∙ e))
     by false e (inr later) low rest = (let r = rest later in omega (arith, r))
 
+-- a reader that ends is one less of those that are heard
+pub fewer_heard : (f : FileState) (reader : ℕ) → IsHeard f reader → length (without reader f.live) + length (without reader f.aside) < length f.live + length f.aside
+fewer_heard f reader (inl live) =
+    let less = fewer reader f.live live in
+    let more = length-without reader f.aside in
+    omega (arith, less, more)
+fewer_heard f reader (inr aside) =
+    let less = fewer reader f.aside aside in
+    let more = length-without reader f.live in
+    omega (arith, less, more)
+
 -- ---- the holding of a reader
 
 pub record OwnHolding (s : BeginningsState) (r : ReadingState) (reader : ℕ) : Type 0 where
@@ -138,18 +150,10 @@ pub record OwnHolding (s : BeginningsState) (r : ReadingState) (reader : ℕ) : 
   pub held : Holding
   pub is : IsHolding s.holdings.table holding held
 
-pub own_holding : (s : BeginningsState) (r : ReadingState) (reader : ℕ) → AreKept s r → IsLive r.file reader → OwnHolding s r reader
+pub own_holding : (s : BeginningsState) (r : ReadingState) (reader : ℕ) → AreKept s r → IsHeard r.file reader → OwnHolding s r reader
 own_holding s r reader kept live =
-    let inside : reader < length r.file.readers = All-contains (λ (position : ℕ). position < length r.file.readers) r.file.live reader kept.right.live.there live in
+    let inside : reader < length r.file.readers = heard_there r.file reader kept.right live in
     let l = kept.linked in
     let of : IsOf r reader (slice_index_or r.holdings reader 0) = slice_get-get_or r.holdings reader 0 (omega (arith, inside, l)) in
     let k = kept.forth reader (slice_index_or r.holdings reader 0) of in
     record { holding = slice_index_or r.holdings reader 0; of = of; held = k.held; is = k.is }
-
--- one more of them is not gone
-pub none_more : (s : BeginningsState) (r : ReadingState) (i : ℕ) (d : ℕ) → i < length r.file.live → ((q : ℕ) → Contains (take i r.file.live) q → IsGone s r q → ⊥) → (IsGone s r (slice_index_or r.file.live i d) → ⊥)
-    → (q : ℕ) → Contains (take (i + 1) r.file.live) q → IsGone s r q → ⊥
-none_more s r i d lt before this q h gone = elim (Contains-push_cases (take i r.file.live) (slice_index_or r.file.live i d) q (subst (λ (l : List ℕ). Contains l q) (take_more r.file.live i d lt) h)) [
-  | inl old ↦ before q old gone
-  | inr e ↦ this (subst (IsGone s r) (sym e) gone)
-]

@@ -4,7 +4,7 @@ use Rattle.std.specs.Prelude.{slice_get, slice_index_or}
 use Rattle.std.proofs.lemmas.List.{length-map}
 use Rattle.std.proofs.lemmas.List.Sums.{sum_by-cons}
 use Rattle.std.proofs.lemmas.Option.{slice_get-get_or}
-use Rattle.lemmas.proofs.Members.{contains_map}
+use Rattle.lemmas.proofs.Members.{contains_map, contains_none}
 use Rattle.lemmas.proofs.Options.{one_there}
 use Rattle.request_record.specs.declared.requests.Request.{Request}
 use Rattle.request_record.specs.Record.{is_outstanding, outstanding_count}
@@ -15,7 +15,7 @@ use Rattle.download_shares.specs.declared.holding.Holding.{Holding}
 use Rattle.download_shares.specs.Reads.{IsOutAt}
 use Rattle.download_shares.specs.BeginningState.{BeginningsState}
 use Rattle.download_file.specs.Making.{SomeWaits}
-use Rattle.download_file.specs.State.{CopyState, ReaderState, copy, copy_of, numbers_of, share_in}
+use Rattle.download_file.specs.State.{CopyState, IsHeard, IsLive, ReaderState, copy, copy_of, numbers_of, share_in}
 use Rattle.download_file.proofs.ListLemmas.{get_unmapped}
 use Rattle.download_core.specs.Reading.{AreReading}
 use Rattle.download_core.specs.ReadingState.{ReadingState}
@@ -41,12 +41,17 @@ module _ (s : BeginningsState) (r : ReadingState) (reading : AreReading s r) (ta
   -- what waits of a reader would be out
   none_waits : SomeWaits r.file → ⊥
   none_waits w =
-      let k = reading.linked.live w.reader w.live in
+      let k = reading.linked.live w.reader (inl w.live) in
       none_out s.holdings.requests.entries w.position idle
-      (reading.awaits.first w.reader w.position k.held (record { live = w.live; holding = k.holding; of = k.of; is = k.is; left = k.left }) (λ e. cc) w.first)
+      (reading.awaits.first w.reader w.position k.held (record { live = inl w.live; holding = k.holding; of = k.of; is = k.is; left = k.left }) (λ e. cc) w.first)
 
   -- the number of a holding that is left is one that is read
-  module _ (none : NoneIsFree s.holdings.table) where
+  module _ (none : NoneIsFree s.holdings.table) (empty : r.file.aside ≡ []) where
+    -- none is put aside
+    read_now : (reader : ℕ) → IsHeard r.file reader → IsLive r.file reader
+    read_now reader (inl live) = live
+    read_now reader (inr aside) = absurd (contains_none reader (subst (λ (l : List ℕ). Contains l reader) empty aside))
+
     read_of : (position : ℕ) (h : Holding) → IsHolding s.holdings.table position h → h.left ≡ true → Contains (numbers_of r.file.readers r.file.live) h.share
     read_of position h is left = by_choice h.suspended refl
       where
@@ -59,7 +64,7 @@ module _ (s : BeginningsState) (r : ReadingState) (reading : AreReading s r) (ta
             let f = reading.linked.kept.forth k.0 p k.1 in
             let own = table.positions h.share p _ number (table.reading h.share p _ number reads) in
             let same : f.held ≡ own.0 = one_there (slice_get s.holdings.table.holdings p) f.held own.0 f.is own.1 in
-            let live = reading.linked.kept.alive p k.0 f.held f.begun f.is f.there f.of_reader (ap (λ (x : Holding). x.left) same ∙ own.3) in
+            let live = read_now k.0 (reading.linked.kept.alive p k.0 f.held f.begun f.is f.there f.of_reader (ap (λ (x : Holding). x.left) same ∙ own.3)) in
             let at = get_unmapped (λ (x : ReaderState). copy_of x) r.file.readers k.0 (copy f.held.server f.held.share) f.reads in
             let share : share_in (slice_get r.file.readers k.0) ≡ h.share = ap share_in at.1 ∙ ap (λ (x : CopyState). x.share) at.2 ∙ ap (λ (x : Holding). x.share) same ∙ own.2 in
             subst (Contains (numbers_of r.file.readers r.file.live)) share (contains_map (λ x. share_in (slice_get r.file.readers x)) r.file.live k.0 live)
@@ -96,6 +101,6 @@ module _ (s : BeginningsState) (r : ReadingState) (reading : AreReading s r) (ta
     few = record {
       numbers = numbers_of r.file.readers r.file.live;
       few = (let l = length-map r.file.live (λ x. share_in (slice_get r.file.readers x)) in let f = few.0 in omega (arith, l, f));
-      all = left_numbers few.1;
+      all = left_numbers few.1.0 few.1.1;
     };
   }

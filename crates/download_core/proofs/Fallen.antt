@@ -33,9 +33,10 @@ use Rattle.download_core.proofs.Follows.{Follows, KeepsReaders, WasHeld, follows
 use Rattle.download_file.specs.Answers.{IsRead}
 use Rattle.download_file.specs.Asked.{AsksNoMore}
 use Rattle.download_file.specs.Right.{IsFile}
-use Rattle.download_file.specs.State.{CopyState, FileState, IsLive, ReaderState, copies, copy, copy_of}
+use Rattle.download_file.specs.State.{CopyState, FileState, IsHeard, ReaderState, copies, copy, copy_of}
 use Rattle.download_core.specs.Reading.{AreKept, AreLinked, IsGone, IsOfReader, IsReadNow}
 use Rattle.download_core.specs.ReadingState.{ReadingState}
+use Rattle.download_core.proofs.Listed.{heard_same}
 
 -- ---- fewer are left
 
@@ -94,7 +95,7 @@ module _ (s t : BeginningsState) (r : ReadingState) (before : AreLinked s r) (kn
         | inr none ↦ (let k = slice_get_within s.holdings.table.holdings x w.held w.is in let n = before.kept.known.counted in let le = none.0 in absurd (omega (arith, k, n, le)))
       ]
 
-  pub fallen_live : (q : ℕ) → IsLive r.file q → IsReadNow t r q ⊎ IsGone t r q
+  pub fallen_live : (q : ℕ) → IsHeard r.file q → IsReadNow t r q ⊎ IsGone t r q
   fallen_live q alive = by (before.live q alive)
     where
       by : IsReadNow s r q → IsReadNow t r q ⊎ IsGone t r q
@@ -119,7 +120,7 @@ module _ (s t : BeginningsState) (r : ReadingState) (before : AreLinked s r) (kn
 
 -- ---- the file goes on
 
-module _ (s : BeginningsState) (r : ReadingState) (f : FileState) (before : AreLinked s r) (lives : f.live ≡ r.file.live) (shared : copies f ≡ copies r.file) (asked : AsksNoMore r.file f)
+module _ (s : BeginningsState) (r : ReadingState) (f : FileState) (before : AreLinked s r) (back : (q : ℕ) → IsHeard f q → IsHeard r.file q) (forth : (q : ℕ) → IsHeard r.file q → IsHeard f q) (shared : copies f ≡ copies r.file) (asked : AsksNoMore r.file f)
     (answers : IsRead s.holdings.requests.entries f) (right : IsFile f) (geometry : f.handout.geometry ≡ r.file.handout.geometry) where
   abbrev pub goes_on_with : ReadingState
   goes_on_with = record r { file = f }
@@ -140,12 +141,12 @@ module _ (s : BeginningsState) (r : ReadingState) (f : FileState) (before : AreL
           let k = before.kept.forth q x of in
           record { held = k.held; is = k.is; begun = k.begun; there = k.there; of_reader = k.of_reader; reads = ap (λ (l : List CopyState). slice_get l q) shared ∙ k.reads });
       back = before.kept.back;
-      alive = λ x q g b is there e left. subst (λ (l : List ℕ). Contains l q) (sym lives) (before.kept.alive x q g b is there e left);
+      alive = λ x q g b is there e left. forth q (before.kept.alive x q g b is there e left);
       reads = λ x i offset len g b is there left read. more b offset len (before.kept.reads x i offset len g b is there left read);
       answers = answers;
     };
     live = λ q alive. (
-        let k = before.live q (subst (λ (l : List ℕ). Contains l q) lives alive) in
+        let k = before.live q (back q alive) in
         record { holding = k.holding; of = k.of; held = k.held; is = k.is; left = k.left; taken = k.taken });
   }
     where
@@ -171,7 +172,7 @@ module _ (s t : BeginningsState) (r : ReadingState) (holding : ℕ) (check : Che
   pub blamed_kept : AreKept t r
   blamed_kept = fallen_kept s t r before known blamed_follows (readers_same s.begun t.begun same) alike answers
 
-  pub blamed_live : (q : ℕ) → IsLive r.file q → IsReadNow t r q ⊎ IsGone t r q
+  pub blamed_live : (q : ℕ) → IsHeard r.file q → IsReadNow t r q ⊎ IsGone t r q
   blamed_live = fallen_live s t r before known blamed_follows (readers_same s.begun t.begun same) alike answers
 
   pub blamed_continues : Continues s r t r
@@ -185,10 +186,10 @@ module _ (s t : BeginningsState) (r : ReadingState) (holding : ℕ) (check : Che
 
 -- ---- a segment is made, or not
 
-module _ (s : BeginningsState) (r : ReadingState) (f : FileState) (before : AreLinked s r) (lives : f.live ≡ r.file.live) (readers : f.readers ≡ r.file.readers) (asked : AsksNoMore r.file f)
+module _ (s : BeginningsState) (r : ReadingState) (f : FileState) (before : AreLinked s r) (lives : f.live ≡ r.file.live) (asides : f.aside ≡ r.file.aside) (readers : f.readers ≡ r.file.readers) (asked : AsksNoMore r.file f)
     (answers : IsRead s.holdings.requests.entries f) (right : IsFile f) (same : IsSameFile r.file f) where
   pub made_reading : AreLinked s (record r { file = f })
-  made_reading = file_goes s r f before lives (ap (λ (l : List ReaderState). map (λ (x : ReaderState). copy_of x) l) readers) asked answers right same.geometry
+  made_reading = file_goes s r f before (heard_same r.file f lives asides) (heard_same f r.file (sym lives) (sym asides)) (ap (λ (l : List ReaderState). map (λ (x : ReaderState). copy_of x) l) readers) asked answers right same.geometry
 
   pub made_continues : AddsPieces r.file.handout f.handout → Continues s r s (record r { file = f })
   made_continues pieces = record { goes = goes_none s s refl refl; same = same; pieces = pieces; answers = λ a. answers; reads = asks_none r.file s s refl }

@@ -11,7 +11,7 @@ use Rattle.download_file.specs.State.{FileState, IsComplete, IsLive, ReaderState
 use Rattle.download_core.specs.ReadingPrompt.{IsPrompt}
 use Rattle.download_core.specs.Reading.{AreReading}
 use Rattle.download_core.specs.ReadingState.{ReadingState}
-use Rattle.download_core.specs.ReadingSteps.{IsStill, IsStuck, left_count, work}
+use Rattle.download_core.specs.ReadingSteps.{IsStill, IsStuck, NoneIsLeft, left_count, work}
 
 -- the same is to be made, and as many are left
 pub same_work : (s t : BeginningsState) (r q : ReadingState) → q.file.handout ≡ r.file.handout → t.holdings.table.holdings ≡ s.holdings.table.holdings → work t q ≡ work s r
@@ -22,7 +22,7 @@ same_work s t r q same held =
     omega (arith, to, reached, left)
 
 -- more readers were begun, all were asked, and no segment was made
-module _ (a b d : BeginningsState) (x y z : ReadingState) (enough : (x.file.handout.geometry.needed ≤ length x.file.live) ⊎ NoneIsFree a.holdings.table) (table : b.holdings.table ≡ a.holdings.table) (live : y.file.live ≡ x.file.live)
+module _ (a b d : BeginningsState) (x y z : ReadingState) (enough : (x.file.handout.geometry.needed ≤ length x.file.live) ⊎ NoneIsLeft a x) (table : b.holdings.table ≡ a.holdings.table) (live : y.file.live ≡ x.file.live) (aside : y.file.aside ≡ x.file.aside)
     (handout : y.file.handout ≡ x.file.handout) (asked : (reader : ℕ) → IsLive y.file reader → IsAskedUp y.file reader) (more : ¬ IsComplete y.file) (still : IsStill b y d z) (same : z.file.handout ≡ y.file.handout) where
   moved : SomeWaits y.file → SomeWaits z.file
   moved w = record {
@@ -32,7 +32,7 @@ module _ (a b d : BeginningsState) (x y z : ReadingState) (enough : (x.file.hand
     first = ap (λ (l : List ReaderState). first_position (waiting_in (slice_get l w.reader))) still.readers ∙ w.first;
   }
 
-  few : length y.file.live < y.file.handout.geometry.needed → (x.file.handout.geometry.needed ≤ length x.file.live) ⊎ NoneIsFree a.holdings.table → IsStuck d z
+  few : length y.file.live < y.file.handout.geometry.needed → (x.file.handout.geometry.needed ≤ length x.file.live) ⊎ NoneIsLeft a x → IsStuck d z
   few lt (inl all) =
       let l = ap length live in
       let g = ap (λ (h : HandoutState). h.geometry.needed) handout in
@@ -40,7 +40,7 @@ module _ (a b d : BeginningsState) (x y z : ReadingState) (enough : (x.file.hand
   few lt (inr none) =
       let l = ap length still.live in
       let g = ap (λ (h : HandoutState). h.geometry.needed) same in
-      inl (omega (arith, lt, l, g), subst NoneIsFree (sym (ap (λ (s : BeginningsState). s.holdings.table) still.same ∙ table)) none)
+      inl (omega (arith, lt, l, g), subst NoneIsFree (sym (ap (λ (s : BeginningsState). s.holdings.table) still.same ∙ table)) none.0, still.aside ∙ aside ∙ none.1)
 
   pub stuck : CanNotGoOn y.file → IsStuck d z
   stuck (inl complete) = absurd (more complete)
@@ -62,6 +62,6 @@ prompt_now patient s r reading waits asked = record {
   waits = waits;
   asked = asked;
   out = λ reader position live first.
-      let k = reading.linked.live reader live in
-      reading.awaits.first reader position k.held (record { live = live; holding = k.holding; of = k.of; is = k.is; left = k.left }) (λ e. cc) first;
+      let k = reading.linked.live reader (inl live) in
+      reading.awaits.first reader position k.held (record { live = inl live; holding = k.holding; of = k.of; is = k.is; left = k.left }) (λ e. cc) first;
 }

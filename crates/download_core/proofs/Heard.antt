@@ -31,12 +31,12 @@ use Rattle.download_shares.proofs.Entries.{Grows, grows_goes, read_grows}
 use Rattle.download_shares.proofs.Falling.{WasHolding, retired_left}
 use Rattle.download_shares.proofs.Hearing as hearing
 use Rattle.download_file.specs.Answers.{IsRead}
-use Rattle.download_file.specs.State.{IsLive}
+use Rattle.download_file.specs.State.{IsHeard}
 use Rattle.download_file.specs.declared.reader.Waiting.{Waiting}
 use Rattle.download_file.proofs.GrowLemmas.{reads_keep}
 use Rattle.download_core.specs.Reading.{AreAwaited, AreBusy, AreKept, AreLinked, AreReading, IsAskedOf, IsGone, IsOf, IsReadNow, IsReading}
 use Rattle.download_core.specs.ReadingState.{ReadingState}
-use Rattle.download_core.specs.ReadingSteps.{HasHeard, IsHeard}
+use Rattle.download_core.specs.ReadingSteps.{HasHeard, IsToTake}
 use Rattle.download_core.proofs.Awaited.{fallen_awaits, read_as, read_back}
 use Rattle.download_core.proofs.Busy.{busy_file}
 use Rattle.download_core.proofs.Fallen.{fallen_kept, fallen_live}
@@ -87,7 +87,7 @@ module _ (s u : BeginningsState) (r : ReadingState) (from : ℕ) (m : Message) (
   pub heard_kept : AreKept u r
   heard_kept = fallen_kept s u r reading.linked known follows readers alike heard_answers
 
-  pub heard_live : (q : ℕ) → IsLive r.file q → IsReadNow u r q ⊎ IsGone u r q
+  pub heard_live : (q : ℕ) → IsHeard r.file q → IsReadNow u r q ⊎ IsGone u r q
   heard_live = fallen_live s u r reading.linked known follows readers alike heard_answers
 
   -- what is out still is, or its bytes came
@@ -242,7 +242,7 @@ module _ (s u : BeginningsState) (r : ReadingState) (from : ℕ) (m : Message) (
           f ∙ ap (λ p. heard.Bytes p y) (sym xs) ∙ ap (heard.Bytes holding) (sym ys)
 
   -- bytes take no share away
-  pub bytes_live : (holding at : ℕ) → told ≡ news.Bytes holding at → (q : ℕ) → IsLive r.file q → IsReadNow u r q
+  pub bytes_live : (holding at : ℕ) → told ≡ news.Bytes holding at → (q : ℕ) → IsHeard r.file q → IsReadNow u r q
   bytes_live holding at e q live = by (counts_at from m s.holdings.requests) (subst (HearsAt _ m s.holdings u.holdings) (bytes_told holding at e) hears.hears.heard)
     where
       stays : u.holdings.table ≡ s.holdings.table → IsReadNow u r q
@@ -279,7 +279,7 @@ module _ (s u : BeginningsState) (r : ReadingState) (from : ℕ) (m : Message) (
     quiet : IsToldReader u told None → IsToldHeader told None → AreReading u q
     quiet a b = record { linked = linked; awaits = awaits None (heard_awaits None a); busy = busy_file None u r q same (heard_busy None b) }
 
-    pub heard_all : (t : News) → told ≡ t → IsHeard u q t
+    pub heard_all : (t : News) → told ≡ t → IsToTake u q t
     heard_all news.Nothing e = quiet (subst (λ (n : News). IsToldReader u n None) (sym e) refl) (subst (λ (n : News). IsToldHeader n None) (sym e) refl)
     heard_all (news.Gone holding) e = quiet (subst (λ (n : News). IsToldReader u n None) (sym e) refl) (subst (λ (n : News). IsToldHeader n None) (sym e) refl)
     heard_all (news.Beginning holding at) e =
@@ -304,7 +304,7 @@ module _ (s u : BeginningsState) (r : ReadingState) (from : ℕ) (m : Message) (
           busy = busy_file None u r q same (heard_busy None (subst (λ (n : News). IsToldHeader n None) (sym e) refl));
         }
 
-pub heard_left : (u : BeginningsState) (r q : ReadingState) (told : News) → HasHeard u r told → AreLinked u q → q.holdings ≡ r.holdings → ((but : Option ℕ) → AreAwaited but u r → AreAwaited but u q) → (t : News) → told ≡ t → IsHeard u q t
+pub heard_left : (u : BeginningsState) (r q : ReadingState) (told : News) → HasHeard u r told → AreLinked u q → q.holdings ≡ r.holdings → ((but : Option ℕ) → AreAwaited but u r → AreAwaited but u q) → (t : News) → told ≡ t → IsToTake u q t
 heard_left u r q told k linked same awaits t e = heard_all k.before u r k.from k.message k.now told k.reading k.hears k.known k.bytes q linked same awaits t e
 
 pub heard_bytes : (u : BeginningsState) (r : ReadingState) (told : News) → HasHeard u r told → (holding at : ℕ) → told ≡ news.Bytes holding at → AreLinked u r

@@ -1,9 +1,11 @@
 pub mod Fields
+pub mod Listed
 pub mod Begun
 pub mod Parts
 pub mod Asked
 pub mod Ended
 pub mod Fallen
+pub mod Relisted
 pub mod Started
 pub mod Follows
 pub mod Following

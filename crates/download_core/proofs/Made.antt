@@ -17,12 +17,13 @@ use Rattle.download_core.specs.ReadingSteps.{left_count, work}
 use Rattle.download_core.proofs.Awaited.{goes_awaits}
 use Rattle.download_core.proofs.Busy.{busy_file}
 use Rattle.download_core.proofs.Fallen.{made_reading}
+use Rattle.download_core.proofs.Listed.{heard_same}
 
-pub all_made : (s : BeginningsState) (r : ReadingState) (f : FileState) → AreReading s r → f.live ≡ r.file.live → f.readers ≡ r.file.readers → AsksNoMore r.file f → IsRead s.holdings.requests.entries f → IsFile f → IsSameFile r.file f
+pub all_made : (s : BeginningsState) (r : ReadingState) (f : FileState) → AreReading s r → f.live ≡ r.file.live → f.aside ≡ r.file.aside → f.readers ≡ r.file.readers → AsksNoMore r.file f → IsRead s.holdings.requests.entries f → IsFile f → IsSameFile r.file f
     → AreReading s (record r { file = f })
-all_made s r f before lives readers asked answers right same = record {
-  linked = made_reading s r f before.linked lives readers asked answers right same;
-  awaits = goes_awaits None s r f before.awaits (λ q k. subst (λ (l : List ℕ). Contains l q) lives k) (λ q k. ap (λ (l : List ReaderState). waiting_in (slice_get l q)) readers);
+all_made s r f before lives asides readers asked answers right same = record {
+  linked = made_reading s r f before.linked lives asides readers asked answers right same;
+  awaits = goes_awaits None s r f before.awaits (heard_same r.file f lives asides) (λ q k. ap (λ (l : List ReaderState). waiting_in (slice_get l q)) readers);
   busy = busy_file None s r (record r { file = f }) refl before.busy;
 }
 

@@ -16,7 +16,7 @@ use Rattle.download_shares.specs.BeginningState.{BeginningsState}
 use Rattle.download_shares.proofs.Entries.{read_grows}
 use Rattle.download_shares.proofs.BeginningTicking.{alike_ticked, grows_ticked, out_ticked, ticked_falls}
 use Rattle.download_file.specs.Answers.{IsRead}
-use Rattle.download_file.specs.State.{IsLive}
+use Rattle.download_file.specs.State.{IsHeard}
 use Rattle.download_file.specs.declared.reader.Waiting.{Waiting}
 use Rattle.download_file.proofs.GrowLemmas.{reads_keep}
 use Rattle.download_core.specs.Reading.{AreAwaited, AreBusy, AreKept, AreReading, IsAskedOf, IsGone, IsReadNow, IsReading}
@@ -48,7 +48,7 @@ module _ (s u : BeginningsState) (r : ReadingState) (now : ℕ) (reading : AreRe
   pub ticked_kept : AreKept u r
   ticked_kept = fallen_kept s u r reading.linked known follows (readers_same s.begun u.begun same) (alike_ticked s u now was ticks same) ticked_answers
 
-  pub ticked_live : (q : ℕ) → IsLive r.file q → IsReadNow u r q ⊎ IsGone u r q
+  pub ticked_live : (q : ℕ) → IsHeard r.file q → IsReadNow u r q ⊎ IsGone u r q
   ticked_live = fallen_live s u r reading.linked known follows (readers_same s.begun u.begun same) (alike_ticked s u now was ticks same) ticked_answers
 
   -- what is out of a share that is left still is

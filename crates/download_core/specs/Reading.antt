@@ -13,7 +13,7 @@ use Rattle.download_shares.specs.declared.begun.Begun.{Begun}
 use Rattle.download_file.specs.Answers.{IsRead}
 use Rattle.download_file.specs.Asked.{HasAsked}
 use Rattle.download_file.specs.Right.{IsFile}
-use Rattle.download_file.specs.State.{FileState, IsLive, copies, copy, first_waiting, waiting_at}
+use Rattle.download_file.specs.State.{FileState, IsHeard, copies, copy, first_waiting, waiting_at}
 use Rattle.download_file.specs.declared.reader.Waiting.{Waiting}
 use Rattle.download_core.specs.ReadingState.{ReadingState}
 
@@ -30,7 +30,7 @@ pub record IsReaderOf (s : BeginningsState) (r : ReadingState) (reader holding :
   pub of_reader : begun.reader ≡ Some reader
   pub reads : slice_get (copies r.file) reader ≡ Some (copy held.server held.share)
 
--- the share that a live reader reads is left, and is the one of its number that is read
+-- the share that a reader reads is left, and is the one of its number that is read
 pub record IsReadNow (s : BeginningsState) (r : ReadingState) (reader : ℕ) : Type 0 where
   pub holding : ℕ
   pub of : IsOf r reader holding
@@ -53,7 +53,7 @@ IsOfReader f b offset len = IsBeside f.handout.geometry offset len
     ⊎ ((reader : ℕ) × (b.reader ≡ Some reader) × HasAsked f reader offset len)
 
 -- What was asked of each holding that is left was read of its beginning, or asked by its reader,
--- which is read. The answers that the readers took are in the record.
+-- which is read or put aside. The answers that the readers took are in the record.
 pub record AreKept (s : BeginningsState) (r : ReadingState) : Type 0 where
   pub known : AreBegun s
   pub right : IsFile r.file
@@ -63,23 +63,23 @@ pub record AreKept (s : BeginningsState) (r : ReadingState) : Type 0 where
   pub back : (holding reader : ℕ) (b : Begun) → IsBegun s holding b → b.reader ≡ Some reader
       → IsOf r reader holding
   pub alive : (holding reader : ℕ) (h : Holding) (b : Begun) → IsHolding s.holdings.table holding h
-      → IsBegun s holding b → b.reader ≡ Some reader → h.left ≡ true → IsLive r.file reader
+      → IsBegun s holding b → b.reader ≡ Some reader → h.left ≡ true → IsHeard r.file reader
   pub reads : (holding i offset len : ℕ) (h : Holding) (b : Begun)
       → IsHolding s.holdings.table holding h → IsBegun s holding b → h.left ≡ true
       → IsReadAt s.holdings.requests.entries h i offset len → IsOfReader r.file b offset len
   pub answers : IsRead s.holdings.requests.entries r.file
 
--- so it is, and each reader that is read reads a share that is left
+-- so it is, and each reader that is read or put aside reads a share that is left
 pub record AreLinked (s : BeginningsState) (r : ReadingState) : Type 0 where
   pub kept : AreKept s r
-  pub live : (reader : ℕ) → IsLive r.file reader → IsReadNow s r reader
+  pub live : (reader : ℕ) → IsHeard r.file reader → IsReadNow s r reader
 
 -- ---- what is waited for
 
--- a reader that is read, and the share that it reads, which is left
+-- a reader that is read or put aside, and the share that it reads, which is left
 pub record IsReading (s : BeginningsState) (r : ReadingState) (reader : ℕ) (h : Holding)
     : Type 0 where
-  pub live : IsLive r.file reader
+  pub live : IsHeard r.file reader
   pub holding : ℕ
   pub of : IsOf r reader holding
   pub is : IsHolding s.holdings.table holding h

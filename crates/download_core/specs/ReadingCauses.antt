@@ -16,20 +16,20 @@ use Rattle.download_file.specs.Answers.{IsRead, KeepsAnswers}
 use Rattle.download_file.specs.Changes.{IsSameFile}
 use Rattle.download_file.specs.Making.{RefutesReader}
 use Rattle.download_file.specs.Right.{IsFile}
-use Rattle.download_file.specs.State.{FileState, IsLive, copy, copy_of}
+use Rattle.download_file.specs.State.{FileState, IsHeard, copy, copy_of}
 use Rattle.download_file.specs.Taking.{IsRefused}
 use Rattle.download_core.specs.Reading.{IsOf}
 use Rattle.download_core.specs.ReadingState.{ReadingState}
 
--- When the file was as `file`, from which it went on, a reader of it that was read then read the
--- blamed share at the blamed server. That server was asked for the part of that share that waited
--- first of the reader, and the bytes that it answered were refused.
+-- When the file was as `file`, from which it went on, a reader of it that was read or put aside
+-- then read the blamed share at the blamed server. That server was asked for the part of that share
+-- that waited first of the reader, and the bytes that it answered were refused.
 pub record IsPartFault (entries : List Request) (f : FileState) (b : Blame) : Type 0 where
   pub file : FileState
   pub right : IsFile file
   pub same : IsSameFile file f
   pub reader : ℕ
-  pub live : IsLive file reader
+  pub live : IsHeard file reader
   pub bytes : List ℕ
   pub refused : IsRefused file reader bytes b.check
   pub reads : copy_of refused.r ≡ copy b.server b.share

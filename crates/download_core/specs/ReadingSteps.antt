@@ -1,10 +1,11 @@
 -- What the calls on the readers of a file do.
-use Rattle.std.specs.Prelude.{◌≡◌, ◌⊎◌, ℕ, ◌+◌, ◌-◌, ◌<◌, ◌++◌, List, Contains, length}
-use Rattle.std.specs.Prelude.{Option, Some, None}
+use Rattle.std.specs.Prelude.{◌≡◌, ◌⊎◌, ℕ, ◌+◌, ◌-◌, ◌<◌, ◌++◌, List, [], Contains, length}
+use Rattle.std.specs.Prelude.{Option, Some, None, slice_get, true}
 use Rattle.std.specs.Prelude.{count_by}
 use Rattle.wire.specs.declared.message.Message.{Message}
 use Rattle.request_record.specs.declared.requests.Request.{Request}
-use Rattle.request_record.specs.Record.{outstanding_count}
+use Rattle.request_record.specs.Record.{outstanding_count, was_sent_again_in}
+use Rattle.request_record.specs.Written.{kept}
 use Rattle.download_shares.specs.Left.{FewAreLeft}
 use Rattle.download_shares.specs.HoldingMoves.{Ticks}
 use Rattle.download_shares.specs.Table.{IsHolding, NoneIsFree}
@@ -23,7 +24,7 @@ use Rattle.download_shares.specs.declared.beginnings.News.TheVariants as news
 use Rattle.download_segments.specs.State.{HandoutState}
 use Rattle.download_segments.specs.declared.piece.Piece.{Piece}
 use Rattle.download_file.specs.Making.{SomeWaits}
-use Rattle.download_file.specs.State.{FileState, waiting_from}
+use Rattle.download_file.specs.State.{FileState, IsAside, IsLive, first_waiting, waiting_from}
 use Rattle.download_file.specs.declared.reader.Waiting.{Waiting}
 use Rattle.download_core.specs.Reading.{AreAwaited, AreBusy, AreLinked, AreReading}
 use Rattle.download_core.specs.ReadingState.{ReadingState}
@@ -103,12 +104,12 @@ pub record IsTold (but : Option ℕ) (s : BeginningsState) (r : ReadingState) (h
   pub busy : AreBusy but s r
 
 -- what is left to do, where the readers of shares that are gone are read no more
-abbrev pub IsHeard : BeginningsState → ReadingState → News → Type 0
-IsHeard s r (news.Beginning holding position) = IsTold (Some holding) s r holding
+abbrev pub IsToTake : BeginningsState → ReadingState → News → Type 0
+IsToTake s r (news.Beginning holding position) = IsTold (Some holding) s r holding
     × WaitsAt s holding position
     × ((bytes : List ℕ) × IsAnsweredBy s.holdings.requests.entries position bytes)
-IsHeard s r (news.Bytes holding position) = IsTold None s r holding
-IsHeard s r told = AreReading s r
+IsToTake s r (news.Bytes holding position) = IsTold None s r holding
+IsToTake s r told = AreReading s r
 
 -- a second passed
 pub record HasTicked (s : BeginningsState) (r : ReadingState) : Type 0 where
@@ -129,17 +130,47 @@ left_count holdings = count_by (λ (h : Holding). h.left) holdings
 abbrev pub work : BeginningsState → ReadingState → ℕ
 work s r = (r.file.handout.to - r.file.handout.reached) + left_count s.holdings.table.holdings
 
--- Nothing more is made now: too few shares are read and no more may be chosen, or something waits
--- of a reader.
+-- no more may be read: none may be chosen, and none is put aside
+abbrev pub NoneIsLeft : BeginningsState → ReadingState → Type 0
+NoneIsLeft s r = NoneIsFree s.holdings.table × (r.file.aside ≡ [])
+
+-- Nothing more is made now: too few shares are read and no more may be, or something waits of a
+-- reader.
 abbrev pub IsStuck : BeginningsState → ReadingState → Type 0
-IsStuck s r = ((length r.file.live < r.file.handout.geometry.needed)
-    × NoneIsFree s.holdings.table) ⊎ SomeWaits r.file
+IsStuck s r = ((length r.file.live < r.file.handout.geometry.needed) × NoneIsLeft s r)
+    ⊎ SomeWaits r.file
+
+-- ---- readers that are late
+
+-- the request of the part that waits first of a reader was sent again
+pub record IsLate (entries : List Request) (f : FileState) (reader : ℕ) : Type 0 where
+  pub position : ℕ
+  pub first : first_waiting f reader ≡ Some position
+  pub again : was_sent_again_in (kept (slice_get entries position)) ≡ true
+
+-- nothing waits of a reader that is put aside
+pub record IsIdle (f : FileState) (reader : ℕ) : Type 0 where
+  pub aside : IsAside f reader
+  pub idle : first_waiting f reader ≡ None
+
+-- no share may be read in the place of one that is late
+pub record HasNoOther (s : BeginningsState) (f : FileState) : Type 0 where
+  pub free : NoneIsFree s.holdings.table
+  pub idle : (reader : ℕ) → ¬ IsIdle f reader
+
+-- No reader that is read is late, or there is none to read in its place.
+abbrev pub IsPressed : BeginningsState → FileState → Type 0
+IsPressed s f = ((reader : ℕ) → IsLive f reader → ¬ IsLate s.holdings.requests.entries f reader)
+    ⊎ HasNoOther s f
+
+-- ---- how it goes on
 
 -- No segment is made, and nothing is asked or blamed.
 pub record IsStill (s : BeginningsState) (r : ReadingState) (t : BeginningsState)
     (q : ReadingState) : Type 0 where
   pub same : t ≡ s
   pub live : q.file.live ≡ r.file.live
+  pub aside : q.file.aside ≡ r.file.aside
   pub readers : q.file.readers ≡ r.file.readers
 
 -- Nothing is waited for, and fewer share numbers are left than are needed.

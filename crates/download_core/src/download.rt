@@ -75,7 +75,33 @@ impl Download {
         if to < from || cap.size() < to {
             return Err(DownloadError::BadRange);
         }
-        Download::begin(alloc, cap, from, to, servers, session, now).map_err(
+        Download::begin(alloc, cap, from, to, false, servers, session, now).map_err(
+            |_| DownloadError::OutOfMemory,
+        )
+    }
+
+    /// As `start`, for servers that may be slow: a share whose server is late with what is asked of
+    /// it, as a request is sent again, is put aside while another may be read in its place. What
+    /// comes of it later is taken still, and it is read again where it is needed.
+    pub fn start_pressing(
+        alloc: Global,
+        cap: ReadCap,
+        from: u64,
+        to: u64,
+        servers: &[NodeId],
+        session: u64,
+        now: u64,
+    ) -> Result<Download, DownloadError>
+        requires distinct { IsDistinct nat_eq servers.now }
+        ensures begins { IfOk result (Begins cap from to servers.now session now) }
+        ensures range { IfOk result (λ _. (from ≤ to) × (to ≤ cap.size)) }
+        ensures bad_range { (result ≡ Err DownloadError.BadRange)
+            ↔ (((from ≤ to) × (to ≤ cap.size)) → ⊥) }
+    {
+        if to < from || cap.size() < to {
+            return Err(DownloadError::BadRange);
+        }
+        Download::begin(alloc, cap, from, to, true, servers, session, now).map_err(
             |_| DownloadError::OutOfMemory,
         )
     }
@@ -85,6 +111,7 @@ impl Download {
         cap: ReadCap,
         from: u64,
         to: u64,
+        pressing: bool,
         servers: &[NodeId],
         session: u64,
         now: u64,
@@ -95,7 +122,7 @@ impl Download {
         ensures { IfOk result (Begins cap from to servers.now session now) }
     {
         let asked = servers_to_ask(from, to, servers);
-        let machine = Machine::begin(alloc, cap, from, to, asked, session, now)?;
+        let machine = Machine::begin(alloc, cap, from, to, pressing, asked, session, now)?;
         Ok(Download {
             servers: Vec::from_slice(alloc, servers)?,
             machine,

@@ -1,6 +1,6 @@
 //! How a download ends, and why nothing more is made of a file now.
 
-ghost use Rattle.std.specs.Prelude.{◌≡◌, ◌≢◌, ◌↔◌, ◌⊎◌, ◌<◌, None, IfOk, IsTrue, OnOk};
+ghost use Rattle.std.specs.Prelude.{◌≡◌, ◌≢◌, ◌↔◌, ◌⊎◌, ◌<◌, None, IfOk, IsTrue, OnOk, false, min};
 ghost use Rattle.request_record.specs.Record.{outstanding_count};
 ghost use Rattle.download_shares.specs.Numbers.{read_count};
 ghost use Rattle.download_shares.specs.Table.{NoneIsFree, IsTable};
@@ -13,6 +13,7 @@ ghost use Rattle.download_core.specs.Steps.{AreOpened, EndsAs, IsFor, IsUnderWay
 ghost use Rattle.download_core.specs.Steps.{entries_of, found_of, status_of};
 
 use crate::file_reading::{FileReading, Settled};
+use crate::pressing::late_beginnings;
 use crate::state::Machine;
 use crate::status::DownloadStatus;
 use download_shares::{Beginnings, Holdings};
@@ -70,7 +71,7 @@ impl Machine {
             ⊎ NoneIsFree self.new.beginnings.holdings.table) }
         ensures moves { self.old.found ≡ None → MovesOn self.old self.new }
     {
-        let wanted = usize::from(self.cap.needed()).min(OPENINGS);
+        let wanted = self.openings();
         while self.beginnings.holdings().reading() < wanted {
             let Some(holding) = self.beginnings.holdings().choose() else {
                 return Ok(());
@@ -78,6 +79,20 @@ impl Machine {
             self.beginnings.open(holding)?;
         }
         Ok(())
+    }
+
+    // How many shares are opened at once: as many as are needed, four at most. Where it is
+    // pressing, one more for each that is late: for speed alone, so no clause says how many.
+    fn openings(&self) -> usize
+        ensures some { 0 < result }
+        ensures needed { 0 < self.now.cap.needed }
+        ensures plain { self.now.pressing ≡ false → result ≡ min self.now.cap.needed 4 }
+    {
+        let most = usize::from(self.cap.needed()).min(OPENINGS);
+        if self.pressing {
+            return most.saturating_add(late_beginnings(&self.beginnings));
+        }
+        most
     }
 }
 

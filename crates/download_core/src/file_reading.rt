@@ -5,7 +5,7 @@ ghost use Rattle.std.specs.Prelude.{IfOk, OnOk, Ok, Option, Some};
 ghost use Rattle.std.specs.Prelude.{false, length, true};
 ghost use Rattle.request_record.specs.Record.{outstanding_count};
 ghost use Rattle.share_verify.specs.CapBlock.{geometry_by};
-ghost use Rattle.download_shares.specs.Table.{IsFree, IsHolding, NoneIsFree};
+ghost use Rattle.download_shares.specs.Table.{IsFree, IsHolding};
 ghost use Rattle.download_shares.specs.declared.holding.Holding.{Holding};
 ghost use Rattle.download_shares.specs.Causes.{AddsBlames};
 ghost use Rattle.download_shares.specs.Known.{AreBegun};
@@ -22,7 +22,7 @@ ghost use Rattle.download_core.specs.ReadingPrompt.{IsPrompt};
 ghost use Rattle.download_core.specs.Reading.{AreReading};
 ghost use Rattle.download_core.specs.ReadingState.{ReadingState};
 ghost use Rattle.download_core.specs.ReadingSteps.{Continues, HasHeard, HasTicked, IsAtEnd};
-ghost use Rattle.download_core.specs.ReadingSteps.{IsStill, IsStuck, work};
+ghost use Rattle.download_core.specs.ReadingSteps.{IsPressed, IsStill, IsStuck, NoneIsLeft, work};
 
 use crate::asking::ask_parts;
 use crate::ending::why_not;
@@ -142,13 +142,20 @@ impl FileReading {
         }
     }
 
-    /// A second passed. The readers of shares that are lost are read no more.
-    pub fn pass(&mut self, beginnings: &Beginnings)
+    /// A second passed. The readers of shares that are lost are read no more. Where it is pressing,
+    /// readers that are late are put aside, while others may be read in their place.
+    pub fn pass(&mut self, beginnings: &Beginnings, pressing: bool) -> Result<(), AllocError>
         requires ticked { HasTicked beginnings.now self.old }
-        ensures reading { AreReading beginnings.now self.new }
+        ensures reading { OnOk result (AreReading beginnings.now self.new) }
         ensures continues { Continues beginnings.now self.old beginnings.now self.new }
+        ensures pressed { OnOk result (pressing ≡ true
+            → IsPressed beginnings.now self.new.file) }
     {
         self.end_gone(beginnings);
+        if !pressing {
+            return Ok(());
+        }
+        self.press(beginnings)
     }
 
     /// Begins to read shares, asks for what is wanted of them, and makes segments, as far as the
@@ -215,12 +222,12 @@ impl FileReading {
         self.make(beginnings, patient)
     }
 
-    // Begins to read more shares, where fewer are read than are needed, and one may be chosen.
+    // Begins to read more shares, where fewer are read than are needed, and one may be.
     fn begin_more(&mut self, beginnings: &mut Beginnings) -> Result<(), AllocError>
         requires reading { AreReading beginnings.old self.old }
         requires more { ¬ IsComplete self.old.file }
         ensures enough { OnOk result ((self.new.file.handout.geometry.needed
-            ≤ length self.new.file.live) ⊎ NoneIsFree beginnings.new.holdings.table) }
+            ≤ length self.new.file.live) ⊎ NoneIsLeft beginnings.new self.new) }
         ensures handout { self.new.file.handout ≡ self.old.file.handout }
         ensures held { OnOk result (beginnings.new.holdings.table.holdings
             ≡ beginnings.old.holdings.table.holdings) }
@@ -229,12 +236,61 @@ impl FileReading {
         ensures blamed { beginnings.new.holdings.blamed ≡ beginnings.old.holdings.blamed }
     {
         while self.file.live().len() < usize::from(self.file.geometry().needed()) {
-            let Some(holding) = beginnings.holdings().choose() else {
+            if !self.begin_one(beginnings)? {
                 return Ok(());
-            };
-            self.begin(beginnings, holding)?;
+            }
         }
         Ok(())
+    }
+
+    // Begins to read one share more, of fewer than are needed: one that was put aside and of which
+    // nothing waits, else one that is chosen, else the first that was put aside. `false` where
+    // there is none.
+    fn begin_one(&mut self, beginnings: &mut Beginnings) -> Result<bool, AllocError>
+        requires reading { AreReading beginnings.old self.old }
+        requires few { length self.old.file.live < self.old.file.handout.geometry.needed }
+        requires more { ¬ IsComplete self.old.file }
+        ensures none { result ≡ Ok false → NoneIsLeft beginnings.new self.new }
+        ensures live { result ≡ Ok true → length self.new.file.live
+            ≡ length self.old.file.live + 1 }
+        ensures handout { self.new.file.handout ≡ self.old.file.handout }
+        ensures held { OnOk result (beginnings.new.holdings.table.holdings
+            ≡ beginnings.old.holdings.table.holdings) }
+        ensures reading { OnOk result (AreReading beginnings.new self.new) }
+        ensures continues { Continues beginnings.old self.old beginnings.new self.new }
+        ensures blamed { beginnings.new.holdings.blamed ≡ beginnings.old.holdings.blamed }
+    {
+        match self.first_idle() {
+            Some(reader) => {
+                self.resume(beginnings, reader)?;
+                Ok(true)
+            }
+            None => self.begin_other(beginnings),
+        }
+    }
+
+    // So it does with one that is chosen, else with the first that was put aside.
+    fn begin_other(&mut self, beginnings: &mut Beginnings) -> Result<bool, AllocError>
+        requires reading { AreReading beginnings.old self.old }
+        requires few { length self.old.file.live < self.old.file.handout.geometry.needed }
+        requires more { ¬ IsComplete self.old.file }
+        ensures none { result ≡ Ok false → NoneIsLeft beginnings.new self.new }
+        ensures live { result ≡ Ok true → length self.new.file.live
+            ≡ length self.old.file.live + 1 }
+        ensures handout { self.new.file.handout ≡ self.old.file.handout }
+        ensures held { OnOk result (beginnings.new.holdings.table.holdings
+            ≡ beginnings.old.holdings.table.holdings) }
+        ensures reading { OnOk result (AreReading beginnings.new self.new) }
+        ensures continues { Continues beginnings.old self.old beginnings.new self.new }
+        ensures blamed { beginnings.new.holdings.blamed ≡ beginnings.old.holdings.blamed }
+    {
+        match beginnings.holdings().choose() {
+            Some(holding) => {
+                self.begin(beginnings, holding)?;
+                Ok(true)
+            }
+            None => self.resume_first(beginnings),
+        }
     }
 
     // A holding is read from now on. It is free, and fewer are read than are needed.
@@ -269,6 +325,7 @@ impl FileReading {
         ensures blamed { beginnings.new.holdings.blamed ≡ beginnings.old.holdings.blamed }
         ensures asked_up { OnOk result (AreAskedUp self.new.file) }
         ensures live { OnOk result (self.new.file.live ≡ self.old.file.live) }
+        ensures aside { OnOk result (self.new.file.aside ≡ self.old.file.aside) }
         ensures handout { self.new.file.handout ≡ self.old.file.handout }
         ensures table { OnOk result (beginnings.new.holdings.table
             ≡ beginnings.old.holdings.table) }
@@ -295,6 +352,7 @@ impl FileReading {
         ensures others { OnOk result ((other : ℕ)
             → StaysAskedUp self.old.file self.new.file other) }
         ensures live { OnOk result (self.new.file.live ≡ self.old.file.live) }
+        ensures aside { OnOk result (self.new.file.aside ≡ self.old.file.aside) }
         ensures handout { self.new.file.handout ≡ self.old.file.handout }
         ensures table { OnOk result (beginnings.new.holdings.table
             ≡ beginnings.old.holdings.table) }

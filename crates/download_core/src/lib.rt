@@ -12,6 +12,7 @@ mod download;
 mod ending;
 mod file_reading;
 mod laws;
+mod pressing;
 mod state;
 pub mod status;
 mod steps;

@@ -34,17 +34,21 @@ pub(crate) struct Machine {
     pub(crate) verify: VerifyCap,
     pub(crate) from: u64,
     pub(crate) to: u64,
+    // Whether readers that are late are put aside, while others may be read in their place.
+    pub(crate) pressing: bool,
     pub(crate) beginnings: Beginnings,
     pub(crate) found: Option<FoundFile>,
 }
 
 impl Machine {
-    /// Asks each of these servers, which are distinct, which shares it holds.
+    /// Asks each of these servers, which are distinct, which shares it holds. Where it is pressing,
+    /// it puts readers aside that are late, while others may be read in their place.
     pub(crate) fn begin(
         alloc: Global,
         cap: ReadCap,
         from: u64,
         to: u64,
+        pressing: bool,
         servers: &[NodeId],
         session: u64,
         now: u64,
@@ -67,6 +71,7 @@ impl Machine {
             verify: cap.to_verify(),
             from,
             to,
+            pressing,
             beginnings: Beginnings::begin(alloc, cap.total(), servers, session, now)?,
             found: None,
         })

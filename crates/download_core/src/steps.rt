@@ -82,7 +82,7 @@ impl Machine {
             → IsPromptIfFound false (entries_of self.new) (found_of self.new.found)) }
     {
         self.beginnings.tick(now)?;
-        self.end_lost();
+        self.end_lost()?;
         self.settle(false)
     }
 
@@ -164,14 +164,16 @@ impl Machine {
         self.beginnings.accept(&opened.geometry, holding)
     }
 
-    // After a second the shares of which a request is lost are read no more.
-    fn end_lost(&mut self)
+    // After a second the shares of which a request is lost are read no more, and readers that are
+    // late may be put aside.
+    fn end_lost(&mut self) -> Result<(), AllocError>
         requires { PassesOn self.old }
-        ensures way { IsUnderWay self.new }
+        ensures way { OnOk result (IsUnderWay self.new) }
         ensures moves { MovesOn self.old self.new }
     {
-        if let Some(found) = &mut self.found {
-            found.reading.pass(&self.beginnings);
+        match &mut self.found {
+            Some(found) => found.reading.pass(&self.beginnings, self.pressing),
+            None => Ok(()),
         }
     }
 }

@@ -2,11 +2,11 @@
 
 ghost use Rattle.std.specs.Prelude.{◌≡◌, ◌⊎◌, ℕ, ◌<◌, ◌-◌};
 ghost use Rattle.std.specs.Prelude.{IfNone, IfSome, List, OnOk, Ok, Option, Some};
-ghost use Rattle.std.specs.Prelude.{None, drop, false, true};
+ghost use Rattle.std.specs.Prelude.{Contains, None, drop, false, true};
 ghost use Rattle.download_shares.specs.BeginningMoves.{WaitsAt};
 ghost use Rattle.download_shares.specs.Reads.{IsAnsweredBy};
 ghost use Rattle.download_shares.specs.Causes.{AddsBlames, IsBeginningFault};
-ghost use Rattle.download_file.specs.State.{IsLive, first_waiting};
+ghost use Rattle.download_file.specs.State.{IsHeard, first_waiting};
 ghost use Rattle.download_file.specs.State.{waiting_at};
 ghost use Rattle.download_core.specs.ReadingCauses.{IsBlameOf, IsPartFault};
 ghost use Rattle.download_core.specs.Reading.{AreAwaited, AreKept, AreLinked, AreReading};
@@ -48,7 +48,7 @@ impl FileReading {
         Ok(())
     }
 
-    // Takes what the reader of this holding, where it has one that is read, may take.
+    // Takes what the reader of this holding, where it has one that is read or put aside, may take.
     pub(crate) fn take_of(
         &mut self,
         beginnings: &mut Beginnings,
@@ -74,7 +74,7 @@ impl FileReading {
     // there. A share of which one is refused is blamed.
     fn take(&mut self, beginnings: &mut Beginnings, reader: usize) -> Result<(), AllocError>
         requires reading { AreReadingBut (Some reader) beginnings.old self.old }
-        requires live { IsLive self.old.file reader }
+        requires live { IsHeard self.old.file reader }
         ensures reading { OnOk result (AreReading beginnings.new self.new) }
         ensures continues { Continues beginnings.old self.old beginnings.new self.new }
         ensures requests { beginnings.new.holdings.requests ≡ beginnings.old.holdings.requests }
@@ -98,7 +98,7 @@ impl FileReading {
         position: usize,
     ) -> Result<bool, AllocError>
         requires reading { AreReadingBut (Some reader) beginnings.old self.old }
-        requires live { IsLive self.old.file reader }
+        requires live { IsHeard self.old.file reader }
         requires waits { first_waiting self.old.file reader ≡ Some position }
         ensures next { result ≡ Ok true
             → AreReadingBut (Some reader) beginnings.new self.new }
@@ -107,7 +107,7 @@ impl FileReading {
         ensures requests { beginnings.new.holdings.requests ≡ beginnings.old.holdings.requests }
         ensures causes { AddsBlames (IsPartFault beginnings.old.holdings.requests.entries
             self.new.file) beginnings.old.holdings.blamed beginnings.new.holdings.blamed }
-        ensures live { result ≡ Ok true → IsLive self.new.file reader }
+        ensures live { result ≡ Ok true → IsHeard self.new.file reader }
         ensures taken { result ≡ Ok true → waiting_at self.new.file reader
             ≡ drop 1 (waiting_at self.old.file reader) }
     {
@@ -132,7 +132,7 @@ impl FileReading {
         check: Check,
     ) -> Result<(), AllocError>
         requires reading { AreReadingBut (Some reader) beginnings.old self.old }
-        requires live { IsLive self.old.file reader }
+        requires live { IsHeard self.old.file reader }
         ensures reading { OnOk result (AreReading beginnings.new self.new) }
         ensures continues { Continues beginnings.old self.old beginnings.new self.new }
         ensures requests { beginnings.new.holdings.requests ≡ beginnings.old.holdings.requests }
@@ -167,7 +167,7 @@ impl FileReading {
     // The readers of shares that are not left any more are read no more.
     pub(crate) fn end_gone(&mut self, beginnings: &Beginnings)
         requires kept { AreKept beginnings.now self.old }
-        requires live { (reader : ℕ) → IsLive self.old.file reader
+        requires live { (reader : ℕ) → IsHeard self.old.file reader
             → IsReadNow beginnings.now self.old reader ⊎ IsGone beginnings.now self.old reader }
         ensures linked { AreLinked beginnings.now self.new }
         ensures continues { Continues beginnings.now self.old beginnings.now self.new }
@@ -182,15 +182,32 @@ impl FileReading {
         }
     }
 
-    // The first reader that is read of which the share is not left any more.
+    // The first reader, of those that are read and then of those that are put aside, of which the
+    // share is not left any more.
     fn first_gone(&self, beginnings: &Beginnings) -> Option<usize>
         requires kept { AreKept beginnings.now self.now }
-        ensures live { IfSome result (IsLive self.now.file) }
+        ensures live { IfSome result (IsHeard self.now.file) }
         ensures gone { IfSome result (IsGone beginnings.now self.now) }
-        ensures none { IfNone result ((reader : ℕ) → IsLive self.now.file reader
+        ensures none { IfNone result ((reader : ℕ) → IsHeard self.now.file reader
             → IsGone beginnings.now self.now reader → ⊥) }
     {
-        for reader in self.file.live() {
+        match self.gone_among(beginnings, self.file.live()) {
+            Some(reader) => Some(reader),
+            None => self.gone_among(beginnings, self.file.aside()),
+        }
+    }
+
+    // The first of these readers of which the share is not left any more.
+    fn gone_among(&self, beginnings: &Beginnings, readers: &[usize]) -> Option<usize>
+        requires kept { AreKept beginnings.now self.now }
+        requires heard { (reader : ℕ) → Contains readers.now reader
+            → IsHeard self.now.file reader }
+        ensures among { IfSome result (Contains readers.now) }
+        ensures gone { IfSome result (IsGone beginnings.now self.now) }
+        ensures none { IfNone result ((reader : ℕ) → Contains readers.now reader
+            → IsGone beginnings.now self.now reader → ⊥) }
+    {
+        for reader in readers {
             if self.is_gone(beginnings, *reader) {
                 return Some(*reader);
             }
@@ -201,7 +218,7 @@ impl FileReading {
     // Whether the share that a reader reads is not left any more.
     fn is_gone(&self, beginnings: &Beginnings, reader: usize) -> bool
         requires kept { AreKept beginnings.now self.now }
-        requires live { IsLive self.now.file reader }
+        requires live { IsHeard self.now.file reader }
         ensures gone { result ≡ true → IsGone beginnings.now self.now reader }
         ensures left { result ≡ false → IsGone beginnings.now self.now reader → ⊥ }
     {

@@ -1,5 +1,5 @@
 -- A reader that begins.
-use Rattle.std.proofs.Common.{◌≡◌, ◌≢◌, ◌↔◌, ℕ, zero, suc, ◌+◌, ◌<◌, ◌⊎◌, inl, inr, All, Bool, true, false, List, [], ◌∷◌, ◌++◌, length, Some, refl, sym, ap, subst, ◌∙◌, arith}
+use Rattle.std.proofs.Common.{◌≡◌, ◌≢◌, ◌↔◌, ℕ, zero, suc, ◌+◌, ◌<◌, ◌≤◌, ◌⊎◌, inl, inr, All, Bool, true, false, List, [], ◌∷◌, ◌++◌, length, Some, refl, sym, ap, subst, ◌∙◌, arith}
 use Rattle.std.specs.Prelude.{slice_get}
 use Rattle.std.proofs.lemmas.Bool.{true≢false}
 use Rattle.std.proofs.lemmas.List.{length-append, map-append}
@@ -11,25 +11,31 @@ use Rattle.share_layout.specs.Geometry.{Geometry}
 use Rattle.download_parts.specs.declared.part.Part.{Part}
 use Rattle.download_parts.specs.declared.part.Part.TheVariants.{CiphertextTree}
 use Rattle.download_supply.specs.Asking.{IsAsked, IsReadOf}
-use Rattle.download_supply.specs.Cursors.{LeadOn}
+use Rattle.download_supply.specs.Cursors.{LeadOn, cursor_at}
 use Rattle.download_supply.specs.Supply.{IsSupply, SupplyState, first_of, gives_from, new_supply}
 use Rattle.download_supply.specs.Upper.{UpperComeFirst}
 use Rattle.download_segments.specs.Handout.{next_segment}
 use Rattle.download_segments.proofs.TreeLemmas.{grow_none}
 use Rattle.download_parts.proofs.TreeLemmas.{knows_itself}
-use Rattle.download_file.specs.State.{FileState, IsLive, IsReader, ReaderState, copy, copy_of, copies, waiting_at, waiting_in, waiting_parts}
+use Rattle.download_file.specs.State.{FileState, IsHeard, IsLive, IsReader, ReaderState, copy, copy_of, copies, waiting_at, waiting_in, waiting_parts}
 use Rattle.download_file.specs.Answers.{HoldsAnswers}
 use Rattle.download_file.specs.Asked.{AsksNoMore}
 use Rattle.download_file.specs.Changes.{IsSameFile, ReadersGoOn, StaysAskedUp, StaysRead}
 use Rattle.download_file.specs.Right.{AreLive, GivesTree, IsFile, IsGroup, IsReaderOf, TellsRoot, WaitsByLevels}
-use Rattle.download_file.specs.Steps.{IsBegun}
+use Rattle.download_file.specs.Steps.{Gives, IsBegun, giving}
 use Rattle.download_file.specs.declared.reader.Waiting.{Waiting}
 use Rattle.download_file.proofs.ListLemmas.{get_first}
 use Rattle.download_file.proofs.GrowLemmas.{goes_same, group_stays, read_stays, same_file}
-use Rattle.download_file.proofs.LiveLemmas.{first_live, rise_push}
-use Rattle.download_file.proofs.StateLemmas.{Follows, KeepsAsks, asked_up_stays, asks_itself, asks_no_more, grows_itself, new_asks_none, same_reader}
+use Rattle.download_file.proofs.LiveLemmas.{distinct_push}
+use Rattle.download_file.proofs.StateLemmas.{Follows, KeepsAsks, asked_up_stays, asks_itself, asks_no_more, cursor_none, giving_asks, grows_itself, new_asks_none, same_reader}
 
 -- ---- the reader
+
+none_before : (levels : List ℕ) (taken : List ℕ) (level : ℕ) → levels ≡ 0 ∷ 0 ∷ 0 ∷ [] → cursor_at levels level ≤ cursor_at taken level
+none_before levels taken level is =
+    let none = cursor_none level in
+    let same = ap (λ (l : List ℕ). cursor_at l level) is in
+    omega (arith, none, same)
 
 pub begun_new : (g : Geometry) (start first end server share : ℕ) (gives : Bool) (taken : List ℕ) (r : ReaderState) → gives ≡ false → r.server ≡ server → r.share ≡ share
     → r.supply ≡ new_supply g start first end → r.waiting ≡ [] → IsSupply r.supply → IsBegun g start first end server share gives taken r
@@ -46,14 +52,18 @@ begun_new g start first end server share gives taken r not server_is share_is su
   tree = ap (λ (s : SupplyState). s.tree) supply;
   held = ap (λ (s : SupplyState). s.held) supply;
   from = λ yes. absurd (true≢false (sym yes ∙ not));
+  behind = λ level. none_before r.supply.taken.ciphertext_tree taken level (ap (λ (s : SupplyState). s.taken.ciphertext_tree) supply);
   none = λ part. subst (λ (s : SupplyState). ¬ IsAsked s part) (sym supply) (new_asks_none g start first end part);
 }
 
 pub begun_gives : (g : Geometry) (start first end server share : ℕ) (gives : Bool) (taken : List ℕ) (old r : ReaderState) → old.server ≡ server → old.share ≡ share
-    → old.supply ≡ new_supply g start first end → old.waiting ≡ [] → r ≡ record old { supply = gives_from old.supply taken }
-    → ((part : Part) → IsAsked r.supply part ↔ IsAsked old.supply part) → IsSupply r.supply → IsBegun g start first end server share gives taken r
-begun_gives g start first end server share gives taken old r server_is share_is supply waiting is asked right =
+    → old.supply ≡ new_supply g start first end → old.waiting ≡ [] → Gives old taken r → IsSupply r.supply → IsBegun g start first end server share gives taken r
+begun_gives g start first end server share gives taken old r server_is share_is supply waiting (inr k) right =
+    absurd (k.0 (subst (λ (s : SupplyState). s.asked.ciphertext_tree ≡ s.given) (sym supply) refl))
+begun_gives g start first end server share gives taken old r server_is share_is supply waiting (inl k) right =
+    let is : r ≡ giving old taken = k.1 in
     let now : r.supply ≡ gives_from (new_supply g start first end) taken = ap (λ (q : ReaderState). q.supply) is ∙ ap (λ (s : SupplyState). gives_from s taken) supply in
+    let pieces : r.supply.taken.ciphertext_tree ≡ taken = ap (λ (s : SupplyState). s.taken.ciphertext_tree) now in
     record {
       server_is = ap (λ (q : ReaderState). q.server) is ∙ server_is;
       share_is = ap (λ (q : ReaderState). q.share) is ∙ share_is;
@@ -66,8 +76,10 @@ begun_gives g start first end server share gives taken old r server_is share_is 
       asked = subst (λ (s : SupplyState). s.taken ≡ s.asked) (sym now) refl;
       tree = ap (λ (s : SupplyState). s.tree) now;
       held = ap (λ (s : SupplyState). s.held) now;
-      from = λ yes. ap (λ (s : SupplyState). s.taken.ciphertext_tree) now;
-      none = λ part is_asked. subst (λ (s : SupplyState). ¬ IsAsked s part) (sym supply) (new_asks_none g start first end part) ((asked part).0 is_asked);
+      from = λ yes. pieces;
+      behind = λ level. let same = ap (λ (l : List ℕ). cursor_at l level) pieces in omega (arith, same);
+      none = λ part is_asked. subst (λ (s : SupplyState). ¬ IsAsked s part) (sym supply) (new_asks_none g start first end part)
+          ((giving_asks old.supply taken k.0 part).0 (subst (λ (q : ReaderState). IsAsked q.supply part) is is_asked));
     }
 
 -- ---- lists
@@ -94,9 +106,9 @@ pub record HasBegun (f : FileState) (server share : ℕ) (g : FileState) : Type 
   pub same : IsSameFile f g
 
 module _ (f : FileState) (server share next : ℕ) (x : ReaderState) (gives : Bool) (is : IsFile f) (next_is : next_segment f.handout ≡ Some next)
-    (begun : IsBegun f.handout.geometry f.first next f.end server share gives f.taken x) (given : f.live ≡ [] → gives ≡ true)
+    (begun : IsBegun f.handout.geometry f.first next f.end server share gives f.taken x)
     (there : share < f.handout.geometry.total) (few : length f.live < f.handout.geometry.needed)
-    (unread : (reader : ℕ) (r : ReaderState) → IsLive f reader → IsReader f reader r → r.share ≢ share) where
+    (unread : (reader : ℕ) (r : ReaderState) → IsHeard f reader → IsReader f reader r → r.share ≢ share) where
   abbrev pub begun_file : FileState
   begun_file = record f { readers = f.readers ++ x ∷ []; live = f.live ++ length f.readers ∷ [] }
 
@@ -120,31 +132,36 @@ module _ (f : FileState) (server share next : ℕ) (x : ReaderState) (gives : Bo
   grow : ReadersGoOn f.readers (f.readers ++ x ∷ [])
   grow position r at = record { now = r; there = get_first f.readers (x ∷ []) r position at; server = refl; share = refl; supply = goes_same r.supply }
 
-  below : (position : ℕ) → IsLive f position → position < length f.readers
-  below position among = All-contains (λ p. p < length f.readers) f.live position is.live.there among
+  below : (position : ℕ) → IsHeard f position → position < length f.readers
+  below position (inl among) = All-contains (λ p. p < length f.readers) f.live position is.live.there among
+  below position (inr among) = All-contains (λ p. p < length f.readers) f.aside position is.live.asides among
 
   -- which of them it is
   which : (position : ℕ) (r : ReaderState) → slice_get (f.readers ++ x ∷ []) position ≡ Some r → (slice_get f.readers position ≡ Some r) ⊎ ((position ≡ length f.readers) × (x ≡ r))
   which position r at = get_pushed f.readers x r position at
 
-  which_live : (position : ℕ) → IsLive begun_file position → IsLive f position ⊎ (length f.readers ≡ position)
-  which_live position among = Contains-push_cases f.live (length f.readers) position among
+  which_live : (position : ℕ) → IsHeard begun_file position → IsHeard f position ⊎ (length f.readers ≡ position)
+  which_live position (inr among) = inl (inr among)
+  which_live position (inl among) = elim (Contains-push_cases f.live (length f.readers) position among) [ inl was ↦ inl (inl was) | inr new ↦ inr new ]
 
   -- one that was there is none that is new
   old_there : (position : ℕ) (r : ReaderState) → slice_get f.readers position ≡ Some r → position < length f.readers
   old_there position r at = slice_get_within f.readers position r at
 
-  shares_differ : (i j : ℕ) (r s : ReaderState) → IsLive begun_file i → IsLive begun_file j → i < j → IsReader begun_file i r → IsReader begun_file j s → r.share ≢ s.share
-  shares_differ i j r s one two order at_one at_two same = elim (which i r at_one) [
-    | inr new ↦ elim (which_live j two) [
-      | inl old ↦ let low = below j old in let is_new = new.0 in omega (arith, order, low, is_new)
-      | inr last ↦ let is_new = new.0 in omega (arith, order, last, is_new)
+  shares_differ : (i j : ℕ) (r s : ReaderState) → IsHeard begun_file i → IsHeard begun_file j → i ≢ j → IsReader begun_file i r → IsReader begun_file j s → r.share ≢ s.share
+  shares_differ i j r s one two other at_one at_two same = elim (which i r at_one) [
+    | inr new ↦ elim (which j s at_two) [
+      | inr also ↦ other (new.0 ∙ sym also.0)
+      | inl was ↦ elim (which_live j two) [
+        | inl old ↦ unread j s old was (sym same ∙ sym (ap (λ (q : ReaderState). q.share) new.1) ∙ begun.share_is)
+        | inr last ↦ let low = old_there j s was in omega (arith, last, low)
+      ]
     ]
     | inl was ↦ elim (which_live i one) [
       | inr last ↦ let low = old_there i r was in omega (arith, last, low)
       | inl first ↦ elim (which j s at_two) [
         | inl also ↦ elim (which_live j two) [
-          | inl second ↦ is.live.different i j r s first second order was also same
+          | inl second ↦ is.live.different i j r s first second other was also same
           | inr last ↦ let low = old_there j s also in omega (arith, last, low)
         ]
         | inr new ↦ unread i r first was (same ∙ sym (ap (λ (q : ReaderState). q.share) new.1) ∙ begun.share_is)
@@ -157,10 +174,15 @@ module _ (f : FileState) (server share next : ℕ) (x : ReaderState) (gives : Bo
       let long : length (f.readers ++ x ∷ []) ≡ length f.readers + 1 = length-append f.readers (x ∷ []) in
       let count : length (f.live ++ length f.readers ∷ []) ≡ length f.live + 1 = length-append f.live (length f.readers ∷ []) in
       record {
-        rise = rise_push 0 f.live (length f.readers) is.live.rise (omega arith) is.live.there;
+        once = distinct_push f.live (length f.readers) is.live.once (λ h. let low = below (length f.readers) (inl h) in omega (arith, low));
+        apart = λ position among put. elim (Contains-push_cases f.live (length f.readers) position among) [
+          | inl was ↦ is.live.apart position was put
+          | inr last ↦ let low = below position (inr put) in omega (arith, low, last)
+        ];
         there = All-push (λ position. position < length (f.readers ++ x ∷ [])) f.live (length f.readers)
             (All-weaker (λ position. position < length f.readers) (λ position. position < length (f.readers ++ x ∷ [])) (λ position low. omega (arith, low, long)) f.live is.live.there)
             (omega (arith, long));
+        asides = All-weaker (λ position. position < length f.readers) (λ position. position < length (f.readers ++ x ∷ [])) (λ position low. omega (arith, low, long)) f.aside is.live.asides;
         few = let low = few in omega (arith, low, count);
         different = shares_differ;
         waits = λ position r among at. elim (which position r at) [
@@ -194,22 +216,12 @@ module _ (f : FileState) (server share next : ℕ) (x : ReaderState) (gives : Bo
     levels = is.ciphertext.levels;
     pieces = is.ciphertext.pieces;
     known = is.ciphertext.known;
-    at_giver = λ position r gives_now at. elim (first_push f.live (length f.readers) position gives_now) [
-      | inl was ↦ elim (which position r at) [
-        | inl old ↦ is.ciphertext.at_giver position r was old
-        | inr new ↦ absurd (let low = below position (first_live f.live position was) in let is_new = new.0 in omega (arith, low, is_new))
+    behind = λ position level r among at. elim (which position r at) [
+      | inl old ↦ elim (which_live position among) [
+        | inl was ↦ is.ciphertext.behind position level r was old
+        | inr last ↦ absurd (let low = old_there position r old in omega (arith, last, low))
       ]
-      | inr alone ↦ elim (which position r at) [
-        | inl old ↦ absurd (let low = old_there position r old in let last = alone.1 in omega (arith, low, last))
-        | inr new ↦ subst (λ (q : ReaderState). q.supply.taken.ciphertext_tree ≡ f.taken) new.1 (begun.from (given alone.0))
-      ]
-    ];
-    behind = λ position other r p gives_now order at asked. elim (which other r at) [
-      | inr new ↦ begun.none (CiphertextTree p) (subst (λ (q : ReaderState). IsAsked q.supply (CiphertextTree p)) (sym new.1) asked)
-      | inl old ↦ elim (first_push f.live (length f.readers) position gives_now) [
-        | inl was ↦ is.ciphertext.behind position other r p was order old asked
-        | inr alone ↦ let low = old_there other r old in let last = alone.1 in omega (arith, low, last, order)
-      ]
+      | inr new ↦ subst (λ (q : ReaderState). cursor_at q.supply.taken.ciphertext_tree level ≤ cursor_at f.taken level) new.1 (begun.behind level)
     ];
   }
 
@@ -243,11 +255,11 @@ module _ (f : FileState) (server share next : ℕ) (x : ReaderState) (gives : Bo
   asked_up_begun reader live = asked_up_stays f begun_file reader refl
       (λ first. elim (first_push f.live (length f.readers) reader first) [
         | inl was ↦ was
-        | inr alone ↦ absurd (let low = below reader live in let last = alone.1 in omega (arith, low, last))
+        | inr alone ↦ absurd (let low = below reader (inl live) in let last = alone.1 in omega (arith, low, last))
       ])
       (λ r at. elim (which reader r at) [
         | inl old ↦ (r, old, grows_itself r.supply)
-        | inr new ↦ absurd (let low = below reader live in let is_new = new.0 in omega (arith, low, is_new))
+        | inr new ↦ absurd (let low = below reader (inl live) in let is_new = new.0 in omega (arith, low, is_new))
       ])
 
   pub read_begun : StaysRead f begun_file

@@ -5,4 +5,4 @@ use Rattle.download_file.specs.declared.file.PartialFile.TheInside.{Inside}
 abbrev pub seen : Inside → FileState
 seen f =
     file_state f.handout f.plan.first f.plan.end f.taken f.readers.items f.live.items
-    f.groups.items
+    f.aside.items f.groups.items

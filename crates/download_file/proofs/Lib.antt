@@ -11,7 +11,9 @@ pub mod TakeLemmas
 pub mod ProofLemmas
 pub mod EndLemmas
 pub mod BeginLemmas
+pub mod MoveLemmas
 pub mod EndFileLemmas
+pub mod AsideLemmas
 pub mod WantedLemmas
 pub mod EvidenceLemmas
 pub mod WaitLemmas

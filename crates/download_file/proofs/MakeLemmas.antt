@@ -35,7 +35,7 @@ use Rattle.download_file.specs.Right.{IsFile, TellsRoot}
 use Rattle.download_file.specs.Steps.{AreOfFile, AreProved, AreReady, HasBlock, IsWrong}
 use Rattle.download_file.proofs.ListLemmas.{All-from_contains, at_contained, from_map, get_unmapped}
 use Rattle.download_file.proofs.GrowLemmas.{has_answers, reader_there}
-use Rattle.download_file.proofs.LiveLemmas.{rise_order}
+use Rattle.download_file.proofs.LiveLemmas.{distinct_order}
 use Rattle.download_file.proofs.EvidenceLemmas.{block_long, blocks_long}
 
 -- ---- blocks of one length that stand one after another
@@ -233,7 +233,7 @@ live_numbers f is enough = record {
       let live_q = contains_at f.live j q.0 q.1 in
       let r = reader_there f.readers p.0 (All-contains (λ x. x < length f.readers) f.live p.0 is.live.there live_p) in
       let s = reader_there f.readers q.0 (All-contains (λ x. x < length f.readers) f.live q.0 is.live.there live_q) in
-      is.live.different p.0 q.0 r.0 s.0 live_p live_q (rise_order 0 f.live i j p.0 q.0 is.live.rise order p.1 q.1) r.1 s.1
+      is.live.different p.0 q.0 r.0 s.0 (inl live_p) (inl live_q) (distinct_order f.live i j p.0 q.0 is.live.once order p.1 q.1) r.1 s.1
       (sym (ap share_in r.1) ∙ p.2 ∙ sym one.2 ∙ same ∙ two.2 ∙ sym q.2 ∙ ap share_in s.1)
 
 -- ---- what is decoded is refuted

@@ -56,20 +56,21 @@ module _ (key : List ℕ) (u : Contents) (g : Geometry) (from to : ℕ) (some : 
             (omega (arith, k), omega (arith, k, order));
         readers = λ position r at. absurd (none_there position r at);
         live = record {
-          rise = tt;
+          once = tt;
+          apart = λ position one. absurd (contains_none position one);
           there = All-nil (λ position. position < 0);
+          asides = All-nil (λ position. position < 0);
           few = omega arith;
-          different = λ i j r s one two order_is at_one at_two same. contains_none i one;
-          waits = λ position r among at. absurd (contains_none position among);
-          upper = λ position r among at. absurd (contains_none position among);
-          reads = λ position r among at. absurd (contains_none position among);
+          different = λ i j r s one two other at_one at_two same. none_there i r at_one;
+          waits = λ position r among at. absurd (none_there position r at);
+          upper = λ position r among at. absurd (none_there position r at);
+          reads = λ position r among at. absurd (none_there position r at);
         };
         ciphertext = record {
           levels = refl;
           pieces = λ p low. absurd (no_piece p low);
           known = λ p low. absurd (no_piece p low);
-          at_giver = λ position r gives at. absurd (none_there position r at);
-          behind = λ position behind r p gives order_is at asked. none_there behind r at;
+          behind = λ position level r heard at. absurd (none_there position r at);
         };
         groups = All-nil (IsGroup (starting_handout key u g from to) []);
         in_order = sym first_end;
@@ -109,8 +110,10 @@ module _ (f : FileState) (ready : List Piece) (handed : ℕ) (is : IsFile f) (ri
     next = is.next;
     readers = λ position r at. same_reader f pieces_file r follows (is.readers position r at);
     live = record {
-      rise = is.live.rise;
+      once = is.live.once;
+      apart = is.live.apart;
       there = is.live.there;
+      asides = is.live.asides;
       few = is.live.few;
       different = is.live.different;
       waits = is.live.waits;
@@ -121,7 +124,6 @@ module _ (f : FileState) (ready : List Piece) (handed : ℕ) (is : IsFile f) (ri
       levels = is.ciphertext.levels;
       pieces = is.ciphertext.pieces;
       known = is.ciphertext.known;
-      at_giver = is.ciphertext.at_giver;
       behind = is.ciphertext.behind;
     };
     groups = All-weaker (IsGroup f.handout f.readers) (IsGroup pieces_file.handout f.readers)

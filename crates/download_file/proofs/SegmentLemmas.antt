@@ -319,8 +319,10 @@ module _ (entries : List Request) (f : FileState) (number : ℕ) (groups groups'
         (omega (arith, same, from), omega (arith, same, low));
     readers = λ position r at. same_reader f made_file r follows (is.readers position r at);
     live = record {
-      rise = is.live.rise;
+      once = is.live.once;
+      apart = is.live.apart;
       there = is.live.there;
+      asides = is.live.asides;
       few = is.live.few;
       different = is.live.different;
       waits = is.live.waits;
@@ -331,7 +333,6 @@ module _ (entries : List Request) (f : FileState) (number : ℕ) (groups groups'
       levels = is.ciphertext.levels;
       pieces = is.ciphertext.pieces;
       known = is.ciphertext.known;
-      at_giver = is.ciphertext.at_giver;
       behind = is.ciphertext.behind;
     };
     groups = subst (All (IsGroup (handed_out f.handout made.segment) f.readers)) (sym made.groups_are)
@@ -388,8 +389,10 @@ has_groups entries f number groups groups' h' is read next begun same_handout sa
         next = is.next;
         readers = λ position r at. same_reader f (record f { groups = groups }) r follows_same (is.readers position r at);
         live = record {
-          rise = is.live.rise;
+          once = is.live.once;
+          apart = is.live.apart;
           there = is.live.there;
+          asides = is.live.asides;
           few = is.live.few;
           different = is.live.different;
           waits = is.live.waits;
@@ -400,7 +403,6 @@ has_groups entries f number groups groups' h' is read next begun same_handout sa
           levels = is.ciphertext.levels;
           pieces = is.ciphertext.pieces;
           known = is.ciphertext.known;
-          at_giver = is.ciphertext.at_giver;
           behind = is.ciphertext.behind;
         };
         groups = begun.groups_are;

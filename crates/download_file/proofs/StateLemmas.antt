@@ -1,7 +1,8 @@
 -- Readers of a file that go on.
-use Rattle.std.proofs.Common.{◌≡◌, ◌↔◌, ℕ, zero, suc, ◌+◌, ◌<◌, ◌≤◌, ◌⊎◌, inl, inr, List, [], ◌∷◌, Some, refl, sym, subst, ◌∙◌, arith}
+use Rattle.std.proofs.Common.{◌≡◌, ◌↔◌, ℕ, zero, suc, ◌+◌, ◌<◌, ◌≤◌, ◌⊎◌, inl, inr, List, [], ◌∷◌, length, Some, refl, sym, ap, subst, ◌∙◌, arith}
 use Rattle.std.specs.Prelude.{slice_get}
 use Rattle.std.proofs.lemmas.Bool.{false≢true}
+use Rattle.std.proofs.lemmas.List.Elements.{All-contains}
 use Rattle.share_layout.specs.Geometry.{Geometry}
 use Rattle.download_parts.specs.Plan.{IsNodePiece, data_pieces, length_of, offset_of}
 use Rattle.download_parts.specs.declared.part.NodePiece.{NodePiece}
@@ -10,13 +11,13 @@ use Rattle.download_parts.specs.declared.part.Part.TheVariants.{ShareHashes, Blo
 use Rattle.download_parts.specs.Trees.{KnowsAllOf}
 use Rattle.download_supply.specs.Asking.{IsAsked, IsWanted, IsWantedCiphertext, IsWithin}
 use Rattle.download_supply.specs.Cursors.{IsPassed, cursor_at}
-use Rattle.download_supply.specs.Supply.{IsSupply, SupplyState, first_of, new_supply}
+use Rattle.download_supply.specs.Supply.{IsSupply, SupplyState, first_of, gives_from, new_supply}
 use Rattle.download_supply.specs.declared.cursors.Cursors.{Cursors}
 use Rattle.download_segments.specs.Handout.{next_segment}
-use Rattle.download_file.specs.State.{FileState, ReaderState, giver}
+use Rattle.download_file.specs.State.{FileState, IsHeard, ReaderState, giver}
 use Rattle.download_file.specs.Asked.{AsksNoMore}
 use Rattle.download_file.specs.Changes.{StaysAskedUp}
-use Rattle.download_file.specs.Right.{IsReaderOf, TellsRoot}
+use Rattle.download_file.specs.Right.{IsFile, IsReaderOf, TellsRoot}
 use Rattle.download_file.proofs.GrowLemmas.{tells_still}
 
 -- ---- what was asked
@@ -66,6 +67,21 @@ new_asks_none g start first end ShareHashes h = false≢true h
 new_asks_none g start first end (BlockTree p) h = let e = cursor_none p.level in omega (arith, h, e)
 new_asks_none g start first end (CiphertextTree p) h = let low = h.1 in let e = cursor_none p.level in omega (arith, low, e)
 new_asks_none g start first end (Data i) h = omega (arith, h)
+
+-- nothing of the ciphertext tree was asked of a supply that is asked from where it gives it
+pub gave_none : (s : SupplyState) → s.asked.ciphertext_tree ≡ s.given → (p : NodePiece) → ¬ IsAsked s (CiphertextTree p)
+gave_none s same p h =
+    let from = h.0 in
+    let before = h.1 in
+    let e = ap (λ (l : List ℕ). cursor_at l p.level) same in
+    omega (arith, from, before, e)
+
+-- the same was asked of a supply that gives the ciphertext tree, of which none of it was asked
+pub giving_asks : (s : SupplyState) (levels : List ℕ) → s.asked.ciphertext_tree ≡ s.given → (part : Part) → IsAsked (gives_from s levels) part ↔ IsAsked s part
+giving_asks s levels same ShareHashes = ((λ h. h), (λ h. h))
+giving_asks s levels same (BlockTree p) = ((λ h. h), (λ h. h))
+giving_asks s levels same (CiphertextTree p) = ((λ h. let low = h.1 in let high = h.0 in absurd (omega (arith, low, high))), (λ h. absurd (gave_none s same p h)))
+giving_asks s levels same (Data i) = ((λ h. h), (λ h. h))
 
 -- each reader has been asked the same at its position, and a new one nothing
 abbrev pub KeepsAsks : List ReaderState → List ReaderState → Type 0
@@ -161,6 +177,11 @@ asked_up_stays f f' reader next gives each up = record {
 }
 
 -- ---- readers of a file
+
+-- a reader that is heard is there
+pub heard_there : (f : FileState) (position : ℕ) → IsFile f → IsHeard f position → position < length f.readers
+heard_there f position is (inl among) = All-contains (λ p. p < length f.readers) f.live position is.live.there among
+heard_there f position is (inr among) = All-contains (λ p. p < length f.readers) f.aside position is.live.asides among
 
 -- it is the same download of the same file, and its next segment is not before the other's
 pub record Follows (f f' : FileState) : Type 0 where

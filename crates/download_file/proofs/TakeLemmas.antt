@@ -1,5 +1,5 @@
 -- A file with one part more taken of a reader.
-use Rattle.std.proofs.Common.{◌≡◌, ℕ, zero, suc, ◌+◌, ◌<◌, ◌⊎◌, inl, inr, All, List, [], ◌∷◌, ◌++◌, length, drop, get_or, Option, Some, refl, sym, ap, subst, ◌∙◌, arith}
+use Rattle.std.proofs.Common.{◌≡◌, ℕ, zero, suc, ◌+◌, ◌<◌, ◌≤◌, ◌⊎◌, inl, inr, All, List, [], ◌∷◌, ◌++◌, length, drop, get_or, Option, Some, refl, sym, ap, subst, ◌∙◌, arith}
 use Rattle.std.specs.Prelude.{slice_get, slice_set}
 use Rattle.std.proofs.lemmas.Bool.{cases_lt}
 use Rattle.std.proofs.lemmas.List.{append-nil, length-append, length-set}
@@ -14,7 +14,9 @@ use Rattle.download_parts.specs.declared.part.Part.{Part}
 use Rattle.download_parts.specs.declared.part.Part.TheVariants.{ShareHashes, BlockTree, CiphertextTree, Data}
 use Rattle.download_parts.specs.Trees.{FileTreesState}
 use Rattle.download_supply.specs.Asking.{IsAsked, IsReadOf}
-use Rattle.download_supply.specs.Cursors.{IsNextPiece, LeadOn, cursor_at, passed}
+use Rattle.download_supply.specs.Cursors.{IsNextPiece, LeadOn, cursor_at, passed, piece_passed}
+use Rattle.download_supply.specs.Laws.{KnowsPiece}
+use Rattle.merkle.specs.Partial.{PartialState}
 use Rattle.download_supply.specs.Supply.{SupplyState, first_of}
 use Rattle.download_supply.specs.Taking.{IsDue}
 use Rattle.download_supply.specs.Upper.{UpperComeFirst}
@@ -22,45 +24,93 @@ use Rattle.download_supply.specs.declared.cursors.Cursors.{Cursors}
 use Rattle.download_supply.proofs.CursorLemmas.{piece_next}
 use Rattle.download_supply.proofs.LawLemmas.{first_due}
 use Rattle.download_segments.specs.State.{HandoutState, with_trees}
-use Rattle.download_file.specs.State.{FileState, IsLive, ReaderState, copy, copy_of, giver, copies, waiting_at, waiting_in, waiting_parts}
+use Rattle.download_file.specs.State.{FileState, IsHeard, ReaderState, copy, copy_of, copies, waiting_at, waiting_in, waiting_parts}
 use Rattle.download_file.specs.Answers.{AnswersFirst, HoldsAnswers, HoldsFor, IsAnswerOf, IsAnswerTo, IsRead}
 use Rattle.request_record.specs.declared.requests.Asked.TheVariants.{Reading}
 use Rattle.download_file.specs.Asked.{AsksNoMore}
 use Rattle.download_file.specs.Changes.{GoesOn, IsSameFile, OthersWait, ReadersGoOn, StaysAskedUp}
 use Rattle.download_file.specs.Right.{AreLive, GivesTree, IsFile, IsGroup, IsReaderOf, WaitsByLevels}
-use Rattle.download_file.specs.Steps.{IsTaker, KnowsPart, TakesPart, held_with, taken_with}
+use Rattle.download_file.specs.Steps.{IsTaker, PassesPart, TakesPart, held_with}
 use Rattle.download_file.specs.declared.reader.Waiting.{Waiting}
 use Rattle.download_file.proofs.ListLemmas.{get_cases, map_set, set_same}
 use Rattle.download_file.proofs.GrowLemmas.{goes_same, group_stays, holds_as, read_stays, same_file}
-use Rattle.download_file.proofs.LiveLemmas.{live_giver}
 use Rattle.download_file.proofs.StateLemmas.{Follows, GrowsAsks, KeepsAsks, SameAsks, StillAsks, asked_up_stays, asks_itself, asks_no_more, grows_itself, reader_stays, same_asks, same_reader}
 
 -- ---- kinds of parts
 
-tree_or : (taken : List ℕ) (part : Part) → ((p : NodePiece) × (part ≡ CiphertextTree p)) ⊎ (taken_with taken part ≡ taken)
-tree_or taken ShareHashes = inr refl
-tree_or taken (BlockTree p) = inr refl
-tree_or taken (CiphertextTree p) = inl (p, refl)
-tree_or taken (Data i) = inr refl
+same_ciphertext : (p q : NodePiece) → CiphertextTree p ≡ CiphertextTree q → p ≡ q
+same_ciphertext p q e = cc
 
-length_taken : (taken : List ℕ) (part : Part) → length (taken_with taken part) ≡ length taken
-length_taken taken ShareHashes = refl
-length_taken taken (BlockTree p) = refl
-length_taken taken (CiphertextTree p) = length-set taken p.level (p.index + 1)
-length_taken taken (Data i) = refl
+-- the cursors of the ciphertext tree once a part is passed
+abbrev tree_with : List ℕ → Part → List ℕ
+tree_with levels (CiphertextTree p) = piece_passed levels p
+tree_with levels part = levels
 
-passed_tree : (c : Cursors) (part : Part) → (passed c part).ciphertext_tree ≡ taken_with c.ciphertext_tree part
+passed_tree : (c : Cursors) (part : Part) → (passed c part).ciphertext_tree ≡ tree_with c.ciphertext_tree part
 passed_tree c ShareHashes = refl
 passed_tree c (BlockTree p) = refl
 passed_tree c (CiphertextTree p) = refl
 passed_tree c (Data i) = refl
 
-taken_cases : (taken : List ℕ) (part : Part) (p : NodePiece) → ((q : NodePiece) → part ≡ CiphertextTree q → IsNextPiece taken q)
-    → p.index < cursor_at (taken_with taken part) p.level → (p.index < cursor_at taken p.level) ⊎ (part ≡ CiphertextTree p)
-taken_cases taken ShareHashes p next low = inl low
-taken_cases taken (BlockTree q) p next low = inl low
-taken_cases taken (CiphertextTree q) p next low = elim ((piece_next taken q p (next q refl)).0 low) [ inl old ↦ inl old | inr same ↦ inr (ap CiphertextTree same) ]
-taken_cases taken (Data i) p next low = inl low
+-- a number before which no more are than before another
+less_all : (a b : ℕ) → ((i : ℕ) → i < a → i < b) → a ≤ b
+less_all zero b each = omega arith
+less_all (suc a) b each = let k = each a (omega arith) in omega (arith, k)
+
+-- which pieces are before the cursors then
+tree_cases : (levels : List ℕ) (part : Part) (p : NodePiece) → ((q : NodePiece) → part ≡ CiphertextTree q → IsNextPiece levels q)
+    → p.index < cursor_at (tree_with levels part) p.level → (p.index < cursor_at levels p.level) ⊎ (part ≡ CiphertextTree p)
+tree_cases levels ShareHashes p next low = inl low
+tree_cases levels (BlockTree q) p next low = inl low
+tree_cases levels (CiphertextTree q) p next low = elim ((piece_next levels q p (next q refl)).0 low) [ inl old ↦ inl old | inr same ↦ inr (ap CiphertextTree same) ]
+tree_cases levels (Data i) p next low = inl low
+
+-- ---- what was taken of the ciphertext tree, with this part
+
+-- the pieces that are taken then: those that were, and this part where it is one, which is known
+pub record HasPassed (g : Geometry) (a b : ℕ) (tree : PartialState) (taken : List ℕ) (part : Part) (new : List ℕ) : Type 0 where
+  pub length_is : length new ≡ 3
+  pub more : (p : NodePiece) → p.index < cursor_at taken p.level → p.index < cursor_at new p.level
+  pub which : (p : NodePiece) → p.index < cursor_at new p.level → (p.index < cursor_at taken p.level) ⊎ ((part ≡ CiphertextTree p) × KnowsPiece g a b tree p)
+  pub its : (p : NodePiece) → part ≡ CiphertextTree p → p.index < cursor_at new p.level
+
+-- The part is due of a reader of which these pieces were taken, no more than of the file.
+module _ (g : Geometry) (a b : ℕ) (tree : PartialState) (taken own : List ℕ) (levels : length taken ≡ 3) (behind : (level : ℕ) → cursor_at own level ≤ cursor_at taken level) where
+  next_of : (q : NodePiece) → q.level < 3 → q.index ≡ cursor_at own q.level → cursor_at taken q.level ≤ q.index → IsNextPiece taken q
+  next_of q level index high = record { level = omega (arith, level, levels); index = (let low = behind q.level in omega (arith, index, high, low)) }
+
+  no_piece : (part : Part) (new : List ℕ) → new ≡ taken → ((p : NodePiece) → part ≡ CiphertextTree p → ⊥) → HasPassed g a b tree taken part new
+  no_piece part new same other = record {
+    length_is = ap length same ∙ levels;
+    more = λ p low. subst (λ (l : List ℕ). p.index < cursor_at l p.level) (sym same) low;
+    which = λ p low. inl (subst (λ (l : List ℕ). p.index < cursor_at l p.level) same low);
+    its = λ p is. absurd (other p is);
+  }
+
+  pub has_passed : (part : Part) (new : List ℕ) → ((q : NodePiece) → part ≡ CiphertextTree q → IsNextPiece own q × (q.level < 3)) → PassesPart g a b tree part taken new → HasPassed g a b tree taken part new
+  has_passed ShareHashes new due same = no_piece ShareHashes new same (λ p e. cc)
+  has_passed (BlockTree q) new due same = no_piece (BlockTree q) new same (λ p e. cc)
+  has_passed (Data i) new due same = no_piece (Data i) new same (λ p e. cc)
+  has_passed (CiphertextTree q) new due (inl was) = record {
+    length_is = ap length was.1 ∙ levels;
+    more = λ p low. subst (λ (l : List ℕ). p.index < cursor_at l p.level) (sym was.1) low;
+    which = λ p low. inl (subst (λ (l : List ℕ). p.index < cursor_at l p.level) was.1 low);
+    its = λ p is.
+        let low : q.index < cursor_at new q.level = subst (λ (l : List ℕ). q.index < cursor_at l q.level) (sym was.1) was.0 in
+        subst (λ (n : NodePiece). n.index < cursor_at new n.level) (same_ciphertext q p is) low;
+  }
+  has_passed (CiphertextTree q) new due (inr k) =
+      let k_due = due q refl in
+      let next : IsNextPiece taken q = next_of q k_due.1 k_due.0.index k.0 in
+      record {
+        length_is = ap length k.1 ∙ length-set taken q.level (q.index + 1) ∙ levels;
+        more = λ p low. subst (λ (l : List ℕ). p.index < cursor_at l p.level) (sym k.1) ((piece_next taken q p next).1 (inl low));
+        which = λ p low. elim ((piece_next taken q p next).0 (subst (λ (l : List ℕ). p.index < cursor_at l p.level) k.1 low)) [
+          | inl old ↦ inl old
+          | inr same ↦ inr (ap CiphertextTree same, subst (KnowsPiece g a b tree) same k.2)
+        ];
+        its = λ p is. subst (λ (l : List ℕ). p.index < cursor_at l p.level) (sym k.1) ((piece_next taken q p next).1 (inr (same_ciphertext q p is)));
+      }
 
 held_more : (held : List ℕ) (part : Part) (position : ℕ) → (more : List ℕ) × (held_with held part position ≡ held ++ more)
 held_more held ShareHashes position = ([], sym (append-nil held))
@@ -113,14 +163,14 @@ pub record HasTaken (f : FileState) (reader : ℕ) (bytes : List ℕ) (g : FileS
   pub same : IsSameFile f g
 
 module _ (f : FileState) (t : FileTreesState) (reader : ℕ) (r r' : ReaderState) (w : Waiting) (ws : List Waiting) (taken' : List ℕ)
-    (is : IsFile f) (live : IsLive f reader) (at : slice_get f.readers reader ≡ Some r) (waits : r.waiting ≡ w ∷ ws) where
+    (is : IsFile f) (heard : IsHeard f reader) (at : slice_get f.readers reader ≡ Some r) (waits : r.waiting ≡ w ∷ ws) where
   -- it is the one that is due
   pub is_due : IsDue r.supply w.wanted.part
   is_due = first_due r.supply w.wanted.part (waiting_parts ws)
-      (subst (λ (l : List Waiting). LeadOn r.supply.taken (waiting_parts l) r.supply.asked) waits (is.live.waits reader r live at))
+      (subst (λ (l : List Waiting). LeadOn r.supply.taken (waiting_parts l) r.supply.asked) waits (is.live.waits reader r heard at))
 
   pub is_read : IsReadOf r.supply w.wanted
-  is_read = subst (λ (l : List Waiting). All (λ v. IsReadOf r.supply v.wanted) l) waits (is.live.reads reader r live at) 0 w (omega arith)
+  is_read = subst (λ (l : List Waiting). All (λ v. IsReadOf r.supply v.wanted) l) waits (is.live.reads reader r heard at) 0 w (omega arith)
 
   pub is_taker : IsTaker f.handout f.first f.end r w
   is_taker =
@@ -136,17 +186,6 @@ module _ (f : FileState) (t : FileTreesState) (reader : ℕ) (r r' : ReaderState
         due = is_due;
         read = is_read;
       }
-
-  -- only the giver is due to give a piece of the ciphertext tree
-  pub gives_if : (q : NodePiece) → w.wanted.part ≡ CiphertextTree q → giver f ≡ Some reader
-  gives_if q part = elim (live_giver 0 f.live reader is.live.rise live) [
-    | inl e ↦ e
-    | inr before ↦
-        let due : IsDue r.supply (CiphertextTree q) = subst (λ (p : Part). IsDue r.supply p) part is_due in
-        let index = due.next.index in
-        let given = (is.readers reader r at).supply.given q.level in
-        absurd (is.ciphertext.behind before.0 reader r q before.1 before.2 at (omega (arith, index, given), due.asked))
-  ]
 
   module _ (T : TakesPart f.handout r f.taken f.first f.end w.wanted.part w.position (with_trees f.handout t) r' taken') where
     abbrev pub taken_file : FileState
@@ -223,14 +262,14 @@ module _ (f : FileState) (t : FileTreesState) (reader : ℕ) (r r' : ReaderState
 
     leads_on : LeadOn r'.supply.taken (waiting_parts r'.waiting) r'.supply.asked
     leads_on =
-        let was = subst (λ (l : List Waiting). LeadOn r.supply.taken (waiting_parts l) r.supply.asked) waits (is.live.waits reader r live at) in
+        let was = subst (λ (l : List Waiting). LeadOn r.supply.taken (waiting_parts l) r.supply.asked) waits (is.live.waits reader r heard at) in
         let rest : r'.waiting ≡ ws = T.waiting ∙ ap (drop 1) waits in
         subst (λ (l : List Waiting). LeadOn r'.supply.taken (waiting_parts l) r'.supply.asked) (sym rest)
         (subst (λ (s : SupplyState). LeadOn s.taken (waiting_parts ws) s.asked) (sym T.supply_is) was.1)
 
     upper_on : WaitsByLevels r'
     upper_on =
-        let was = subst (λ (l : List Waiting). UpperComeFirst r.supply.geometry (first_of r.supply) r.supply.taken (waiting_parts l)) waits (is.live.upper reader r live at) in
+        let was = subst (λ (l : List Waiting). UpperComeFirst r.supply.geometry (first_of r.supply) r.supply.taken (waiting_parts l)) waits (is.live.upper reader r heard at) in
         let rest : r'.waiting ≡ ws = T.waiting ∙ ap (drop 1) waits in
         subst (λ (l : List Waiting). UpperComeFirst r'.supply.geometry (first_of r'.supply) r'.supply.taken (waiting_parts l)) (sym rest)
         (subst (λ (s : SupplyState). UpperComeFirst s.geometry (first_of s) s.taken (waiting_parts ws)) (sym T.supply_is) was.1)
@@ -238,15 +277,18 @@ module _ (f : FileState) (t : FileTreesState) (reader : ℕ) (r r' : ReaderState
     reads_on : All (λ v. IsReadOf r'.supply v.wanted) r'.waiting
     reads_on =
         let rest : r'.waiting ≡ ws = T.waiting ∙ ap (drop 1) waits in
-        let was = subst (λ (l : List Waiting). All (λ v. IsReadOf r.supply v.wanted) l) waits (is.live.reads reader r live at) in
+        let was = subst (λ (l : List Waiting). All (λ v. IsReadOf r.supply v.wanted) l) waits (is.live.reads reader r heard at) in
         subst (λ (l : List Waiting). All (λ v. IsReadOf r'.supply v.wanted) l) (sym rest)
         (subst (λ (s : SupplyState). All (λ v. IsReadOf s v.wanted) ws) (sym T.supply_is) (All-tail (λ v. IsReadOf r.supply v.wanted) w ws was))
 
     live_taken : AreLive taken_file
     live_taken = record {
-      rise = is.live.rise;
+      once = is.live.once;
+      apart = is.live.apart;
       there = All-weaker (λ position. position < length f.readers) (λ position. position < length (slice_set f.readers reader r'))
           (λ position low. let long = length-set f.readers reader r' in omega (arith, low, long)) f.live is.live.there;
+      asides = All-weaker (λ position. position < length f.readers) (λ position. position < length (slice_set f.readers reader r'))
+          (λ position low. let long = length-set f.readers reader r' in omega (arith, low, long)) f.aside is.live.asides;
       few = is.live.few;
       different = λ i j x y one two order at_one at_two same.
           let a = share_was i x at_one in
@@ -266,13 +308,33 @@ module _ (f : FileState) (t : FileTreesState) (reader : ℕ) (r r' : ReaderState
       ];
     }
 
-    next_in : (q : NodePiece) → w.wanted.part ≡ CiphertextTree q → IsNextPiece f.taken q
-    next_in q part =
-        let due : IsDue r.supply (CiphertextTree q) = subst (λ (p : Part). IsDue r.supply p) part is_due in
-        subst (λ (l : List ℕ). IsNextPiece l q) (is.ciphertext.at_giver reader r (gives_if q part) at) due.next
+    behind_own : (level : ℕ) → cursor_at r.supply.taken.ciphertext_tree level ≤ cursor_at f.taken level
+    behind_own level = is.ciphertext.behind reader level r heard at
 
-    either : (p : NodePiece) → p.index < cursor_at taken' p.level → (p.index < cursor_at f.taken p.level) ⊎ (w.wanted.part ≡ CiphertextTree p)
-    either p low = taken_cases f.taken w.wanted.part p next_in (subst (λ (l : List ℕ). p.index < cursor_at l p.level) T.taken_is low)
+    due_piece : (q : NodePiece) → w.wanted.part ≡ CiphertextTree q → IsNextPiece r.supply.taken.ciphertext_tree q × (q.level < 3)
+    due_piece q part =
+        let due : IsDue r.supply (CiphertextTree q) = subst (λ (p : Part). IsDue r.supply p) part is_due in
+        let level = due.next.level in
+        let three = (is.readers reader r at).supply.taken_levels.ciphertext_tree in
+        (due.next, omega (arith, level, three))
+
+    passed_is : HasPassed f.handout.geometry f.first f.end t.ciphertext f.taken w.wanted.part taken'
+    passed_is = has_passed f.handout.geometry f.first f.end t.ciphertext f.taken r.supply.taken.ciphertext_tree is.ciphertext.levels behind_own w.wanted.part taken' due_piece T.passes
+
+    -- no more was taken of the reader than of the file
+    own_behind : (level : ℕ) → cursor_at r'.supply.taken.ciphertext_tree level ≤ cursor_at taken' level
+    own_behind level =
+        let now : r'.supply.taken.ciphertext_tree ≡ tree_with r.supply.taken.ciphertext_tree w.wanted.part =
+        ap (λ (s : SupplyState). s.taken.ciphertext_tree) T.supply_is ∙ passed_tree r.supply.taken w.wanted.part in
+        less_all _ _ (λ i low.
+        let p : NodePiece = record { level = level; index = i } in
+        elim (tree_cases r.supply.taken.ciphertext_tree w.wanted.part p (λ q part. (due_piece q part).0) (subst (λ (l : List ℕ). i < cursor_at l level) now low)) [
+          | inl old ↦ passed_is.more p (let k = behind_own level in omega (arith, old, k))
+          | inr part ↦ passed_is.its p part
+        ])
+
+    more_taken : (level : ℕ) → cursor_at f.taken level ≤ cursor_at taken' level
+    more_taken level = less_all _ _ (λ i low. let p : NodePiece = record { level = level; index = i } in passed_is.more p low)
 
     piece_due : (p : NodePiece) → w.wanted.part ≡ CiphertextTree p → IsNodePiece f.handout.geometry f.first f.end p
     piece_due p part =
@@ -284,27 +346,15 @@ module _ (f : FileState) (t : FileTreesState) (reader : ℕ) (r r' : ReaderState
 
     gives_taken : GivesTree taken_file
     gives_taken = record {
-      levels = ap length T.taken_is ∙ length_taken f.taken w.wanted.part ∙ is.ciphertext.levels;
-      pieces = λ p low. elim (either p low) [ inl old ↦ is.ciphertext.pieces p old | inr part ↦ piece_due p part ];
-      known = λ p low. elim (either p low) [
+      levels = passed_is.length_is;
+      pieces = λ p low. elim (passed_is.which p low) [ inl old ↦ is.ciphertext.pieces p old | inr k ↦ piece_due p k.0 ];
+      known = λ p low. elim (passed_is.which p low) [
         | inl old ↦ λ position among. T.stays _ (is.ciphertext.known p old position among)
-        | inr part ↦ subst (λ (q : Part). KnowsPart f.handout.geometry f.first f.end t.ciphertext q) part T.known
+        | inr k ↦ k.1
       ];
-      at_giver = λ position q gives there. elim (set_cases f.readers reader position r' q there) [
-        | inl k ↦
-            let first : giver f ≡ Some reader = subst (λ (n : ℕ). giver f ≡ Some n) k.0 gives in
-            subst (λ (x : ReaderState). x.supply.taken.ciphertext_tree ≡ taken') k.1
-            (ap (λ (s : SupplyState). s.taken.ciphertext_tree) T.supply_is ∙ passed_tree r.supply.taken w.wanted.part
-            ∙ ap (λ (l : List ℕ). taken_with l w.wanted.part) (is.ciphertext.at_giver reader r first at) ∙ sym T.taken_is)
-        | inr k ↦ is.ciphertext.at_giver position q gives k.1 ∙ sym (T.taken_is ∙ elim (tree_or f.taken w.wanted.part) [
-          | inl piece ↦ absurd (k.0 (one_there (giver f) position reader gives (gives_if piece.0 piece.1)))
-          | inr same ↦ same
-        ])
-      ];
-      behind = λ position other q p gives order there asked. elim (set_cases f.readers reader other r' q there) [
-        | inl k ↦ is.ciphertext.behind position reader r p gives (let same = k.0 in omega (arith, order, same)) at
-            ((asks.asked (CiphertextTree p)).0 (subst (λ (x : ReaderState). IsAsked x.supply (CiphertextTree p)) (sym k.1) asked))
-        | inr k ↦ is.ciphertext.behind position other q p gives order k.1 asked
+      behind = λ position level q one there. elim (set_cases f.readers reader position r' q there) [
+        | inl k ↦ subst (λ (x : ReaderState). cursor_at x.supply.taken.ciphertext_tree level ≤ cursor_at taken' level) k.1 (own_behind level)
+        | inr k ↦ let old = is.ciphertext.behind position level q one k.1 in let more = more_taken level in omega (arith, old, more)
       ];
     }
 
@@ -376,12 +426,12 @@ module _ (f : FileState) (t : FileTreesState) (reader : ℕ) (r r' : ReaderState
     }
 
 -- the part is taken
-pub has_taken : (f : FileState) (h' : HandoutState) (reader : ℕ) (r r' : ReaderState) (w : Waiting) (ws : List Waiting) (taken' bytes : List ℕ) → IsFile f → IsLive f reader
+pub has_taken : (f : FileState) (h' : HandoutState) (reader : ℕ) (r r' : ReaderState) (w : Waiting) (ws : List Waiting) (taken' bytes : List ℕ) → IsFile f → IsHeard f reader
     → slice_get f.readers reader ≡ Some r → r.waiting ≡ w ∷ ws → TakesPart f.handout r f.taken f.first f.end w.wanted.part w.position h' r' taken' → length bytes ≡ w.wanted.read.length
     → HasTaken f reader bytes (record f { handout = h'; taken = taken'; readers = slice_set f.readers reader r' })
-has_taken f h' reader r r' w ws taken' bytes is live at waits T long =
+has_taken f h' reader r r' w ws taken' bytes is heard at waits T long =
     subst (λ (h : HandoutState). HasTaken f reader bytes (record f { handout = h; taken = taken'; readers = slice_set f.readers reader r' })) (sym T.handout)
-    (has_taken_by f h'.trees reader r r' w ws taken' is live at waits
+    (has_taken_by f h'.trees reader r r' w ws taken' is heard at waits
     (subst (λ (h : HandoutState). TakesPart f.handout r f.taken f.first f.end w.wanted.part w.position h r' taken') T.handout T) bytes long)
 
 -- nothing is taken

@@ -1,5 +1,5 @@
 -- The first part that waits of a reader is taken.
-use Rattle.std.proofs.Common.{◌≡◌, ℕ, ◌*◌, List, [], ◌∷◌, ◌++◌, length, drop, Some, is_some, true, refl, sym, ap, subst, ◌∙◌}
+use Rattle.std.proofs.Common.{◌≡◌, ℕ, ◌*◌, ◌<◌, ◌≤◌, inl, inr, List, [], ◌∷◌, ◌++◌, length, drop, Some, is_some, true, refl, sym, ap, subst, ◌∙◌}
 use Rattle.std.proofs.lemmas.Bool.{false≢true}
 use Rattle.lemmas.proofs.Options.{one_there}
 use Rattle.merkle.specs.Partial.{PartialState, Takes, known_at}
@@ -11,7 +11,7 @@ use Rattle.download_parts.specs.declared.part.Part.TheVariants.{ShareHashes, Blo
 use Rattle.download_parts.specs.Offers.{nodes_offered}
 use Rattle.download_parts.specs.Trees.{KnowsAllOf, known_leaf}
 use Rattle.download_parts.proofs.TreeLemmas.{knows_taken}
-use Rattle.download_supply.specs.Cursors.{passed, piece_passed}
+use Rattle.download_supply.specs.Cursors.{cursor_at, passed, piece_passed}
 use Rattle.download_supply.specs.Supply.{IsSupply, SupplyState, first_of}
 use Rattle.download_supply.specs.Taking.{IsDue, TakesPiece, holds_more, with_taken}
 use Rattle.download_supply.proofs.TakingLemmas.{kept_known, offered_known}
@@ -50,7 +50,7 @@ module _ (h : HandoutState) (r : ReaderState) (taken : List ℕ) (a b : ℕ) (w 
     right = right;
     grow = grow;
     stays = same_known h.trees.ciphertext h'.trees.ciphertext same;
-    known = tt;
+    passes = refl;
     server = ap (λ (q : ReaderState). q.server) reader;
     share = ap (λ (q : ReaderState). q.share) reader;
     waiting = ap (λ (q : ReaderState). q.waiting) reader;
@@ -58,7 +58,6 @@ module _ (h : HandoutState) (r : ReaderState) (taken : List ℕ) (a b : ℕ) (w 
     supply_is = subst (λ (q : ReaderState). q.supply ≡ record r.supply { taken = passed r.supply.taken ShareHashes; tree = q.supply.tree; held = r.supply.held }) (sym reader) refl;
     tree = λ p was. absurd (false≢true (sym (due_hashes part).next ∙ sym is.supply.tree ∙ ap (is_some {T = PartialState}) was));
     root = subst (λ (q : ReaderState). TellsRoot h'.trees.shares r.share q.supply.tree) (sym reader) root;
-    taken_is = refl;
   }
 
   pub took_nodes : (r' : ReaderState) (p : NodePiece) (bytes : List ℕ) → r'.server ≡ r.server → r'.share ≡ r.share → r'.waiting ≡ drop 1 r.waiting
@@ -68,7 +67,7 @@ module _ (h : HandoutState) (r : ReaderState) (taken : List ℕ) (a b : ℕ) (w 
     right = is.right;
     grow = grow_none h.trees;
     stays = λ number known. known;
-    known = tt;
+    passes = refl;
     server = server;
     share = share;
     waiting = waiting;
@@ -79,21 +78,24 @@ module _ (h : HandoutState) (r : ReaderState) (taken : List ℕ) (a b : ℕ) (w 
         (takes.after, refl, subst (λ (t : PartialState). KnowsAllOf t takes.after) same (knows_taken takes.before takes.after _ takes.takes)));
     root = subst (λ (s : SupplyState). TellsRoot h.trees.shares r.share s.tree) (sym takes.is)
         (subst (TellsRoot h.trees.shares r.share) takes.was is.root ∙ ap Some (sym takes.takes.root));
-    taken_is = refl;
   }
 
   pub took_ciphertext : (h' : HandoutState) (r' : ReaderState) (p : NodePiece) (nodes : Nodes) (bytes : List ℕ) → h' ≡ with_trees h h'.trees → IsHandout h'
       → TreesGrow h.trees h'.trees → nodes ≡ nodes_of h.geometry a b p → length bytes ≡ 32 * nodes.count
       → Takes h.trees.ciphertext (nodes_offered nodes bytes) h'.trees.ciphertext
-      → r' ≡ record r { supply = with_taken r.supply (CiphertextTree p); waiting = drop 1 r.waiting } → IsSupply r'.supply
+      → r' ≡ record r { supply = with_taken r.supply (CiphertextTree p); waiting = drop 1 r.waiting } → IsSupply r'.supply → cursor_at taken p.level ≤ p.index
       → TakesPart h r taken a b (CiphertextTree p) w.position h' r' (piece_passed taken p)
-  took_ciphertext h' r' p nodes bytes others right grow these long takes reader supply = record {
+  took_ciphertext h' r' p nodes bytes others right grow these long takes reader supply high = record {
     handout = others;
     right = right;
     grow = grow;
     stays = λ number known. kept_known h.trees.ciphertext h'.trees.ciphertext (nodes_offered nodes bytes) number takes known;
-    known = offered_known (nodes_of h.geometry a b p) bytes h.trees.ciphertext h'.trees.ciphertext (subst (λ (n : Nodes). length bytes ≡ 32 * n.count) these long)
-        (subst (λ (n : Nodes). Takes h.trees.ciphertext (nodes_offered n bytes) h'.trees.ciphertext) these takes);
+    passes = inr (
+        high,
+        refl,
+        offered_known (nodes_of h.geometry a b p) bytes h.trees.ciphertext h'.trees.ciphertext (subst (λ (n : Nodes). length bytes ≡ 32 * n.count) these long)
+            (subst (λ (n : Nodes). Takes h.trees.ciphertext (nodes_offered n bytes) h'.trees.ciphertext) these takes),
+    );
     server = ap (λ (q : ReaderState). q.server) reader;
     share = ap (λ (q : ReaderState). q.share) reader;
     waiting = ap (λ (q : ReaderState). q.waiting) reader;
@@ -101,7 +103,25 @@ module _ (h : HandoutState) (r : ReaderState) (taken : List ℕ) (a b : ℕ) (w 
     supply_is = subst (λ (q : ReaderState). q.supply ≡ record r.supply { taken = passed r.supply.taken (CiphertextTree p); tree = q.supply.tree; held = r.supply.held }) (sym reader) refl;
     tree = subst (λ (q : ReaderState). TreeStays r.supply.tree q.supply.tree) (sym reader) (tree_same r.supply.tree r.supply.tree refl);
     root = subst (λ (q : ReaderState). TellsRoot h'.trees.shares r.share q.supply.tree) (sym reader) (tells_still h.trees.shares h'.trees.shares r.share r.supply.tree grow.shares is.root);
-    taken_is = refl;
+  }
+
+  -- another reader gave it
+  pub passed_ciphertext : (r' : ReaderState) (p : NodePiece)
+      → r' ≡ record r { supply = with_taken r.supply (CiphertextTree p); waiting = drop 1 r.waiting } → IsSupply r'.supply → p.index < cursor_at taken p.level
+      → TakesPart h r taken a b (CiphertextTree p) w.position h r' taken
+  passed_ciphertext r' p reader supply low = record {
+    handout = refl;
+    right = is.right;
+    grow = grow_none h.trees;
+    stays = λ number known. known;
+    passes = inl (low, refl);
+    server = ap (λ (q : ReaderState). q.server) reader;
+    share = ap (λ (q : ReaderState). q.share) reader;
+    waiting = ap (λ (q : ReaderState). q.waiting) reader;
+    supply = supply;
+    supply_is = subst (λ (q : ReaderState). q.supply ≡ record r.supply { taken = passed r.supply.taken (CiphertextTree p); tree = q.supply.tree; held = r.supply.held }) (sym reader) refl;
+    tree = subst (λ (q : ReaderState). TreeStays r.supply.tree q.supply.tree) (sym reader) (tree_same r.supply.tree r.supply.tree refl);
+    root = subst (λ (q : ReaderState). TellsRoot h.trees.shares r.share q.supply.tree) (sym reader) is.root;
   }
 
   pub took_data : (r' : ReaderState) (index : ℕ) → index ≡ r.supply.taken.data_piece
@@ -112,7 +132,7 @@ module _ (h : HandoutState) (r : ReaderState) (taken : List ℕ) (a b : ℕ) (w 
     right = is.right;
     grow = grow_none h.trees;
     stays = λ number known. known;
-    known = tt;
+    passes = refl;
     server = ap (λ (q : ReaderState). q.server) reader;
     share = ap (λ (q : ReaderState). q.share) reader;
     waiting = ap (λ (q : ReaderState). q.waiting) reader;
@@ -121,5 +141,4 @@ module _ (h : HandoutState) (r : ReaderState) (taken : List ℕ) (a b : ℕ) (w 
         (subst (λ (n : ℕ). holds_more r.supply w.position ≡ record r.supply { taken = passed r.supply.taken (Data n); tree = r.supply.tree; held = r.supply.held ++ w.position ∷ [] }) (sym next) refl);
     tree = subst (λ (q : ReaderState). TreeStays r.supply.tree q.supply.tree) (sym reader) (tree_same r.supply.tree r.supply.tree refl);
     root = subst (λ (q : ReaderState). TellsRoot h.trees.shares r.share q.supply.tree) (sym reader) is.root;
-    taken_is = refl;
   }

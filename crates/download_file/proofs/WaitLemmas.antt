@@ -15,7 +15,7 @@ use Rattle.download_supply.specs.declared.cursors.Cursors.{Cursors}
 use Rattle.download_supply.proofs.LawLemmas.{all_ready, leaf_known}
 use Rattle.download_segments.specs.Handout.{next_segment}
 use Rattle.download_segments.specs.State.{IsHandout}
-use Rattle.download_file.specs.State.{FileState, IsComplete, IsLive, IsReader, ReaderState, first_position, giver, waiting_in, waiting_parts}
+use Rattle.download_file.specs.State.{FileState, IsComplete, IsHeard, IsLive, IsReader, ReaderState, first_position, giver, waiting_in, waiting_parts}
 use Rattle.download_file.specs.Asked.{IsAskedUp}
 use Rattle.download_file.specs.Making.{CanNotGoOn, LacksNext, SomeWaits}
 use Rattle.download_file.specs.Right.{IsFile}
@@ -38,7 +38,7 @@ complete f is none = by (nat_lt f.handout.reached f.handout.to) refl
 
 module _ (f : FileState) (number : ℕ) (is : IsFile f) (next : next_segment f.handout ≡ Some number) where
   -- where nothing waits of a reader, all that was asked of it is taken
-  all_taken : (position : ℕ) (r : ReaderState) → IsLive f position → IsReader f position r → r.waiting ≡ [] → (part : Part) → IsAsked r.supply part → IsPassed r.supply.taken part
+  all_taken : (position : ℕ) (r : ReaderState) → IsHeard f position → IsReader f position r → r.waiting ≡ [] → (part : Part) → IsAsked r.supply part → IsPassed r.supply.taken part
   all_taken position r live at none part asked =
       let same : r.supply.taken ≡ r.supply.asked = subst (λ (l : List Waiting). LeadOn r.supply.taken (waiting_parts l) r.supply.asked) none (is.live.waits position r live at) in
       subst (λ (c : Cursors). IsPassed c part) (sym same) (asked_passed r.supply part asked)
@@ -64,7 +64,7 @@ module _ (f : FileState) (number : ℕ) (is : IsFile f) (next : next_segment f.h
       let before = (is.next number next).1 in
       let end = own.end in
       all_ready r.supply number own.supply (record { from = from; before = omega (arith, before, end) })
-      (λ part wanted. all_taken position r live at none part (up.own r number part at next wanted))
+      (λ part wanted. all_taken position r (inl live) at none part (up.own r number part at next wanted))
 
   leads : LeadTo f.handout.trees.ciphertext f.handout.trees.ciphertext.root (segment_count f.handout.geometry)
   leads = subst (λ (g : Geometry). LeadTo f.handout.trees.ciphertext f.handout.trees.ciphertext.root (segment_count g)) is.handout.roots.geometry is.handout.trees.ciphertext
@@ -79,7 +79,8 @@ module _ (f : FileState) (number : ℕ) (is : IsFile f) (next : next_segment f.h
       elim (cases_lt p.index (cursor_at f.taken p.level)) [
         | inl low ↦ is.ciphertext.known p low
         | inr high ↦
-            let same : cursor_at r.supply.taken.ciphertext_tree p.level ≡ cursor_at f.taken p.level = ap (λ (l : List ℕ). cursor_at l p.level) (is.ciphertext.at_giver position r first at) in
+            let live : IsHeard f position = inl (first_live f.live position first) in
+            let behind = is.ciphertext.behind position p.level r live at in
             let given = own.supply.given p.level in
             let start = own.start in
             let end = own.end in
@@ -87,9 +88,9 @@ module _ (f : FileState) (number : ℕ) (is : IsFile f) (next : next_segment f.h
             let before = within.1 in
             let its : IsNodePiece r.supply.geometry r.supply.start (number + 1) p =
             subst (λ (g : Geometry). IsNodePiece g r.supply.start (number + 1) p) (sym own.geometry) (subst (λ (n : ℕ). IsNodePiece f.handout.geometry n (number + 1) p) (sym own.start) piece) in
-            let passes = all_taken position r (first_live f.live position first) at none (CiphertextTree p)
-            (up.ciphertext r number (CiphertextTree p) first at next (omega (arith, start, from), omega (arith, end, before), omega (arith, given, same, high), its)) in
-            absurd (omega (arith, passes, same, high))
+            let passes = all_taken position r live at none (CiphertextTree p)
+            (up.ciphertext r number (CiphertextTree p) first at next (omega (arith, start, from), omega (arith, end, before), omega (arith, given, behind, high), its)) in
+            absurd (omega (arith, passes, behind, high))
       ])
 
   too_few : length f.live ≢ f.handout.geometry.needed → length f.live < f.handout.geometry.needed

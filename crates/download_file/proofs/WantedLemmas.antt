@@ -13,7 +13,7 @@ use Rattle.download_parts.specs.Plan.{IsPlanned, length_of, max_read, offset_of}
 use Rattle.download_parts.specs.declared.part.Part.{Part}
 use Rattle.download_parts.specs.declared.part.Part.TheVariants.{ShareHashes, BlockTree, CiphertextTree, Data}
 use Rattle.download_supply.specs.Asking.{IsAsked, IsReadOf, IsWanted, IsWantedCiphertext, OnlyAsks, parts_of}
-use Rattle.download_supply.specs.Cursors.{IsPassed, LeadOn}
+use Rattle.download_supply.specs.Cursors.{IsPassed, LeadOn, cursor_at}
 use Rattle.download_supply.specs.Supply.{IsPartOf, IsSupply, SupplyState, first_of}
 use Rattle.download_supply.specs.Upper.{UpperComeFirst}
 use Rattle.download_supply.specs.declared.cursors.Cursors.{Cursors}
@@ -23,12 +23,12 @@ use Rattle.download_supply.proofs.UpperLemmas.{upper_append}
 use Rattle.download_segments.specs.Handout.{next_segment}
 use Rattle.download_segments.proofs.TreeLemmas.{grow_none}
 use Rattle.download_parts.proofs.TreeLemmas.{knows_itself}
-use Rattle.download_file.specs.State.{FileState, IsLive, IsReader, ReaderState, copy, copy_of, giver, waiting_from, copies, waiting_at, waiting_in, waiting_parts}
+use Rattle.download_file.specs.State.{FileState, IsHeard, IsReader, ReaderState, copy, copy_of, giver, waiting_from, copies, waiting_at, waiting_in, waiting_parts}
 use Rattle.download_file.specs.Answers.{HoldsAnswers, HoldsFor}
 use Rattle.download_file.specs.Asked.{AsksParts, HasAsked, IsAskedUp, IsOneOf, IsPlannedRead}
 use Rattle.download_file.specs.Changes.{GoesOn, IsSameFile, OthersWait, ReadersGoOn, StaysAskedUp, StaysRead}
 use Rattle.download_file.specs.Right.{AreLive, IsFile, IsGroup, IsReaderOf, TellsRoot, WaitsByLevels}
-use Rattle.download_file.specs.Steps.{Asks, AsksNoTree}
+use Rattle.download_file.specs.Steps.{Asks}
 use Rattle.download_file.specs.declared.reader.Waiting.{Waiting}
 use Rattle.download_file.proofs.ListLemmas.{All-from_contains, from_map, get_cases, map_set}
 use Rattle.download_file.proofs.GrowLemmas.{goes_same, group_stays, holds_as, read_stays, same_file, tree_same}
@@ -91,10 +91,9 @@ pub record HasWanted (f : FileState) (reader position last : ℕ) (wanted : List
   pub reads : StaysRead f g
   pub same : IsSameFile f g
 
-module _ (f : FileState) (reader : ℕ) (r r' : ReaderState) (gives : Bool) (last position : ℕ) (wanted : List Wanted) (is : IsFile f) (live : IsLive f reader)
+module _ (f : FileState) (reader : ℕ) (r r' : ReaderState) (gives : Bool) (last position : ℕ) (wanted : List Wanted) (is : IsFile f) (heard : IsHeard f reader)
     (at : slice_get f.readers reader ≡ Some r) (server : r'.server ≡ r.server) (share : r'.share ≡ r.share) (only : OnlyAsks r.supply r'.supply) (right : IsSupply r'.supply)
-    (asks : Asks r.supply gives last wanted r'.supply) (tree : gives ≡ false → AsksNoTree r.supply r'.supply)
-    (giver_is : (giver f ≡ Some reader → gives ≡ true) × (giver f ≢ Some reader → gives ≡ false))
+    (asks : Asks r.supply gives last wanted r'.supply) (giver_is : giver f ≡ Some reader → gives ≡ true)
     (waits : r'.waiting ≡ r.waiting ++ waiting_from position wanted) where
   abbrev pub asked_file : FileState
   asked_file = record f { readers = slice_set f.readers reader r' }
@@ -154,7 +153,7 @@ module _ (f : FileState) (reader : ℕ) (r r' : ReaderState) (gives : Bool) (las
       let taken : r'.supply.taken ≡ r.supply.taken = ap (λ (s : SupplyState). s.taken) only in
       subst (λ (l : List Part). LeadOn r'.supply.taken l r'.supply.asked) (sym parts)
       (subst (λ (c : Cursors). LeadOn c (waiting_parts r.waiting ++ parts_of wanted) r'.supply.asked) (sym taken)
-      (lead_append r.supply.taken r.supply.asked r'.supply.asked (waiting_parts r.waiting) (parts_of wanted) (is.live.waits reader r live at) asks.now.in_order))
+      (lead_append r.supply.taken r.supply.asked r'.supply.asked (waiting_parts r.waiting) (parts_of wanted) (is.live.waits reader r heard at) asks.now.in_order))
 
   upper_on : WaitsByLevels r'
   upper_on =
@@ -162,13 +161,13 @@ module _ (f : FileState) (reader : ℕ) (r r' : ReaderState) (gives : Bool) (las
       subst (λ (l : List Part). UpperComeFirst r'.supply.geometry (first_of r'.supply) r'.supply.taken l) (sym parts)
       (subst (λ (s : SupplyState). UpperComeFirst s.geometry (first_of s) s.taken both) (sym only)
       (upper_append r.supply.geometry (first_of r.supply) r.supply.taken r.supply.asked (waiting_parts r.waiting) (parts_of wanted)
-      (is.live.waits reader r live at) (is.live.upper reader r live at) asks.now.upper))
+      (is.live.waits reader r heard at) (is.live.upper reader r heard at) asks.now.upper))
 
   reads_on : All (λ v. IsReadOf r'.supply v.wanted) r'.waiting
   reads_on =
       subst (λ (l : List Waiting). All (λ v. IsReadOf r'.supply v.wanted) l) (sym waits)
       (subst (λ (s : SupplyState). All (λ v. IsReadOf s v.wanted) (r.waiting ++ waiting_from position wanted)) (sym only)
-      (All-append (λ v. IsReadOf r.supply v.wanted) r.waiting (waiting_from position wanted) (is.live.reads reader r live at)
+      (All-append (λ v. IsReadOf r.supply v.wanted) r.waiting (waiting_from position wanted) (is.live.reads reader r heard at)
       (All-from_contains (λ v. IsReadOf r.supply v.wanted) (waiting_from position wanted)
       (waiting_from_all (IsReadOf r.supply) position wanted (λ w among. All-contains (IsReadOf r.supply) wanted w asks.now.reads among)))))
 
@@ -176,8 +175,10 @@ module _ (f : FileState) (reader : ℕ) (r r' : ReaderState) (gives : Bool) (las
   live_asked =
       let long : length (slice_set f.readers reader r') ≡ length f.readers = length-set f.readers reader r' in
       record {
-        rise = is.live.rise;
+        once = is.live.once;
+        apart = is.live.apart;
         there = All-weaker (λ p. p < length f.readers) (λ p. p < length (slice_set f.readers reader r')) (λ p low. omega (arith, low, long)) f.live is.live.there;
+        asides = All-weaker (λ p. p < length f.readers) (λ p. p < length (slice_set f.readers reader r')) (λ p low. omega (arith, low, long)) f.aside is.live.asides;
         few = is.live.few;
         different = λ i j x y one two order at_one at_two same.
             let a = share_was i x at_one in
@@ -212,18 +213,10 @@ module _ (f : FileState) (reader : ℕ) (r r' : ReaderState) (gives : Bool) (las
       levels = is.ciphertext.levels;
       pieces = is.ciphertext.pieces;
       known = is.ciphertext.known;
-      at_giver = λ other q now there. elim (set_cases f.readers reader other r' q there) [
-        | inl k ↦ subst (λ (x : ReaderState). x.supply.taken.ciphertext_tree ≡ f.taken) k.1
-            (ap (λ (s : SupplyState). s.taken.ciphertext_tree) only ∙ is.ciphertext.at_giver other r now (ap (slice_get f.readers) k.0 ∙ at))
-        | inr k ↦ is.ciphertext.at_giver other q now k.1
-      ];
-      behind = λ first other q p now order there asked. elim (set_cases f.readers reader other r' q there) [
-        | inr k ↦ is.ciphertext.behind first other q p now order k.1 asked
-        | inl k ↦
-            let is_reader = k.0 in
-            let not : giver f ≢ Some reader = λ e. let one : first ≡ reader = one_there (giver f) first reader now e in omega (arith, order, one, is_reader) in
-            is.ciphertext.behind first other r p now order (ap (slice_get f.readers) k.0 ∙ at)
-            (tree (giver_is.1 not) p (subst (λ (x : ReaderState). IsAsked x.supply (CiphertextTree p)) (sym k.1) asked))
+      behind = λ other level q among there. elim (set_cases f.readers reader other r' q there) [
+        | inl k ↦ subst (λ (x : ReaderState). cursor_at x.supply.taken.ciphertext_tree level ≤ cursor_at f.taken level) k.1
+            (subst (λ (s : SupplyState). cursor_at s.taken.ciphertext_tree level ≤ cursor_at f.taken level) (sym only) (is.ciphertext.behind reader level r heard at))
+        | inr k ↦ is.ciphertext.behind other level q among k.1
       ];
     };
     groups = All-weaker (IsGroup f.handout f.readers) (IsGroup f.handout (slice_set f.readers reader r'))
@@ -274,7 +267,7 @@ module _ (f : FileState) (reader : ℕ) (r r' : ReaderState) (gives : Bool) (las
             let one : q ≡ r' = one_there (slice_get (slice_set f.readers reader r') reader) q r' there (get_set f.readers reader r' r at) in
             let same : number ≡ next = one_there (next_segment f.handout) number next is_next next_is in
             subst (λ (x : ReaderState). IsAsked x.supply part) (sym one)
-            (asks.ciphertext (giver_is.0 first) part (ciphertext_more r.supply next last part order low (subst (λ (n : ℕ). IsWantedCiphertext r.supply n part) same
+            (asks.ciphertext (giver_is first) part (ciphertext_more r.supply next last part order low (subst (λ (n : ℕ). IsWantedCiphertext r.supply n part) same
             (ciphertext_back r.supply r'.supply number part grows (subst (λ (x : ReaderState). IsWantedCiphertext x.supply number part) one wants)))));
       }
 

@@ -1,13 +1,12 @@
 -- What holds of each file that is read.
 use Rattle.std.specs.Prelude.{◌≡◌, ◌≢◌, ℕ, ◌+◌, ◌-◌, ◌/◌, ◌<◌, ◌≤◌, List, [], ◌∷◌, length}
-use Rattle.std.specs.Prelude.{Option, Some, IfSome, All, unwrap_or}
+use Rattle.std.specs.Prelude.{Option, Some, IfSome, All, Contains, unwrap_or}
 use Rattle.merkle.specs.Partial.{PartialState}
 use Rattle.download_parts.specs.Plan.{IsNodePiece}
 use Rattle.download_parts.specs.Range.{IsRange}
 use Rattle.download_parts.specs.declared.part.NodePiece.{NodePiece}
-use Rattle.download_parts.specs.declared.part.Part.TheVariants.{CiphertextTree}
 use Rattle.download_parts.specs.Trees.{known_leaf}
-use Rattle.download_supply.specs.Asking.{IsAsked, IsReadOf}
+use Rattle.download_supply.specs.Asking.{IsReadOf}
 use Rattle.download_supply.specs.Cursors.{LeadOn, cursor_at}
 use Rattle.download_supply.specs.Laws.{KnowsPiece}
 use Rattle.download_supply.specs.Supply.{IsSupply, first_of}
@@ -16,8 +15,8 @@ use Rattle.download_segments.specs.Decoding.{IsDecoding}
 use Rattle.download_segments.specs.Handout.{next_segment}
 use Rattle.download_segments.specs.State.{HandoutState, IsHandout}
 use Rattle.download_segments.specs.GroupState.{GroupState}
-use Rattle.download_file.specs.State.{FileState, IsLive, IsReader, ReaderState}
-use Rattle.download_file.specs.State.{giver, numbers_of, waiting_parts}
+use Rattle.download_file.specs.State.{FileState, IsAside, IsHeard, IsLive, IsReader, ReaderState}
+use Rattle.download_file.specs.State.{numbers_of, waiting_parts}
 
 -- the share tree tells the root of a share's block tree, once that is there
 abbrev pub TellsRoot : PartialState → ℕ → Option PartialState → Type 0
@@ -34,43 +33,42 @@ pub record IsReaderOf (f : FileState) (r : ReaderState) : Type 0 where
   pub share : r.share < f.handout.geometry.total
   pub root : TellsRoot f.handout.trees.shares r.share r.supply.tree
 
--- they rise, the first of them at this position or behind it
-abbrev pub RiseFrom : ℕ → List ℕ → Type 0
-RiseFrom low [] = Unit {0}
-RiseFrom low (position ∷ positions) = (low ≤ position) × RiseFrom (position + 1) positions
+-- each is among them once
+abbrev pub AreDistinct : List ℕ → Type 0
+AreDistinct [] = Unit {0}
+AreDistinct (position ∷ positions) = (¬ Contains positions position) × AreDistinct positions
 
 -- the pieces of trees that wait of a reader come each after the piece over it
 abbrev pub WaitsByLevels : ReaderState → Type 0
 WaitsByLevels r =
     UpperComeFirst r.supply.geometry (first_of r.supply) r.supply.taken (waiting_parts r.waiting)
 
--- The readers that are read: at most as many as are needed, and of different shares. The parts that
--- wait of each lead from what was taken of it to what was asked.
+-- The readers that are read, at most as many as are needed, and those that are put aside: they are
+-- of different shares. The parts that wait of each lead from what was taken of it to what was asked.
 pub record AreLive (f : FileState) : Type 0 where
-  pub rise : RiseFrom 0 f.live
+  pub once : AreDistinct f.live
+  pub apart : (position : ℕ) → IsLive f position → ¬ IsAside f position
   pub there : All (λ position. position < length f.readers) f.live
+  pub asides : All (λ position. position < length f.readers) f.aside
   pub few : length f.live ≤ f.handout.geometry.needed
-  pub different : (i j : ℕ) (r s : ReaderState) → IsLive f i → IsLive f j → i < j
+  pub different : (i j : ℕ) (r s : ReaderState) → IsHeard f i → IsHeard f j → i ≢ j
       → IsReader f i r → IsReader f j s → r.share ≢ s.share
-  pub waits : (position : ℕ) (r : ReaderState) → IsLive f position → IsReader f position r
+  pub waits : (position : ℕ) (r : ReaderState) → IsHeard f position → IsReader f position r
       → LeadOn r.supply.taken (waiting_parts r.waiting) r.supply.asked
-  pub upper : (position : ℕ) (r : ReaderState) → IsLive f position → IsReader f position r
+  pub upper : (position : ℕ) (r : ReaderState) → IsHeard f position → IsReader f position r
       → WaitsByLevels r
-  pub reads : (position : ℕ) (r : ReaderState) → IsLive f position → IsReader f position r
+  pub reads : (position : ℕ) (r : ReaderState) → IsHeard f position → IsReader f position r
       → All (λ w. IsReadOf r.supply w.wanted) r.waiting
 
--- The ciphertext tree is read of the giver, from the pieces on that were taken already. Those are
--- known. A reader behind the giver was never asked for any of it.
+-- The pieces of the ciphertext tree that were taken are known. Of no reader more of it was taken.
 pub record GivesTree (f : FileState) : Type 0 where
   pub levels : length f.taken ≡ 3
   pub pieces : (p : NodePiece) → p.index < cursor_at f.taken p.level
       → IsNodePiece f.handout.geometry f.first f.end p
   pub known : (p : NodePiece) → p.index < cursor_at f.taken p.level
       → KnowsPiece f.handout.geometry f.first f.end f.handout.trees.ciphertext p
-  pub at_giver : (reader : ℕ) (r : ReaderState) → giver f ≡ Some reader → IsReader f reader r
-      → r.supply.taken.ciphertext_tree ≡ f.taken
-  pub behind : (reader behind : ℕ) (r : ReaderState) (p : NodePiece) → giver f ≡ Some reader
-      → reader < behind → IsReader f behind r → ¬ IsAsked r.supply (CiphertextTree p)
+  pub behind : (reader level : ℕ) (r : ReaderState) → IsHeard f reader → IsReader f reader r
+      → cursor_at r.supply.taken.ciphertext_tree level ≤ cursor_at f.taken level
 
 -- the number behind that of the last segment that was made
 abbrev pub made_end : FileState → ℕ

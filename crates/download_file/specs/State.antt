@@ -1,5 +1,5 @@
 -- What is read of a file whose extension block is accepted.
-use Rattle.std.specs.Prelude.{◌≡◌, ℕ, ◌+◌, ◌-◌, ◌/◌, List, [], ◌∷◌, map}
+use Rattle.std.specs.Prelude.{◌≡◌, ◌⊎◌, ℕ, ◌+◌, ◌-◌, ◌/◌, List, [], ◌∷◌, map}
 use Rattle.std.specs.Prelude.{Option, Some, None, slice_get, filter, not, ◌==◌, Contains}
 use Rattle.ueb.specs.Shape.{Contents}
 use Rattle.share_layout.specs.Geometry.{Geometry}
@@ -20,7 +20,9 @@ pub record ReaderState : Type 0 where
 
 -- The segments `first` to before `end` are wanted. `taken`: how many pieces of each level of the
 -- ciphertext tree were taken. `readers`: all readers, in the order in which they were begun.
--- `live`: the positions of those that are read. `groups`: what the segments were made of, in order.
+-- `live`: the positions of those that are read. `aside`: of those that are put aside: what was asked
+-- of them is still taken, and no segment is made of their blocks. `groups`: what the segments were
+-- made of, in order.
 pub record FileState : Type 0 where
   pub handout : HandoutState
   pub first : ℕ
@@ -28,18 +30,20 @@ pub record FileState : Type 0 where
   pub taken : List ℕ
   pub readers : List ReaderState
   pub live : List ℕ
+  pub aside : List ℕ
   pub groups : List GroupState
 
 -- the value of a file with these fields
-abbrev pub file_state : HandoutState → ℕ → ℕ → List ℕ → List ReaderState → List ℕ
+abbrev pub file_state : HandoutState → ℕ → ℕ → List ℕ → List ReaderState → List ℕ → List ℕ
     → List GroupState → FileState
-file_state handout first end taken readers live groups = record {
+file_state handout first end taken readers live aside groups = record {
   handout = handout;
   first = first;
   end = end;
   taken = taken;
   readers = readers;
   live = live;
+  aside = aside;
   groups = groups;
 }
 
@@ -52,6 +56,7 @@ new_file key u g from to = record {
   taken = 0 ∷ 0 ∷ 0 ∷ [];
   readers = [];
   live = [];
+  aside = [];
   groups = [];
 }
 
@@ -67,7 +72,15 @@ IsReader f reader r = slice_get f.readers reader ≡ Some r
 abbrev pub IsLive : FileState → ℕ → Type 0
 IsLive f position = Contains f.live position
 
--- The giver of the ciphertext tree is the oldest reader that is read.
+-- it is put aside
+abbrev pub IsAside : FileState → ℕ → Type 0
+IsAside f position = Contains f.aside position
+
+-- it is read or put aside: what is answered of it is taken
+abbrev pub IsHeard : FileState → ℕ → Type 0
+IsHeard f position = IsLive f position ⊎ IsAside f position
+
+-- The giver of the ciphertext tree is the reader that is read the longest.
 abbrev pub giver : FileState → Option ℕ
 giver f = slice_get f.live 0
 

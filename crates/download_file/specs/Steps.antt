@@ -122,11 +122,19 @@ abbrev pub AsksNoTree : SupplyState → SupplyState → Type 0
 AsksNoTree old new =
     (p : NodePiece) → IsAsked new (CiphertextTree p) → IsAsked old (CiphertextTree p)
 
--- the reader can give the ciphertext tree from these pieces on: it was asked for none of it
-pub record CanGive (r : ReaderState) (taken : List ℕ) : Type 0 where
-  pub none : (p : NodePiece) → ¬ IsAsked r.supply (CiphertextTree p)
-  pub pieces : (p : NodePiece) → p.index < cursor_at taken p.level
-      → IsNodePiece r.supply.geometry r.supply.start r.supply.end p
+-- the reader can give the ciphertext tree from these pieces on: its plan has them
+abbrev pub CanGive : ReaderState → List ℕ → Type 0
+CanGive r taken = (p : NodePiece) → p.index < cursor_at taken p.level
+    → IsNodePiece r.supply.geometry r.supply.start r.supply.end p
+
+-- The reader was asked for nothing of the ciphertext tree.
+abbrev pub GaveNone : ReaderState → Type 0
+GaveNone r = r.supply.asked.ciphertext_tree ≡ r.supply.given
+
+-- It gives the ciphertext tree from now on: from these pieces on where it was asked for none of it,
+-- and else from where it was.
+abbrev pub Gives : ReaderState → List ℕ → ReaderState → Type 0
+Gives old taken new = (GaveNone old × (new ≡ giving old taken)) ⊎ ((¬ GaveNone old) × (new ≡ old))
 
 -- a reader of which nothing was asked yet; where it gives the ciphertext tree, it does from these
 -- pieces on
@@ -144,37 +152,52 @@ pub record IsBegun (g : Geometry) (start first end server share : ℕ) (gives : 
   pub tree : r.supply.tree ≡ None
   pub held : r.supply.held ≡ []
   pub from : gives ≡ true → r.supply.taken.ciphertext_tree ≡ taken
+  pub behind : (level : ℕ)
+      → cursor_at r.supply.taken.ciphertext_tree level ≤ cursor_at taken level
   pub none : (part : Part) → ¬ IsAsked r.supply part
 
--- The reader at a position gave the ciphertext tree and ends. The first that is left gives it.
-pub record GivesNext (old : List ReaderState) (live : List ℕ) (taken : List ℕ) (reader : ℕ)
-    (r : ReaderState) (new : List ReaderState) : Type 0 where
-  pub gave : slice_get live 0 ≡ Some reader
+-- The first of these readers gives the ciphertext tree from now on.
+pub record FirstGives (old : List ReaderState) (live taken : List ℕ) (new : List ReaderState)
+    : Type 0 where
   pub next : ℕ
-  pub first : slice_get (without reader live) 0 ≡ Some next
+  pub first : slice_get live 0 ≡ Some next
+  pub r : ReaderState
+  pub at : slice_get old next ≡ Some r
   pub s : ReaderState
-  pub at : slice_get old next ≡ Some s
-  pub new_is : new ≡ slice_set (slice_set old reader (stopped r)) next (giving s taken)
+  pub gives : Gives r taken s
+  pub new_is : new ≡ slice_set old next s
 
--- The reader at a position ends: nothing waits of it. Where it gave the ciphertext tree, the first
--- that is left gives it, if there is one.
+-- so does the first of them, where there is one
+abbrev pub GivesFirst : List ReaderState → List ℕ → List ℕ → List ReaderState → Type 0
+GivesFirst old live taken new = ((live ≡ []) × (new ≡ old)) ⊎ FirstGives old live taken new
+
+-- The reader at a position is not read any more. Where it gave the ciphertext tree, the first that
+-- is left gives it, if there is one.
+abbrev pub Leaves : List ReaderState → List ℕ → List ℕ → ℕ → List ReaderState → Type 0
+Leaves old live taken reader new = ((slice_get live 0 ≢ Some reader) × (new ≡ old))
+    ⊎ ((slice_get live 0 ≡ Some reader) × GivesFirst old (without reader live) taken new)
+
+-- so it is, and nothing waits of it
 pub record EndsReader (old : List ReaderState) (live : List ℕ) (taken : List ℕ) (reader : ℕ)
     (new : List ReaderState) : Type 0 where
   pub r : ReaderState
   pub there : slice_get old reader ≡ Some r
-  pub then : ((new ≡ slice_set old reader (stopped r)) × ((slice_get live 0 ≢ Some reader)
-      ⊎ (slice_get (without reader live) 0 ≡ None)))
-      ⊎ GivesNext old live taken reader r new
+  pub leaves : Leaves (slice_set old reader (stopped r)) live taken reader new
 
--- the pieces of the ciphertext tree that are taken, with this part
-abbrev pub taken_with : List ℕ → Part → List ℕ
-taken_with taken (CiphertextTree p) = piece_passed taken p
-taken_with taken part = taken
+-- The reader at a position is read, behind the others. Where it is alone it gives the ciphertext
+-- tree.
+abbrev pub Resumes : List ReaderState → List ℕ → List ℕ → ℕ → List ReaderState → Type 0
+Resumes old live taken reader new =
+    ((live ≢ []) × (new ≡ old))
+    ⊎ ((live ≡ []) × GivesFirst old (reader ∷ []) taken new)
 
--- where the part is a piece of the ciphertext tree, its nodes are known
-abbrev pub KnowsPart : Geometry → ℕ → ℕ → PartialState → Part → Type 0
-KnowsPart g a b tree (CiphertextTree p) = KnowsPiece g a b tree p
-KnowsPart g a b tree part = Unit {0}
+-- Where the part is a piece of the ciphertext tree, its nodes are known, and it is taken; or it was
+-- taken before, of another reader.
+abbrev pub PassesPart : Geometry → ℕ → ℕ → PartialState → Part → List ℕ → List ℕ → Type 0
+PassesPart g a b tree (CiphertextTree p) taken new =
+    ((p.index < cursor_at taken p.level) × (new ≡ taken))
+    ⊎ ((cursor_at taken p.level ≤ p.index) × (new ≡ piece_passed taken p) × KnowsPiece g a b tree p)
+PassesPart g a b tree part taken new = new ≡ taken
 
 -- the answers that a supply holds, with this part at this position
 abbrev pub held_with : List ℕ → Part → ℕ → List ℕ
@@ -203,7 +226,7 @@ pub record TakesPart (h : HandoutState) (r : ReaderState) (taken : List ℕ) (a 
   pub grow : TreesGrow h.trees h'.trees
   pub stays : (number : ℕ) → is_some (known_at h.trees.ciphertext number) ≡ true
       → is_some (known_at h'.trees.ciphertext number) ≡ true
-  pub known : KnowsPart h.geometry a b h'.trees.ciphertext part
+  pub passes : PassesPart h.geometry a b h'.trees.ciphertext part taken taken'
   pub server : r'.server ≡ r.server
   pub share : r'.share ≡ r.share
   pub waiting : r'.waiting ≡ drop 1 r.waiting
@@ -215,7 +238,6 @@ pub record TakesPart (h : HandoutState) (r : ReaderState) (taken : List ℕ) (a 
   }
   pub tree : TreeStays r.supply.tree r'.supply.tree
   pub root : TellsRoot h'.trees.shares r.share r'.supply.tree
-  pub taken_is : taken' ≡ taken_with taken part
 
 -- why no segment is made of these readers' blocks
 pub data LacksSome (h : HandoutState) (readers : List ReaderState) (live : List ℕ) (number : ℕ)

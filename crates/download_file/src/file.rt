@@ -1,37 +1,29 @@
 //! The file of a download whose extension block is accepted.
 
-ghost use Rattle.std.specs.Prelude.{◌≡◌, ◌≢◌, ◌⊎◌, ℕ, ◌+◌, ◌-◌, ◌<◌, ◌≤◌, ◌++◌, ◌∷◌, ◌↔◌, [], List};
-ghost use Rattle.std.specs.Prelude.{All, Err, IfOk, IsSome, IsTrue, Ok, OnErr};
-ghost use Rattle.std.specs.Prelude.{OnOk, Some, drop, false, length, map, true};
+ghost use Rattle.std.specs.Prelude.{◌≡◌, ◌≢◌, ◌↔◌, ℕ, ◌-◌, ◌<◌, ◌≤◌, ◌++◌, ◌∷◌, [], List};
+ghost use Rattle.std.specs.Prelude.{All, Err, IfOk, IsSome, IsTrue, OnErr, OnOk, Some, drop};
+ghost use Rattle.std.specs.Prelude.{length, map};
 ghost use Rattle.std.specs.List.{range_with_len};
 ghost use Rattle.request_record.specs.declared.requests.Request.{Request};
 ghost use Rattle.share_verify.specs.CapBlock.{geometry_by};
 ghost use Rattle.proved_parts.specs.Parts.{IsSegmentBy};
 ghost use Rattle.download_segments.specs.Handout.{TakesPiece};
-ghost use Rattle.download_segments.specs.NoCodeWord.{IsNoCodeWord};
 ghost use Rattle.download_file.specs.Answers.{AnswersFirst, IsMadeSegment, IsRead};
 ghost use Rattle.download_file.specs.Asked.{AsksNoMore, AsksParts, IsAskedUp};
 ghost use Rattle.download_file.specs.Changes.{HandsNothing, IsSameFile, OthersWait, StaysAskedUp};
 ghost use Rattle.download_file.specs.Changes.{StaysRead};
-ghost use Rattle.download_file.specs.Making.{AwaitsRow, CanMakeRow, CanNotGoOn, IsInconsistent};
-ghost use Rattle.download_file.specs.Making.{LacksNext, MakesNext, MakesPieces, MakesSegments};
-ghost use Rattle.download_file.specs.Making.{MustWait, RefutesReader};
 ghost use Rattle.download_file.specs.Right.{IsFile, made_end};
-ghost use Rattle.download_file.specs.State.{IsComplete, IsLive, IsReader, ReaderState};
+ghost use Rattle.download_file.specs.State.{IsComplete, IsHeard, IsLive, IsReader, ReaderState};
 ghost use Rattle.download_file.specs.State.{copies, copy, first_waiting, giver, new_file};
-ghost use Rattle.download_file.specs.State.{waiting_from};
-ghost use Rattle.download_file.specs.State.{waiting_at, without};
+ghost use Rattle.download_file.specs.State.{waiting_at, waiting_from, without};
 ghost use Rattle.download_file.specs.Taking.{IsRefused};
 
-use crate::blocks::{awaits_block, find_wrong, has_all, join_blocks};
 use crate::evidence::evidence_of;
-use crate::group::begin_group;
 use crate::reader::{Reader, begin_reader, end_reader};
-use crate::row::{are_right, has_row, join_row};
 use crate::taking::take_part;
-use crate::window::{asks_rows, last_asked, plan_of};
+use crate::window::{last_asked, plan_of};
 use download_parts::{Plan, TreeFault};
-use download_segments::{Group, Handout, Piece, make_segment, make_segments};
+use download_segments::{Group, Handout, Piece};
 use download_supply::Wanted;
 use proved_parts::EvidencePart;
 use request_record::requests::Requests;
@@ -60,14 +52,15 @@ pub enum Made {
 /// are made of their blocks.
 #[derive(Drop)]
 pub struct PartialFile {
-    alloc: Global,
-    handout: Handout,
-    plan: Plan,
+    pub(crate) alloc: Global,
+    pub(crate) handout: Handout,
+    pub(crate) plan: Plan,
     // How many pieces of each level of the ciphertext tree were taken.
-    taken: [u32; 3],
-    readers: Vec<Reader>,
-    live: Vec<usize>,
-    groups: Vec<Group>,
+    pub(crate) taken: [u32; 3],
+    pub(crate) readers: Vec<Reader>,
+    pub(crate) live: Vec<usize>,
+    pub(crate) aside: Vec<usize>,
+    pub(crate) groups: Vec<Group>,
 }
 
 impl Model for PartialFile {
@@ -78,11 +71,11 @@ impl Model for PartialFile {
     ghost Value = { FileState };
 
     ghost view = { λ f. file_state f.handout f.plan.first f.plan.end f.taken f.readers.items
-        f.live.items f.groups.items };
+        f.live.items f.aside.items f.groups.items };
 
     ghost invariant = { λ f.
         IsFile (file_state f.handout f.plan.first f.plan.end f.taken f.readers.items f.live.items
-        f.groups.items)
+        f.aside.items f.groups.items)
         × (f.plan.geometry ≡ f.handout.geometry) };
 }
 
@@ -111,6 +104,7 @@ impl PartialFile {
             taken: [0; 3],
             readers: Vec::new(alloc),
             live: Vec::new(alloc),
+            aside: Vec::new(alloc),
             groups: Vec::new(alloc),
         })
     }
@@ -131,7 +125,7 @@ impl PartialFile {
         self.handout.is_complete()
     }
 
-    /// The positions of the readers that are read, rising.
+    /// The positions of the readers that are read, first the one that is read the longest.
     pub fn live(&self) -> &[usize]
         ensures value { result.now ≡ self.now.live }
         ensures right { IsFile self.now }
@@ -143,13 +137,14 @@ impl PartialFile {
     pub fn begin(&mut self, server: NodeId, share: u8) -> Result<usize, AllocError>
         requires more { ¬ IsComplete self.old }
         requires there { share < self.old.handout.geometry.total }
-        requires unread { (reader : ℕ) → (r : ReaderState) → IsLive self.old reader
+        requires unread { (reader : ℕ) → (r : ReaderState) → IsHeard self.old reader
             → IsReader self.old reader r → r.share ≢ share }
         requires few { length self.old.live < self.old.handout.geometry.needed }
         ensures position { IfOk result (λ reader. reader ≡ length self.old.readers) }
         ensures copies { OnOk result (copies self.new
             ≡ copies self.old ++ copy server share ∷ []) }
         ensures live { OnOk result (self.new.live ≡ self.old.live ++ length self.old.readers ∷ []) }
+        ensures aside { self.new.aside ≡ self.old.aside }
         ensures waiting { (reader : ℕ) → waiting_at self.new reader ≡ waiting_at self.old reader }
         ensures asked { AsksNoMore self.old self.new }
         ensures asked_up { (reader : ℕ) → IsLive self.old reader
@@ -174,11 +169,12 @@ impl PartialFile {
         Ok(reader)
     }
 
-    /// A reader is read no more, for ever. What it was asked and has not answered does not wait any
-    /// more. What was taken of it stays.
+    /// A reader that is read or put aside is neither any more, for ever. What it was asked and has
+    /// not answered does not wait any more. What was taken of it stays.
     pub fn end(&mut self, reader: usize)
-        requires live { IsLive self.old reader }
+        requires heard { IsHeard self.old reader }
         ensures live { self.new.live ≡ without reader self.old.live }
+        ensures aside { self.new.aside ≡ without reader self.old.aside }
         ensures copies { copies self.new ≡ copies self.old }
         ensures none { waiting_at self.new reader ≡ [] }
         ensures others { OthersWait self.old reader self.new }
@@ -192,7 +188,13 @@ impl PartialFile {
         ensures same { IsSameFile self.old self.new }
         ensures right { IsFile self.new }
     {
-        end_reader(&mut self.readers, &mut self.live, &self.taken, reader);
+        end_reader(
+            &mut self.readers,
+            &mut self.live,
+            &mut self.aside,
+            &self.taken,
+            reader,
+        );
     }
 
     /// What a reader that is read is to be asked now, one part after another: the first by the
@@ -209,6 +211,7 @@ impl PartialFile {
         ensures others_asked_up { OnOk result ((other : ℕ)
             → StaysAskedUp self.old self.new other) }
         ensures live { OnOk result (self.new.live ≡ self.old.live) }
+        ensures aside { OnOk result (self.new.aside ≡ self.old.aside) }
         ensures copies { copies self.new ≡ copies self.old }
         ensures others { OthersWait self.old reader self.new }
         ensures reads { StaysRead self.old self.new }
@@ -225,7 +228,13 @@ impl PartialFile {
         match self.readers[reader].ask(self.alloc, gives, last, position) {
             Ok(wanted) => Ok(wanted),
             Err(error) => {
-                end_reader(&mut self.readers, &mut self.live, &self.taken, reader);
+                end_reader(
+                    &mut self.readers,
+                    &mut self.live,
+                    &mut self.aside,
+                    &self.taken,
+                    reader,
+                );
                 Err(error)
             }
         }
@@ -243,10 +252,10 @@ impl PartialFile {
         }
     }
 
-    /// Takes the answer to the first request that waits of a reader. The answer is refused with the
-    /// check that it does not pass; then nothing changes.
+    /// Takes the answer to the first request that waits of a reader, which is read or put aside. The
+    /// answer is refused with the check that it does not pass; then nothing changes.
     pub fn take(&mut self, reader: usize, bytes: &[u8]) -> Result<(), TreeFault>
-        requires live { IsLive self.old reader }
+        requires heard { IsHeard self.old reader }
         requires waits { IsSome (first_waiting self.old reader) }
         ensures taken { OnOk result
             (waiting_at self.new reader ≡ drop 1 (waiting_at self.old reader)) }
@@ -255,6 +264,7 @@ impl PartialFile {
             → IsRefused self.old reader bytes.now check }
         ensures unchanged { OnErr result (self.new ≡ self.old) }
         ensures live { self.new.live ≡ self.old.live }
+        ensures aside { self.new.aside ≡ self.old.aside }
         ensures copies { copies self.new ≡ copies self.old }
         ensures others { OthersWait self.old reader self.new }
         ensures asked { AsksNoMore self.old self.new }
@@ -283,170 +293,6 @@ impl PartialFile {
             bytes,
         )?;
         Ok(())
-    }
-
-    /// Makes pieces of the next segments, where all their blocks were taken and are right: of eight
-    /// side by side where eight can be made, and else of one. Where it is patient it makes none
-    /// while eight are on their way. The record is the one that the answers that were taken are in.
-    pub fn make(&mut self, requests: &Requests, patient: bool) -> Result<Made, AllocError>
-        requires reads { IsRead requests.now.entries self.old }
-        ensures ready { result ≡ Ok Made.Ready → MakesPieces requests.now.entries self.old
-            self.new }
-        // Eight are made where eight can be made.
-        ensures row { CanMakeRow requests.now.entries self.old
-            → IfOk result (λ made. (made ≡ Made.Ready)
-            × MakesSegments requests.now.entries 8 self.old self.new) }
-        ensures wrong { (reader : ℕ) → result ≡ Ok (Made.Wrong reader)
-            → RefutesReader requests.now.entries self.old reader }
-        ensures inconsistent { result ≡ Ok Made.Inconsistent
-            → IsInconsistent requests.now.entries self.new }
-        ensures no_code_word { result ≡ Ok Made.Inconsistent
-            → IsNoCodeWord self.old.handout.ueb }
-        ensures waits { result ≡ Ok Made.Waits → CanNotGoOn self.old }
-        // What is there is made at once.
-        ensures prompt { result ≡ Ok Made.Waits
-            → IsComplete self.old ⊎ MustWait patient self.old }
-        // Only where it is ready is anything handed out.
-        ensures same_handout { result ≢ Ok Made.Ready → self.new.handout ≡ self.old.handout }
-        ensures asked_up { result ≢ Ok Made.Ready → (reader : ℕ)
-            → StaysAskedUp self.old self.new reader }
-        ensures reads { IsRead requests.now.entries self.new }
-        // Nothing else changes.
-        ensures live { self.new.live ≡ self.old.live }
-        ensures readers { self.new.readers ≡ self.old.readers }
-        ensures asked { AsksNoMore self.old self.new }
-        ensures same { IsSameFile self.old self.new }
-        ensures right { IsFile self.new }
-    {
-        if self.make_row(requests)? {
-            return Ok(Made::Ready);
-        }
-        if patient && self.awaits_row() {
-            return Ok(Made::Waits);
-        }
-        self.make_next(requests)
-    }
-
-    // Makes a piece of the next segment, where all its blocks were taken and are right. The record
-    // is the one that the answers that were taken are in.
-    fn make_next(&mut self, requests: &Requests) -> Result<Made, AllocError>
-        requires reads { IsRead requests.now.entries self.old }
-        ensures ready { result ≡ Ok Made.Ready → MakesNext requests.now.entries self.old self.new }
-        ensures wrong { (reader : ℕ) → result ≡ Ok (Made.Wrong reader)
-            → RefutesReader requests.now.entries self.old reader }
-        ensures inconsistent { result ≡ Ok Made.Inconsistent
-            → IsInconsistent requests.now.entries self.new }
-        ensures no_code_word { result ≡ Ok Made.Inconsistent
-            → IsNoCodeWord self.old.handout.ueb }
-        ensures waits { result ≡ Ok Made.Waits → CanNotGoOn self.old }
-        ensures prompt { result ≡ Ok Made.Waits → IsComplete self.old ⊎ LacksNext self.old }
-        // Only where it is ready is anything handed out.
-        ensures same_handout { result ≢ Ok Made.Ready → self.new.handout ≡ self.old.handout }
-        ensures asked_up { result ≢ Ok Made.Ready → (reader : ℕ)
-            → StaysAskedUp self.old self.new reader }
-        ensures reads { IsRead requests.now.entries self.new }
-        // Nothing else changes.
-        ensures live { self.new.live ≡ self.old.live }
-        ensures readers { self.new.readers ≡ self.old.readers }
-        ensures asked { AsksNoMore self.old self.new }
-        ensures same { IsSameFile self.old self.new }
-        ensures right { IsFile self.new }
-    {
-        let Some(number) = self.handout.next() else {
-            return Ok(Made::Waits);
-        };
-        if !has_all(&self.handout, &self.readers, &self.live, number) {
-            return Ok(Made::Waits);
-        }
-        let geometry = self.plan.geometry;
-        let size = geometry.block_length(number);
-        let joined = join_blocks(
-            self.alloc,
-            requests,
-            &self.readers,
-            &self.live,
-            number,
-            size,
-        )?;
-        if let Some(wrong) = find_wrong(&self.readers, &self.live, number, &joined, size) {
-            return Ok(Made::Wrong(wrong));
-        }
-        begin_group(
-            self.alloc,
-            &mut self.groups,
-            &geometry,
-            &self.readers,
-            &self.live,
-            number,
-        )?;
-        if !make_segment(
-            self.alloc,
-            &mut self.handout,
-            &mut self.groups,
-            number,
-            &joined,
-        )? {
-            return Ok(Made::Inconsistent);
-        }
-        Ok(Made::Ready)
-    }
-
-    // Makes pieces of the next eight segments, where eight are wanted to their ends, their hashes
-    // are known, and all their blocks were taken and are right. `false` where they are not made;
-    // then, and where memory is refused, nothing is handed out. The record is the one that the
-    // answers that were taken are in.
-    fn make_row(&mut self, requests: &Requests) -> Result<bool, AllocError>
-        requires reads { IsRead requests.now.entries self.old }
-        ensures made { result ≡ Ok true → MakesSegments requests.now.entries 8 self.old self.new }
-        ensures exact { IfOk result (λ made.
-            IsTrue made ↔ CanMakeRow requests.now.entries self.old) }
-        // Only where they are made is anything handed out.
-        ensures same_handout { result ≢ Ok true → self.new.handout ≡ self.old.handout }
-        ensures asked_up { result ≢ Ok true → (reader : ℕ)
-            → StaysAskedUp self.old self.new reader }
-        ensures reads { IsRead requests.now.entries self.new }
-        // Nothing else changes.
-        ensures live { self.new.live ≡ self.old.live }
-        ensures readers { self.new.readers ≡ self.old.readers }
-        ensures asked { AsksNoMore self.old self.new }
-        ensures same { IsSameFile self.old self.new }
-        ensures right { IsFile self.new }
-    {
-        let Some(number) = self.handout.next() else {
-            return Ok(false);
-        };
-        if !has_row(&self.handout, &self.readers, &self.live, number) {
-            return Ok(false);
-        }
-        let geometry = self.plan.geometry;
-        let size = geometry.block_length(number);
-        let alloc = self.alloc;
-        let rows = join_row(alloc, requests, &self.readers, &self.live, number, size)?;
-        if !are_right(&self.readers, &self.live, number, &rows, size) {
-            return Ok(false);
-        }
-        begin_group(
-            alloc,
-            &mut self.groups,
-            &geometry,
-            &self.readers,
-            &self.live,
-            number,
-        )?;
-        make_segments(alloc, &mut self.handout, &mut self.groups, number, &rows)
-    }
-
-    // Whether eight segments are on their way, and others are asked meanwhile.
-    fn awaits_row(&self) -> bool
-        ensures awaits { IsTrue result → AwaitsRow self.now }
-        ensures right { IsFile self.now }
-    {
-        let Some(number) = self.handout.next() else {
-            return false;
-        };
-        asks_rows(&self.plan.geometry)
-            && self.handout.wants_row(number)
-            && awaits_block(&self.readers, &self.live, number + 7)
     }
 
     /// Takes the first piece, where one is ready.

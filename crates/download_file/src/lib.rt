@@ -6,11 +6,13 @@
 //! and makes the next segment where as many blocks of it as are needed were taken.
 #![tactic(auto)]
 
+mod asides;
 mod blocks;
 mod evidence;
 mod file;
 mod group;
 mod laws;
+mod making;
 mod reader;
 mod row;
 mod taking;

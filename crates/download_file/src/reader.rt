@@ -1,19 +1,19 @@
 //! A share that is read.
 
-ghost use Rattle.std.specs.Prelude.{◌≡◌, ◌<◌, ◌≤◌, ◌↔◌, ◌++◌, ℕ, [], true, false, All, Contains};
-ghost use Rattle.std.specs.Prelude.{Err, IfOk, IfSome, None, OnErr, OnOk, Some, drop, length};
-ghost use Rattle.std.specs.Prelude.{slice_get, slice_set};
+ghost use Rattle.std.specs.Prelude.{◌≡◌, ◌<◌, ◌≤◌, ◌++◌, ◌∷◌, ℕ, [], true, false, All, Contains};
+ghost use Rattle.std.specs.Prelude.{Err, IfOk, OnErr, OnOk, Some, drop, length};
+ghost use Rattle.std.specs.Prelude.{slice_get};
 ghost use Rattle.share_layout.specs.Geometry.{segment_count};
 ghost use Rattle.download_parts.specs.Plan.{IsNodePiece, length_of};
 ghost use Rattle.download_parts.specs.Trees.{IsBlockTree};
-ghost use Rattle.download_supply.specs.Asking.{IsAsked, OnlyAsks};
+ghost use Rattle.download_supply.specs.Asking.{OnlyAsks};
 ghost use Rattle.download_supply.specs.Cursors.{cursor_at};
-ghost use Rattle.download_supply.specs.Supply.{IsSupply, gives_from, new_supply};
+ghost use Rattle.download_supply.specs.Supply.{IsSupply, new_supply};
 ghost use Rattle.download_supply.specs.Taking.{IsDue, RefutesPiece, TakesPiece, holds_more};
 ghost use Rattle.download_supply.specs.Taking.{with_taken};
 ghost use Rattle.download_file.specs.State.{ReaderState, first_position, waiting_from, without};
-ghost use Rattle.download_file.specs.Steps.{Asks, AsksNoTree, CanGive, EndsReader, IsBegun};
-ghost use Rattle.download_file.specs.Steps.{giving};
+ghost use Rattle.download_file.specs.Steps.{Asks, AsksNoTree, CanGive, EndsReader, Gives};
+ghost use Rattle.download_file.specs.Steps.{GivesFirst, IsBegun, Leaves, Resumes};
 
 use download_parts::{BlockTree, NodePiece, Part, Plan, TreeFault};
 use download_supply::{Supply, Wanted};
@@ -106,19 +106,16 @@ impl Reader {
         }
     }
 
-    /// From now on it gives the ciphertext tree, from these pieces of each level on. It was asked
-    /// for none of it.
+    /// From now on it gives the ciphertext tree: from these pieces of each level on where it was
+    /// asked for none of it, and else from where it was.
     pub(crate) fn give(&mut self, taken: &[u32; 3])
-        requires none { (p : NodePiece) → ¬ IsAsked self.old.supply (Part.CiphertextTree p) }
-        requires pieces { (p : NodePiece) → p.index < cursor_at taken.now p.level
-            → IsNodePiece self.old.supply.geometry self.old.supply.start self.old.supply.end p }
-        ensures gives { self.new
-            ≡ record self.old { supply = gives_from self.old.supply taken.now } }
-        ensures asked { (part : Part)
-            → IsAsked self.new.supply part ↔ IsAsked self.old.supply part }
+        requires { CanGive self.old taken.now }
+        ensures gives { Gives self.old taken.now self.new }
         ensures right { IsSupply self.new.supply }
     {
-        self.supply.give_ciphertext(taken);
+        if self.supply.gave_none() {
+            self.supply.give_ciphertext(taken);
+        }
     }
 
     /// It is read no more.
@@ -319,50 +316,95 @@ pub(crate) fn begin_reader(
     reader
 }
 
-/// The reader at a position, which is one of those that are read, is read no more. Where it gave
-/// the ciphertext tree, the oldest that is left gives it from what was taken on.
+/// The reader at a position is read no more, and not put aside. Where it gave the ciphertext tree,
+/// the first that is left gives it from now on.
 pub(crate) fn end_reader(
+    readers: &mut Vec<Reader>,
+    live: &mut Vec<usize>,
+    aside: &mut Vec<usize>,
+    taken: &[u32; 3],
+    reader: usize,
+)
+    requires there { All (λ position. position < length readers.old.items) live.old.items }
+    requires found { reader < length readers.old.items }
+    requires gives { (position : ℕ) → (r : ReaderState) → Contains live.old.items position
+        → slice_get readers.old.items position ≡ Some r → CanGive r taken.now }
+    ensures live { live.new.items ≡ without reader live.old.items }
+    ensures aside { aside.new.items ≡ without reader aside.old.items }
+    ensures ends { EndsReader readers.old.items live.old.items taken.now reader
+        readers.new.items }
+{
+    readers[reader].stop();
+    drop_reader(aside, reader);
+    leave(readers, live, taken, reader);
+}
+
+/// The reader at a position is not one of those that are read any more. Where it gave the ciphertext
+/// tree, the first that is left gives it from now on.
+pub(crate) fn leave(
     readers: &mut Vec<Reader>,
     live: &mut Vec<usize>,
     taken: &[u32; 3],
     reader: usize,
 )
     requires there { All (λ position. position < length readers.old.items) live.old.items }
-    requires live { Contains live.old.items reader }
-    requires gives { slice_get live.old.items 0 ≡ Some reader
-        → (next : ℕ) → (r : ReaderState)
-        → slice_get (without reader live.old.items) 0 ≡ Some next
-        → slice_get readers.old.items next ≡ Some r → CanGive r taken.now }
+    requires gives { (position : ℕ) → (r : ReaderState)
+        → Contains (without reader live.old.items) position
+        → slice_get readers.old.items position ≡ Some r → CanGive r taken.now }
     ensures live { live.new.items ≡ without reader live.old.items }
-    ensures ends { EndsReader readers.old.items live.old.items taken.now reader
-        readers.new.items }
+    ensures leaves { Leaves readers.old.items live.old.items taken.now reader readers.new.items }
 {
     let gave = live.first().copied() == Some(reader);
-    readers[reader].stop();
     drop_reader(live, reader);
     if gave {
-        give_next(readers, live.first().copied(), taken);
+        give_first(readers, live, taken);
     }
 }
 
-// The reader at a position is not listed any more.
-fn drop_reader(live: &mut Vec<usize>, reader: usize)
-    ensures { live.new.items ≡ without reader live.old.items }
+/// The reader at a position, which is put aside, is read again, behind the others. Where there is no
+/// other it gives the ciphertext tree. Where memory is refused nothing changes.
+pub(crate) fn resume_reader(
+    readers: &mut Vec<Reader>,
+    live: &mut Vec<usize>,
+    aside: &mut Vec<usize>,
+    taken: &[u32; 3],
+    reader: usize,
+) -> Result<(), AllocError>
+    requires there { reader < length readers.old.items }
+    requires gives { (r : ReaderState) → slice_get readers.old.items reader ≡ Some r
+        → CanGive r taken.now }
+    ensures live { OnOk result (live.new.items ≡ live.old.items ++ reader ∷ []) }
+    ensures aside { OnOk result (aside.new.items ≡ without reader aside.old.items) }
+    ensures resumes { OnOk result (Resumes readers.old.items live.old.items taken.now reader
+        readers.new.items) }
+    ensures same_live { OnErr result (live.new.items ≡ live.old.items) }
+    ensures same_aside { OnErr result (aside.new.items ≡ aside.old.items) }
+    ensures unchanged { OnErr result (readers.new.items ≡ readers.old.items) }
 {
-    live.retain(|position| !(*position == reader));
+    let alone = live.is_empty();
+    live.push(reader)?;
+    drop_reader(aside, reader);
+    if alone {
+        give_first(readers, &[reader], taken);
+    }
+    Ok(())
 }
 
-// The reader at this position, where there is one, gives the ciphertext tree from now on.
-fn give_next(readers: &mut Vec<Reader>, next: Option<usize>, taken: &[u32; 3])
-    requires there { IfSome next (λ position. position < length readers.old.items) }
-    requires gives { (position : ℕ) → (r : ReaderState) → next ≡ Some position
-        → slice_get readers.old.items position ≡ Some r → CanGive r taken.now }
-    ensures gives { (position : ℕ) → (r : ReaderState) → next ≡ Some position
-        → slice_get readers.old.items position ≡ Some r
-        → readers.new.items ≡ slice_set readers.old.items position (giving r taken.now) }
-    ensures none { next ≡ None → readers.new.items ≡ readers.old.items }
+// The reader at a position is not listed any more.
+fn drop_reader(listed: &mut Vec<usize>, reader: usize)
+    ensures { listed.new.items ≡ without reader listed.old.items }
 {
-    if let Some(position) = next {
+    listed.retain(|position| !(*position == reader));
+}
+
+// The first of these readers, where there is one, gives the ciphertext tree from now on.
+fn give_first(readers: &mut Vec<Reader>, live: &[usize], taken: &[u32; 3])
+    requires there { All (λ position. position < length readers.old.items) live.now }
+    requires gives { (position : ℕ) → (r : ReaderState) → Contains live.now position
+        → slice_get readers.old.items position ≡ Some r → CanGive r taken.now }
+    ensures { GivesFirst readers.old.items live.now taken.now readers.new.items }
+{
+    if let Some(position) = live.first().copied() {
         readers[position].give(taken);
     }
 }

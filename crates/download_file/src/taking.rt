@@ -1,6 +1,9 @@
 //! Parts of shares that are taken.
 
-ghost use Rattle.std.specs.Prelude.{◌≡◌, ℕ, Err, List, OnErr, OnOk, length};
+ghost use Rattle.std.specs.Prelude.{◌≡◌, ◌↔◌, ◌<◌, ℕ, Err, IsTrue, List, OnErr, OnOk, drop, length};
+ghost use Rattle.download_supply.specs.Cursors.{cursor_at};
+ghost use Rattle.download_supply.specs.Supply.{IsSupply};
+ghost use Rattle.download_supply.specs.Taking.{IsDue, with_taken};
 ghost use Rattle.download_file.specs.Steps.{IsTaker, TakesPart};
 ghost use Rattle.download_file.specs.Taking.{RefutesPart};
 
@@ -124,11 +127,36 @@ fn take_ciphertext(
     ensures pieces { OnErr result (taken.new ≡ taken.old) }
 {
     let _ = first;
+    // Another reader gave it, where this one was put aside.
+    if was_taken(taken, piece) {
+        pass_over(reader, piece);
+        return Ok(());
+    }
     let nodes = plan.nodes(piece);
     handout.take_nodes(&nodes, bytes)?;
     reader.take_ciphertext(piece);
     taken[piece.level as usize] = piece.index + 1;
     Ok(())
+}
+
+// Whether this piece of the ciphertext tree was taken.
+fn was_taken(taken: &[u32; 3], piece: &NodePiece) -> bool
+    requires { piece.now.level < 3 }
+    ensures { IsTrue result ↔ (piece.now.index < cursor_at taken.now piece.now.level) }
+{
+    piece.index < taken[piece.level as usize]
+}
+
+// A piece of the ciphertext tree that another reader gave is passed over.
+fn pass_over(reader: &mut Reader, piece: &NodePiece)
+    requires { IsDue reader.old.supply (Part.CiphertextTree piece.now) }
+    ensures taken { reader.new ≡ record reader.old {
+      supply = with_taken reader.old.supply (Part.CiphertextTree piece.now);
+      waiting = drop 1 reader.old.waiting;
+    } }
+    ensures right { IsSupply reader.new.supply }
+{
+    reader.take_ciphertext(piece);
 }
 
 // Takes a piece of the data.

@@ -67,6 +67,14 @@ impl Supply {
         }
     }
 
+    /// Whether it was asked for nothing of the ciphertext tree.
+    pub fn gave_none(&self) -> bool
+        ensures value { IsTrue result ↔ (self.now.asked.ciphertext_tree ≡ self.now.given) }
+        ensures right { IsSupply self.now }
+    {
+        self.asked.ciphertext_tree == self.given
+    }
+
     /// From now on it gives the ciphertext tree, from these pieces of each level on. It was asked
     /// for none of it.
     pub fn give_ciphertext(&mut self, taken: &[u32; 3])

@@ -19,7 +19,7 @@ use download_core::Download;
 use grid_faults::Fault;
 use grid_rules::ByteRange;
 use grid_rules::becoming::fault_of_download;
-use grid_servers::{FIRST_SESSION, FolderGrid};
+use grid_servers::{FIRST_SESSION, FolderGrid, pieces_at_once};
 use grid_telling::{Failure, Progress};
 use local_grid::Outside;
 use std::alloc::Global;
@@ -210,7 +210,17 @@ where
         let session = self.session;
         self.session = session.saturating_add(1);
         let now = self.nodes.clock();
-        let download = begin_download(self.alloc, cap, from, to, servers, session, now)?;
+        let pressing = pieces_at_once(&self.nodes) > 1;
+        let download = begin_download(
+            self.alloc,
+            pressing,
+            cap,
+            from,
+            to,
+            servers,
+            session,
+            now,
+        )?;
         let mut watch = Watching::new(&mut *progress);
         let carried = carry_download(self.alloc, &mut self.nodes, download, from, out, &mut watch);
         self.conclude(servers, &carried, progress)
@@ -300,9 +310,11 @@ fn span_end(from: u64, to: u64) -> u64
     to.min(next)
 }
 
-// The download of a span, from these servers, which are distinct.
+// The download of a span, from these servers, which are distinct. Where a server is elsewhere it is
+// pressing: it does not wait for shares whose servers are late.
 fn begin_download(
     alloc: Global,
+    pressing: bool,
     cap: &ReadCap,
     from: u64,
     to: u64,
@@ -313,5 +325,9 @@ fn begin_download(
     requires { IsDistinct nat_eq servers.now }
     ensures { IfOk result (Begins cap.now from to servers.now session now) }
 {
+    if pressing {
+        return Download::start_pressing(alloc, *cap, from, to, servers, session, now)
+            .map_err(fault_of_download);
+    }
     Download::start(alloc, *cap, from, to, servers, session, now).map_err(fault_of_download)
 }

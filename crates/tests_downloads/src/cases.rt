@@ -11,6 +11,8 @@ pub(crate) struct Case {
     // The bytes of the file from one offset to before another.
     pub(crate) from: u64,
     pub(crate) to: u64,
+    // Are shares of late servers put aside?
+    pub(crate) pressing: bool,
     pub(crate) wanted: Wanted,
 }
 
@@ -46,6 +48,10 @@ pub(crate) enum Wrong {
     Nothing,
     // From this server on up to that one, none answers once so many answers were given there.
     Silent(NodeId, NodeId, usize),
+    // This server answers so many times at once, and after that so many seconds late.
+    Late(NodeId, usize, u64),
+    // So does the first, and the second not at all any more.
+    LateAndSilent(NodeId, NodeId, usize, u64),
     // With the share that stands here.
     Share(usize, Fault),
 }
@@ -75,6 +81,8 @@ pub(crate) struct Wanted {
     pub(crate) parts: usize,
     // What is blamed, in order.
     pub(crate) blamed: &'static [Blame],
+    // Within how many seconds it ends.
+    pub(crate) seconds: u64,
     pub(crate) reads: Reads,
     pub(crate) pieces: Pieces,
 }

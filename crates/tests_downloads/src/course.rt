@@ -55,7 +55,23 @@ pub(crate) fn ends_so(alloc: Global, case: &Case, kept: &mut Vec<Option<Evidence
 
 // Does it end so at these servers? A download is alive in here alone.
 fn ends_at(alloc: Global, grid: &Grid, case: &Case, kept: &mut Vec<Option<Evidence>>) -> bool {
+    if case.pressing {
+        return ends_pressing(alloc, grid, case, kept);
+    }
     match Download::start(alloc, grid.cap, case.from, case.to, &SERVERS, 7, 0) {
+        Ok(mut download) => runs_so(alloc, &mut download, grid, case, kept),
+        Err(_) => false,
+    }
+}
+
+// So it does where shares of late servers are put aside.
+fn ends_pressing(
+    alloc: Global,
+    grid: &Grid,
+    case: &Case,
+    kept: &mut Vec<Option<Evidence>>,
+) -> bool {
+    match Download::start_pressing(alloc, grid.cap, case.from, case.to, &SERVERS, 7, 0) {
         Ok(mut download) => runs_so(alloc, &mut download, grid, case, kept),
         Err(_) => false,
     }
@@ -71,6 +87,7 @@ fn runs_so(
     let mut site = Site::new(alloc, case.wrong);
     let mut taken = Taken::new(alloc, case.from);
     run(download, grid, &mut site, &mut taken)
+        && site.now <= case.wanted.seconds
         && site.has_read(&case.wanted.reads)
         && taken.is(&case.wanted)
         && ended(download, &case.wanted)
@@ -93,22 +110,39 @@ fn run(download: &mut Download, grid: &Grid, site: &mut Site, taken: &mut Taken)
 }
 
 // The next message goes to its server, and the answer comes back. Where there is none five seconds
-// pass.
+// pass, and what is late comes.
 fn turn(download: &mut Download, grid: &Grid, site: &mut Site) -> bool {
     let Ok(sent) = download.take_outgoing(site.alloc) else {
         return false;
     };
     let Some((node, request)) = sent else {
         site.now = site.now.saturating_add(5);
-        return download.tick(site.now).is_ok();
+        return hear_late(download, site) && download.tick(site.now).is_ok();
     };
     if site.is_silent(node) {
         return site.note(node, &request);
     }
+    let due = site.due(node);
     match site.answer(grid, node, &request) {
-        Some(message) => download.on_message(node, message, site.now).is_ok(),
+        Some(message) if due <= site.now => {
+            download.on_message(node, message, site.now).is_ok()
+        }
+        Some(message) => site.keep(due, node, message),
         None => false,
     }
+}
+
+// The answers that were late come, as far as they are due.
+fn hear_late(download: &mut Download, site: &mut Site) -> bool {
+    for _ in 0..1000 {
+        let Some((node, message)) = site.take_due() else {
+            return true;
+        };
+        if download.on_message(node, message, site.now).is_err() {
+            return false;
+        }
+    }
+    false
 }
 
 // Takes what is handed out.

@@ -11,6 +11,8 @@ mod download_core_tests;
 #[cfg(test)]
 mod grid;
 #[cfg(test)]
+mod late_servers_tests;
+#[cfg(test)]
 mod lying_servers_tests;
 #[cfg(test)]
 mod rows_tests;

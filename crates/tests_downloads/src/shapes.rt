@@ -43,6 +43,7 @@ pub(crate) const SMALL_COMES: Wanted = Wanted {
     bytes: 30_000,
     parts: 8,
     blamed: &[],
+    seconds: u64::MAX,
     reads: Reads::Any,
     pieces: Pieces::Any,
 };
@@ -53,6 +54,7 @@ pub(crate) const ALL_OF_SMALL: Case = Case {
     wrong: Wrong::Nothing,
     from: 0,
     to: 30_000,
+    pressing: false,
     wanted: SMALL_COMES,
 };
 
@@ -62,6 +64,7 @@ pub(crate) const ALL_OF_TWO: Case = Case {
     wrong: Wrong::Nothing,
     from: 0,
     to: 131_074,
+    pressing: false,
     wanted: Wanted {
         bytes: 131_074,
         parts: 2,

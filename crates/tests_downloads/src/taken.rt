@@ -4,12 +4,14 @@ use crate::cases::{Pieces, Reads, Section, Wanted, Wrong};
 use crate::grid::Grid;
 use download_core::status::Piece;
 use std::alloc::Global;
+use std::collections::VecDeque;
 use test_shares::held::answer;
 use wire::message::{Body, Message, NodeId};
 
 // Bytes of a share that a server was asked for.
 #[derive(Clone, Copy)]
 struct Asked {
+    number: u64,
     server: NodeId,
     share: u8,
     from: u64,
@@ -25,6 +27,8 @@ pub(crate) struct Site {
     // How many answers servers gave that are silent at some time.
     answers: usize,
     asked: Vec<Asked>,
+    // The answers that are late, each with the second at which it comes and its server.
+    late: VecDeque<(u64, NodeId, Message)>,
 }
 
 impl Site {
@@ -35,6 +39,7 @@ impl Site {
             now: 0,
             answers: 0,
             asked: Vec::new(alloc),
+            late: VecDeque::new(alloc),
         }
     }
 
@@ -45,7 +50,51 @@ impl Site {
                 self.answers = self.answers.saturating_add(1);
                 most < self.answers
             }
+            Wrong::LateAndSilent(late, silent, most, _) if node == silent || node == late => {
+                self.answers = self.answers.saturating_add(1);
+                most < self.answers && node == silent
+            }
             _ => false,
+        }
+    }
+
+    // The second at which the next answer of a server comes.
+    pub(crate) fn due(&mut self, node: NodeId) -> u64 {
+        match self.wrong {
+            Wrong::Late(late, most, seconds) if node == late => {
+                self.answers = self.answers.saturating_add(1);
+                self.after(most, seconds)
+            }
+            Wrong::LateAndSilent(late, _, most, seconds) if node == late => {
+                self.after(most, seconds)
+            }
+            _ => self.now,
+        }
+    }
+
+    // So many seconds from now, where more than so many answers were given.
+    fn after(&self, most: usize, seconds: u64) -> u64 {
+        if most < self.answers {
+            self.now.saturating_add(seconds)
+        } else {
+            self.now
+        }
+    }
+
+    // An answer comes at this second. `false` where there is no memory.
+    pub(crate) fn keep(&mut self, due: u64, node: NodeId, message: Message) -> bool {
+        self.late.push_back((due, node, message)).is_ok()
+    }
+
+    // The next answer that was late and is due.
+    pub(crate) fn take_due(&mut self) -> Option<(NodeId, Message)> {
+        match self.late.front() {
+            Some(first) if first.0 <= self.now => {}
+            _ => return None,
+        }
+        match self.late.pop_front() {
+            Some((_, node, message)) => Some((node, message)),
+            None => None,
         }
     }
 
@@ -54,6 +103,7 @@ impl Site {
         match &request.body {
             Body::Read(id, offset, length) => {
                 let asked = Asked {
+                    number: request.number,
                     server,
                     share: id.share,
                     from: *offset,
@@ -91,7 +141,8 @@ impl Site {
     fn asks_twice(&self) -> bool {
         for (i, one) in self.asked.iter().enumerate() {
             for other in &self.asked[..i] {
-                if other.server == one.server
+                if other.number != one.number
+                    && other.server == one.server
                     && other.share == one.share
                     && other.shared(one.from, one.to) > 0
                 {

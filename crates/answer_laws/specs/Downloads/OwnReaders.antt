@@ -16,7 +16,7 @@ use Rattle.download_segments.specs.State.{HandoutState}
 use Rattle.download_file.specs.Answers.{IsRead}
 use Rattle.download_file.specs.Making.{RefutesReader}
 use Rattle.download_file.specs.Right.{IsFile}
-use Rattle.download_file.specs.State.{FileState, IsLive, ReaderState}
+use Rattle.download_file.specs.State.{FileState, IsHeard, ReaderState}
 use Rattle.download_file.specs.Taking.{IsRefused}
 use Rattle.answer_laws.specs.Downloads.Answers.{AnswersOwn}
 use Rattle.answer_laws.specs.Downloads.OwnParts.{HoldsLeaves}
@@ -47,7 +47,7 @@ pub record KnowsOwn (h : HandoutState) (r : ReaderState) (s : Sections)
 -- a law: own bytes of the first part that waits of a reader that is read are not refused
 abbrev pub OwnBytesAreTaken : Type 0
 OwnBytesAreTaken = (f : FileState) (reader : ℕ) (bytes : List ℕ) (check : Check) (share : List ℕ)
-    (s : Sections) (segments shares : List (List ℕ)) → IsFile f → IsLive f reader
+    (s : Sections) (segments shares : List (List ℕ)) → IsFile f → IsHeard f reader
     → (refused : IsRefused f reader bytes check)
     → IsOwnShare f.handout.geometry refused.r.share share s segments shares
     → KnowsOwn f.handout refused.r s segments shares

@@ -1,4 +1,4 @@
-use Rattle.std.proofs.Common.{◌≡◌, ◌∙◌, ℕ, List, ◌++◌, length, None, refl, sym, subst, ap, arith}
+use Rattle.std.proofs.Common.{◌≡◌, ◌∙◌, ℕ, inl, List, ◌++◌, length, None, refl, sym, subst, ap, arith}
 use Rattle.request_record.specs.Record.{RequestsState}
 use Rattle.download_shares.specs.HoldingState.{HoldingsState}
 use Rattle.std.specs.Prelude.{All, AllPairs}
@@ -44,7 +44,7 @@ index-requires c =
     let r : ReadingState = seen c.self.inside in
     let reading : AreLinked bs r = subst (AreLinked bs) (sym c.self.view_is) c.requires.reading.linked in
     let live : IsLive r.file c.args.reader = subst (λ (x : ReadingState). IsLive x.file c.args.reader) (sym c.self.view_is) c.requires.live in
-    (let k = reading.live c.args.reader live in let w = slice_get_within r.holdings c.args.reader k.holding k.of in let o = c.self.inside.holdings.ok.0 in omega (arith, w, o))
+    (let k = reading.live c.args.reader (inl live) in let w = slice_get_within r.holdings c.args.reader k.holding k.of in let o = c.self.inside.holdings.ok.0 in omega (arith, w, o))
 
 pub ask_parts-requires-clause-there : goal.ask_parts-requires-clause-there
 ask_parts-requires-clause-there c =
@@ -52,8 +52,8 @@ ask_parts-requires-clause-there c =
     let r : ReadingState = seen c.self.inside in
     let reading : AreLinked bs r = subst (AreLinked bs) (sym c.self.view_is) c.requires.reading.linked in
     let live : IsLive r.file c.args.reader = subst (λ (x : ReadingState). IsLive x.file c.args.reader) (sym c.self.view_is) c.requires.live in
-    let of : IsOf r c.args.reader c.index.result.now = got r.holdings c.args.reader c.index.result.now (let k = reading.live c.args.reader live in slice_get_within r.holdings c.args.reader k.holding k.of) c.index.ensures in
-    let h = held_is bs r c.wanted.new.self c.args.reader c.index.result.now c.in_ok-wanted.wanted.items reading live of c.in_ok-wanted.ensures.asks in
+    let of : IsOf r c.args.reader c.index.result.now = got r.holdings c.args.reader c.index.result.now (let k = reading.live c.args.reader (inl live) in slice_get_within r.holdings c.args.reader k.holding k.of) c.index.ensures in
+    let h = held_is bs r c.wanted.new.self c.args.reader c.index.result.now c.in_ok-wanted.wanted.items reading (inl live) of c.in_ok-wanted.ensures.asks in
     slice_get_within bs.holdings.table.holdings c.index.result.now _ h
 
 pub ask_parts-requires-clause-apart : goal.ask_parts-requires-clause-apart
@@ -66,9 +66,9 @@ ask_parts-requires-clause-fresh c =
     let r : ReadingState = seen c.self.inside in
     let reading : AreLinked bs r = subst (AreLinked bs) (sym c.self.view_is) c.requires.reading.linked in
     let live : IsLive r.file c.args.reader = subst (λ (x : ReadingState). IsLive x.file c.args.reader) (sym c.self.view_is) c.requires.live in
-    let of : IsOf r c.args.reader c.index.result.now = got r.holdings c.args.reader c.index.result.now (let k = reading.live c.args.reader live in slice_get_within r.holdings c.args.reader k.holding k.of) c.index.ensures in
+    let of : IsOf r c.args.reader c.index.result.now = got r.holdings c.args.reader c.index.result.now (let k = reading.live c.args.reader (inl live) in slice_get_within r.holdings c.args.reader k.holding k.of) c.index.ensures in
     subst (λ (l : List Wanted). All (λ (w : Wanted). IsUnasked bs.holdings c.index.result.now w.read.offset w.read.length) l) (sym c.deref.ensures.value)
-    (parts_unasked bs r c.wanted.new.self c.args.reader c.index.result.now c.in_ok-wanted.wanted.items reading live of c.in_ok-wanted.ensures.asks)
+    (parts_unasked bs r c.wanted.new.self c.args.reader c.index.result.now c.in_ok-wanted.wanted.items reading (inl live) of c.in_ok-wanted.ensures.asks)
 
 pub returns-clause-reading : goal.returns-clause-reading
 returns-clause-reading c =
@@ -76,7 +76,7 @@ returns-clause-reading c =
     let r : ReadingState = seen c.self.inside in
     let reading : AreLinked bs r = subst (AreLinked bs) (sym c.self.view_is) c.requires.reading.linked in
     let live : IsLive r.file c.args.reader = subst (λ (x : ReadingState). IsLive x.file c.args.reader) (sym c.self.view_is) c.requires.live in
-    let of : IsOf r c.args.reader c.index.result.now = got r.holdings c.args.reader c.index.result.now (let k = reading.live c.args.reader live in slice_get_within r.holdings c.args.reader k.holding k.of) c.index.ensures in
+    let of : IsOf r c.args.reader c.index.result.now = got r.holdings c.args.reader c.index.result.now (let k = reading.live c.args.reader (inl live) in slice_get_within r.holdings c.args.reader k.holding k.of) c.index.ensures in
     let q : ReadingState = reading_state c.wanted.new.self c.self.inside.holdings.items in
     let f = c.wanted.new.self in
     let t = c.ask_parts.new.beginnings in
@@ -87,8 +87,8 @@ returns-clause-reading c =
     (λ done.
     let asks = subst (λ (l : List Wanted). steps.AsksParts c.index.result.now l bs t) c.deref.ensures.value done in
     record {
-      linked = asked_reading bs r f c.args.reader c.index.result.now c.in_ok-wanted.wanted.items reading live of k.asks t asks c.ask_parts.ensures.grows k.right reads_keep k.reads k.live k.copies k.same.geometry;
-      awaits = asked_awaits bs t r f c.args.reader c.index.result.now c.in_ok-wanted.wanted.items before.awaits of asks c.ask_parts.ensures.goes k.live
+      linked = asked_reading bs r f c.args.reader c.index.result.now c.in_ok-wanted.wanted.items reading (inl live) of k.asks t asks c.ask_parts.ensures.grows k.right reads_keep k.reads k.live k.aside k.copies k.same.geometry;
+      awaits = asked_awaits bs t r f c.args.reader c.index.result.now c.in_ok-wanted.wanted.items before.awaits of asks c.ask_parts.ensures.goes k.live k.aside
           (subst (λ n. waiting_at f c.args.reader ≡ waiting_at r.file c.args.reader ++ waiting_from n c.in_ok-wanted.wanted.items) position k.waits) k.others;
       busy = busy_file None t r q refl (busy_goes bs t r before.busy asks.table asks.begun c.ask_parts.ensures.goes);
     })

@@ -9,7 +9,7 @@ use Rattle.download_core.proofs.Ended.{continues_none, continues_trans}
 use Rattle.download_core.proofs.file_reading.FileReading.ask_all.Goals as goal
 
 pub loop-i-init : goal.loop-i-init
-loop-i-init c = record { reading = c.requires.reading; live = refl; continues = continues_none c.args.beginnings.now c.args.self.now; asked_up = λ q k. absurd (Contains-nil q k); blamed = refl; handout = refl; table = refl }
+loop-i-init c = record { reading = c.requires.reading; live = refl; aside = refl; continues = continues_none c.args.beginnings.now c.args.self.now; asked_up = λ q k. absurd (Contains-nil q k); blamed = refl; handout = refl; table = refl }
 
 pub ask-requires-clause-live : goal.ask-requires-clause-live
 ask-requires-clause-live c =
@@ -26,6 +26,7 @@ pub loop-i-preserved : goal.loop-i-preserved
 loop-i-preserved c = record {
   reading = c.in_ok-ask.ensures.reading;
   live = c.in_ok-ask.ensures.live ∙ c.loop-i.invariant.live;
+  aside = c.in_ok-ask.ensures.aside ∙ c.loop-i.invariant.aside;
   continues = continues_trans c.args.beginnings.now c.loop-i.beginnings c.ask.new.beginnings c.args.self.now c.loop-i.self c.ask.new.self c.loop-i.invariant.continues c.in_ok-ask.ensures.continues;
   asked_up = λ q among. (
       let list : c.live.result.now ≡ c.loop-i.self.file.live = c.live.ensures.value ∙ ap (λ (x : ReadingState). x.file.live) c.self-in-loop-i.view_is in

@@ -9,6 +9,7 @@ abbrev pub invariant-loop-i : goal.invariant-loop-i
 invariant-loop-i l = record {
   reading : AreReading l.beginnings l.self;
   live : l.self.file.live ≡ l.initial.self.file.live;
+  aside : l.self.file.aside ≡ l.initial.self.file.aside;
   continues : Continues l.initial.beginnings l.initial.self l.beginnings l.self;
   asked_up : (reader : ℕ) → Contains (take l.i l.self.file.live) reader → IsAskedUp l.self.file reader;
   blamed : l.beginnings.holdings.blamed ≡ l.initial.beginnings.holdings.blamed;

@@ -95,8 +95,8 @@ returns-clause-reading c =
     subst (λ (l : List ℕ). AreReading t (reading_state c.begin.new.self l)) (sym c.in_ok-push.ensures.items)
     (record {
       linked = begun_reading bs t r c.begin.new.self c.args.holding h before.linked c.requires.free.1 c.requires.free.2 c.in_ok-reader.reader k.position
-          (k.copies ∙ ap (λ (x : Holding). copies r.file ++ copy x.server x.share ∷ []) held) k.live k.asked k.reads k.right k.same.geometry c.begin_reader.ensures.known is;
-      awaits = begun_awaits bs t r c.begin.new.self c.args.holding before.linked before.awaits (ap (λ (x : HoldingsState). x.requests) is.holdings) is.takes.2 k.live k.waiting;
+          (k.copies ∙ ap (λ (x : Holding). copies r.file ++ copy x.server x.share ∷ []) held) k.live k.aside k.asked k.reads k.right k.same.geometry c.begin_reader.ensures.known is;
+      awaits = begun_awaits bs t r c.begin.new.self c.args.holding before.linked before.awaits (ap (λ (x : HoldingsState). x.requests) is.holdings) is.takes.2 k.live k.aside k.waiting;
       busy = busy_begun bs t r (reading_state c.begin.new.self (r.holdings ++ c.args.holding ∷ [])) c.args.holding c.in_ok-reader.reader before.busy is (k.position ∙ sym before.linked.kept.linked) refl;
     })
 

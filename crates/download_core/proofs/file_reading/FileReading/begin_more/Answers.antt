@@ -15,8 +15,8 @@ returns-in_default-clause-enough c = inr (subst (λ (x : HoldingsState). NoneIsF
 
 pub loop-self-smaller : goal.loop-self-smaller
 loop-self-smaller c =
-    let same = ap (λ (h : HandoutState). h.geometry.needed) c.in_ok-begin.ensures.handout in
-    let more = c.in_ok-begin.ensures.live in
+    let same = ap (λ (h : HandoutState). h.geometry.needed) c.in_ok-begin_one.ensures.handout in
+    let more = c.in_ok-begin_one.ensures.live in
     let live = ap length (c.live.ensures.value ∙ ap (λ (x : ReadingState). x.file.live) c.self.view_is) in
     let needed = c.needed.ensures.value ∙ ap (λ (g : Geometry). g.needed) (c.geometry.ensures.value ∙ ap (λ (x : ReadingState). x.file.handout.geometry) c.self.view_is) in
     let wide = c.from.ensures in
@@ -25,12 +25,12 @@ loop-self-smaller c =
 
 pub loop-self-preserved : goal.loop-self-preserved
 loop-self-preserved c = record {
-  reading = c.in_ok-begin.ensures.reading;
-  handout = c.in_ok-begin.ensures.handout ∙ c.loop-self.invariant.handout;
-  blamed = c.in_ok-begin.ensures.blamed ∙ c.loop-self.invariant.blamed;
-  held = c.in_ok-begin.ensures.held ∙ c.loop-self.invariant.held;
-  continues = continues_trans c.args.beginnings.now c.loop-self.beginnings c.begin.new.beginnings c.args.self.now c.loop-self.self c.begin.new.self c.loop-self.invariant.continues c.in_ok-begin.ensures.continues;
+  reading = c.in_ok-begin_one.ensures.reading;
+  handout = c.in_ok-begin_one.ensures.handout ∙ c.loop-self.invariant.handout;
+  blamed = c.in_ok-begin_one.ensures.blamed ∙ c.loop-self.invariant.blamed;
+  held = c.in_ok-begin_one.ensures.held ∙ c.loop-self.invariant.held;
+  continues = continues_trans c.args.beginnings.now c.loop-self.beginnings c.begin_one.new.beginnings c.args.self.now c.loop-self.self c.begin_one.new.self c.loop-self.invariant.continues c.in_ok-begin_one.ensures.continues;
 }
 
-pub returns-in_err-begin-clause-continues : goal.returns-in_err-begin-clause-continues
-returns-in_err-begin-clause-continues c = continues_trans c.args.beginnings.now c.loop-self.beginnings c.begin.new.beginnings c.args.self.now c.loop-self.self c.begin.new.self c.loop-self.invariant.continues c.in_err-begin.ensures.continues
+pub returns-in_err-begin_one-clause-continues : goal.returns-in_err-begin_one-clause-continues
+returns-in_err-begin_one-clause-continues c = continues_trans c.args.beginnings.now c.loop-self.beginnings c.begin_one.new.beginnings c.args.self.now c.loop-self.self c.begin_one.new.self c.loop-self.invariant.continues c.in_err-begin_one.ensures.continues

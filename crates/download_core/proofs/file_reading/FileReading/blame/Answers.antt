@@ -7,7 +7,7 @@ use Rattle.std.proofs.lemmas.Option.{slice_get_within}
 use Rattle.lemmas.proofs.Positions.{got}
 use Rattle.lemmas.proofs.Options.{one_there}
 use Rattle.download_shares.specs.BeginningState.{BeginningsState}
-use Rattle.download_file.specs.State.{IsLive}
+use Rattle.download_file.specs.State.{IsHeard}
 use Rattle.download_core.specs.Reading.{AreLinked}
 use Rattle.download_core.specs.ReadingState.{ReadingState}
 use Rattle.download_core.specs.ReadingSteps.{Continues}
@@ -19,7 +19,7 @@ use Rattle.download_core.proofs.Fields.{seen}
 use Rattle.download_core.proofs.file_reading.FileReading.blame.Goals as goal
 
 -- the reader's holding is there
-there : (bs : BeginningsState) (now r : ReadingState) (reader holding : ℕ) → r ≡ now → AreLinked bs now → IsLive now.file reader → holding ≡ get_or r.holdings reader holding → holding < length bs.holdings.table.holdings
+there : (bs : BeginningsState) (now r : ReadingState) (reader holding : ℕ) → r ≡ now → AreLinked bs now → IsHeard now.file reader → holding ≡ get_or r.holdings reader holding → holding < length bs.holdings.table.holdings
 there bs now r reader holding e reading live index =
     let o : OwnHolding bs r reader = subst (λ (x : ReadingState). OwnHolding bs x reader) (sym e) (own_holding bs now reader reading.kept live) in
     let one : o.holding ≡ holding = one_there (slice_get r.holdings reader) o.holding holding o.of (got r.holdings reader holding (slice_get_within r.holdings reader o.holding o.of) index) in

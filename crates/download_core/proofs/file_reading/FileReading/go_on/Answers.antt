@@ -38,7 +38,7 @@ returns-clause-stuck c e =
     let a = c.in_ok-ask_all.ensures in
     let b = c.in_ok-begin_more.ensures in
     let start : c.ask_all.new.self.file.handout ≡ c.args.self.now.file.handout = a.handout ∙ b.handout in
-    stuck c.begin_more.new.beginnings c.ask_all.new.beginnings c.make.new.beginnings c.begin_more.new.self c.ask_all.new.self c.make.new.self b.enough a.table a.live a.handout a.asked_up
+    stuck c.begin_more.new.beginnings c.ask_all.new.beginnings c.make.new.beginnings c.begin_more.new.self c.ask_all.new.self c.make.new.self b.enough a.table a.live a.aside a.handout a.asked_up
     (λ complete. c.requires.more (sym (ap (λ (h : HandoutState). h.reached) start) ∙ complete ∙ ap (λ (h : HandoutState). h.to) start))
     (m.still e) (m.handout made_as.Waits e (λ f. cc)) (m.waits e)
 

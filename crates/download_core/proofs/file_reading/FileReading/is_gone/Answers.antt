@@ -7,7 +7,7 @@ use Rattle.lemmas.proofs.Options.{one_there}
 use Rattle.download_shares.specs.HoldingState.{HoldingsState}
 use Rattle.download_shares.specs.declared.holding.Holding.{Holding}
 use Rattle.download_shares.specs.BeginningState.{BeginningsState}
-use Rattle.download_file.specs.State.{IsLive}
+use Rattle.download_file.specs.State.{IsHeard}
 use Rattle.download_core.specs.Reading.{AreKept, IsGone}
 use Rattle.download_core.specs.ReadingState.{ReadingState}
 use Rattle.download_core.proofs.Ended.{OwnHolding, own_holding}
@@ -18,7 +18,7 @@ abbrev nobody : Holding
 nobody = record { server = 0; share = 0; left = false; suspended = false }
 
 -- the holding that the code looks at
-own : (bs : BeginningsState) (now r : ReadingState) (reader : ℕ) → r ≡ now → AreKept bs now → IsLive now.file reader → OwnHolding bs r reader
+own : (bs : BeginningsState) (now r : ReadingState) (reader : ℕ) → r ≡ now → AreKept bs now → IsHeard now.file reader → OwnHolding bs r reader
 own bs now r reader e kept live = subst (λ (x : ReadingState). OwnHolding bs x reader) (sym e) (own_holding bs now reader kept live)
 
 pub index-requires : goal.index-requires

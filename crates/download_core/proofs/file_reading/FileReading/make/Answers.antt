@@ -1,7 +1,7 @@
 use Rattle.download_shares.proofs.Caused.{adds_none}
 use Rattle.download_core.specs.ReadingCauses.{IsBlockFault}
 use Rattle.download_core.proofs.Causes.{made_causes}
-use Rattle.std.proofs.Common.{◌≡◌, ◌⊎◌, ◌∙◌, ℕ, ◌<◌, List, Contains, Ok, Err, Some, refl, sym, subst, ap}
+use Rattle.std.proofs.Common.{◌≡◌, ◌⊎◌, ◌∙◌, inl, ℕ, ◌<◌, List, Contains, Ok, Err, Some, refl, sym, subst, ap}
 use Rattle.std.specs.Prelude.{Result}
 use Rattle.std.specs.declared.alloc.AllocError.{AllocError}
 use Rattle.download_shares.specs.HoldingState.{HoldingsState}
@@ -55,7 +55,7 @@ returns-in_err-made-clause-continues c =
     let f = c.make.new.self in
     let read = read_in bs c.holdings.result.now c.requests.result.now f c.requests.ensures.value c.holdings.ensures k.reads in
     subst (λ (x : ReadingState). Continues bs x bs (reading_state f c.self.inside.holdings.items)) c.self.view_is
-    (made_continues bs r f before.linked k.live k.readers k.asked read k.right k.same (pieces_made c.requests.result.now.entries r.file f c.make.result before.linked.kept.right.handout k.ready k.same_handout))
+    (made_continues bs r f before.linked k.live k.aside k.readers k.asked read k.right k.same (pieces_made c.requests.result.now.entries r.file f c.make.result before.linked.kept.right.handout k.ready k.same_handout))
 
 pub blame-requires-clause-reading : goal.blame-requires-clause-reading
 blame-requires-clause-reading c =
@@ -65,13 +65,13 @@ blame-requires-clause-reading c =
     let k = c.make.ensures in
     let f = c.make.new.self in
     let read = read_in bs c.holdings.result.now c.requests.result.now f c.requests.ensures.value c.holdings.ensures k.reads in
-    reading_less (Some c.in-Wrong.reader) bs (reading_state f c.self.inside.holdings.items) (all_made bs r f before k.live k.readers k.asked read k.right k.same)
+    reading_less (Some c.in-Wrong.reader) bs (reading_state f c.self.inside.holdings.items) (all_made bs r f before k.live k.aside k.readers k.asked read k.right k.same)
 
 pub blame-requires-clause-live : goal.blame-requires-clause-live
 blame-requires-clause-live c =
     let k = c.make.ensures in
     let wrong = k.wrong c.in-Wrong.reader (c.in_ok-made.was ∙ ap Ok c.in-Wrong.is) in
-    subst (λ (l : List ℕ). Contains l c.in-Wrong.reader) (sym k.live) wrong.live
+    inl (subst (λ (l : List ℕ). Contains l c.in-Wrong.reader) (sym k.live) wrong.live)
 
 pub returns-in_ok-blame-in-Wrong-clause-continues : goal.returns-in_ok-blame-in-Wrong-clause-continues
 returns-in_ok-blame-in-Wrong-clause-continues c =
@@ -83,7 +83,7 @@ returns-in_ok-blame-in-Wrong-clause-continues c =
     let read = read_in bs c.holdings.result.now c.requests.result.now f c.requests.ensures.value c.holdings.ensures k.reads in
     let q : ReadingState = reading_state f c.self.inside.holdings.items in
     let first : Continues bs c.args.self.now bs q = subst (λ (x : ReadingState). Continues bs x bs q) c.self.view_is
-    (made_continues bs r f before.linked k.live k.readers k.asked read k.right k.same (pieces_made c.requests.result.now.entries r.file f c.make.result before.linked.kept.right.handout k.ready k.same_handout)) in
+    (made_continues bs r f before.linked k.live k.aside k.readers k.asked read k.right k.same (pieces_made c.requests.result.now.entries r.file f c.make.result before.linked.kept.right.handout k.ready k.same_handout)) in
     continues_trans bs bs c.blame.new.beginnings c.args.self.now q c.blame.new.self first c.in_ok-blame-in-Wrong.ensures.continues
 
 pub returns-in_err-blame-in-Wrong-clause-continues : goal.returns-in_err-blame-in-Wrong-clause-continues
@@ -96,7 +96,7 @@ returns-in_err-blame-in-Wrong-clause-continues c =
     let read = read_in bs c.holdings.result.now c.requests.result.now f c.requests.ensures.value c.holdings.ensures k.reads in
     let q : ReadingState = reading_state f c.self.inside.holdings.items in
     let first : Continues bs c.args.self.now bs q = subst (λ (x : ReadingState). Continues bs x bs q) c.self.view_is
-    (made_continues bs r f before.linked k.live k.readers k.asked read k.right k.same (pieces_made c.requests.result.now.entries r.file f c.make.result before.linked.kept.right.handout k.ready k.same_handout)) in
+    (made_continues bs r f before.linked k.live k.aside k.readers k.asked read k.right k.same (pieces_made c.requests.result.now.entries r.file f c.make.result before.linked.kept.right.handout k.ready k.same_handout)) in
     continues_trans bs bs c.blame.new.beginnings c.args.self.now q c.blame.new.self first c.in_err-blame-in-Wrong.ensures.continues
 
 pub returns-in_default : goal.returns-in_default
@@ -109,9 +109,9 @@ returns-in_default c =
     let q : ReadingState = reading_state f c.self.inside.holdings.items in
     let read = read_in bs c.holdings.result.now c.requests.result.now f c.requests.ensures.value c.holdings.ensures k.reads in
     record {
-      reading = all_made bs r f before k.live k.readers k.asked read k.right k.same;
+      reading = all_made bs r f before k.live k.aside k.readers k.asked read k.right k.same;
       continues = subst (λ (x : ReadingState). Continues bs x bs q) c.self.view_is
-          (made_continues bs r f before.linked k.live k.readers k.asked read k.right k.same (pieces_made c.requests.result.now.entries r.file f c.make.result before.linked.kept.right.handout k.ready k.same_handout));
+          (made_continues bs r f before.linked k.live k.aside k.readers k.asked read k.right k.same (pieces_made c.requests.result.now.entries r.file f c.make.result before.linked.kept.right.handout k.ready k.same_handout));
       causes = adds_none (IsBlockFault bs.holdings.requests.entries f) bs.holdings.blamed bs.holdings.blamed refl;
       inconsistent = λ e. inconsistent_in bs c.holdings.result.now c.requests.result.now f c.requests.ensures.value c.holdings.ensures (k.inconsistent (c.in_ok-made.was ∙ e));
       no_code_word = λ e. subst (λ (x : ReadingState). IsNoCodeWord x.file.handout.ueb) c.self.view_is (k.no_code_word (c.in_ok-made.was ∙ e));
@@ -120,6 +120,7 @@ returns-in_default c =
       still = λ e. record {
         same = refl;
         live = k.live ∙ ap (λ (x : ReadingState). x.file.live) c.self.view_is;
+        aside = k.aside ∙ ap (λ (x : ReadingState). x.file.aside) c.self.view_is;
         readers = k.readers ∙ ap (λ (x : ReadingState). x.file.readers) c.self.view_is;
       };
       handout = λ made e other. k.same_handout (λ e2. other (ok_is made made_as.Ready (sym e ∙ sym c.in_ok-made.was ∙ e2))) ∙ ap (λ (x : ReadingState). x.file.handout) c.self.view_is;
@@ -137,9 +138,9 @@ returns-in-Ready c =
     let q : ReadingState = reading_state f c.self.inside.holdings.items in
     let read = read_in bs c.holdings.result.now c.requests.result.now f c.requests.ensures.value c.holdings.ensures k.reads in
     record {
-      reading = all_made bs r f before k.live k.readers k.asked read k.right k.same;
+      reading = all_made bs r f before k.live k.aside k.readers k.asked read k.right k.same;
       continues = subst (λ (x : ReadingState). Continues bs x bs q) c.self.view_is
-          (made_continues bs r f before.linked k.live k.readers k.asked read k.right k.same (pieces_made c.requests.result.now.entries r.file f c.make.result before.linked.kept.right.handout k.ready k.same_handout));
+          (made_continues bs r f before.linked k.live k.aside k.readers k.asked read k.right k.same (pieces_made c.requests.result.now.entries r.file f c.make.result before.linked.kept.right.handout k.ready k.same_handout));
       causes = adds_none (IsBlockFault bs.holdings.requests.entries f) bs.holdings.blamed bs.holdings.blamed refl;
       inconsistent = λ e. inconsistent_in bs c.holdings.result.now c.requests.result.now f c.requests.ensures.value c.holdings.ensures (k.inconsistent (c.in_ok-made.was ∙ e));
       no_code_word = λ e. subst (λ (x : ReadingState). IsNoCodeWord x.file.handout.ueb) c.self.view_is (k.no_code_word (c.in_ok-made.was ∙ e));
@@ -148,6 +149,7 @@ returns-in-Ready c =
       still = λ e. record {
         same = refl;
         live = k.live ∙ ap (λ (x : ReadingState). x.file.live) c.self.view_is;
+        aside = k.aside ∙ ap (λ (x : ReadingState). x.file.aside) c.self.view_is;
         readers = k.readers ∙ ap (λ (x : ReadingState). x.file.readers) c.self.view_is;
       };
       handout = λ made e other. k.same_handout (λ e2. other (ok_is made made_as.Ready (sym e ∙ sym c.in_ok-made.was ∙ e2))) ∙ ap (λ (x : ReadingState). x.file.handout) c.self.view_is;

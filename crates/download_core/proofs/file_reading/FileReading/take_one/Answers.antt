@@ -14,7 +14,7 @@ use Rattle.download_shares.proofs.Opened.{goes_none}
 use Rattle.download_segments.specs.State.{HandoutState}
 use Rattle.download_file.specs.Answers.{AnswersFirst}
 use Rattle.download_file.specs.Changes.{IsSameFile}
-use Rattle.download_file.specs.State.{FileState, IsLive, first_waiting}
+use Rattle.download_file.specs.State.{FileState, IsHeard, first_waiting}
 use Rattle.download_core.specs.Reading.{AreReadingBut}
 use Rattle.download_core.specs.ReadingState.{ReadingState, reading_state}
 use Rattle.download_core.specs.ReadingSteps.{Continues}
@@ -23,13 +23,14 @@ use Rattle.download_core.proofs.Busy.{busy_file}
 use Rattle.download_core.proofs.Ended.{asks_none, continues_none}
 use Rattle.download_core.proofs.Fallen.{file_goes}
 use Rattle.download_core.proofs.Fields.{seen}
+use Rattle.download_core.proofs.Listed.{heard_same}
 use Rattle.download_core.proofs.file_reading.FileReading.take_one.Goals as goal
 
 answered_by : (bs : BeginningsState) (hs : HoldingsState) (rs : RequestsState) (position : ℕ) (bytes : List ℕ) → hs ≡ bs.holdings → rs ≡ hs.requests → IsAnsweredBy rs.entries position bytes → IsAnsweredBy bs.holdings.requests.entries position bytes
 answered_by bs hs rs position bytes e f a = subst (λ (q : RequestsState). IsAnsweredBy q.entries position bytes) (f ∙ ap (λ (x : HoldingsState). x.requests) e) a
 
 -- the bytes are what the reader's own server answered
-answers : (bs : BeginningsState) (r : ReadingState) (reader position : ℕ) (hs : HoldingsState) (rs : RequestsState) (bytes : List ℕ) → AreReadingBut (Some reader) bs r → IsLive r.file reader → first_waiting r.file reader ≡ Some position
+answers : (bs : BeginningsState) (r : ReadingState) (reader position : ℕ) (hs : HoldingsState) (rs : RequestsState) (bytes : List ℕ) → AreReadingBut (Some reader) bs r → IsHeard r.file reader → first_waiting r.file reader ≡ Some position
     → hs ≡ bs.holdings → rs ≡ hs.requests → IsAnsweredBy rs.entries position bytes → AnswersFirst bs.holdings.requests.entries r.file reader bytes
 answers bs r reader position hs rs bytes reading live waits e f a = answers_first (Some reader) bs r reader position bytes reading live waits (answered_by bs hs rs position bytes e f a)
 
@@ -58,13 +59,13 @@ returns-in-Ok-clause-next c e =
     let q : ReadingState = reading_state c.take.new.self c.self.inside.holdings.items in
     let before : AreReadingBut (Some c.args.reader) bs r = subst (AreReadingBut (Some c.args.reader) bs) (sym c.self.view_is) c.requires.reading in
     let waits : first_waiting r.file c.args.reader ≡ Some c.args.position = subst (λ (x : ReadingState). first_waiting x.file c.args.reader ≡ Some c.args.position) (sym c.self.view_is) c.requires.waits in
-    let live : IsLive r.file c.args.reader = subst (λ (x : ReadingState). IsLive x.file c.args.reader) (sym c.self.view_is) c.requires.live in
+    let live : IsHeard r.file c.args.reader = subst (λ (x : ReadingState). IsHeard x.file c.args.reader) (sym c.self.view_is) c.requires.live in
     record {
-      linked = file_goes bs r c.take.new.self before.linked c.in-Ok.ensures.live c.in-Ok.ensures.copies c.in-Ok.ensures.asked
+      linked = file_goes bs r c.take.new.self before.linked (heard_same r.file c.take.new.self c.in-Ok.ensures.live c.in-Ok.ensures.aside) (heard_same c.take.new.self r.file (sym c.in-Ok.ensures.live) (sym c.in-Ok.ensures.aside)) c.in-Ok.ensures.copies c.in-Ok.ensures.asked
           (c.in-Ok.ensures.reads bs.holdings.requests.entries before.linked.kept.answers
           (answers bs r c.args.reader c.args.position c.holdings.result.now c.requests.result.now c.in-Some.bytes.now before live waits c.holdings.ensures c.requests.ensures.value c.in-Some.ensures.some))
           c.in-Ok.ensures.right c.in-Ok.ensures.same.geometry;
-      awaits = taken_awaits bs r c.take.new.self c.args.reader before.awaits c.in-Ok.ensures.live c.in-Ok.ensures.others c.in-Ok.ensures.taken;
+      awaits = taken_awaits bs r c.take.new.self c.args.reader before.awaits c.in-Ok.ensures.live c.in-Ok.ensures.aside c.in-Ok.ensures.others c.in-Ok.ensures.taken;
       busy = busy_file None bs r q refl before.busy;
     }
 
@@ -74,7 +75,7 @@ returns-in-Ok-clause-continues c =
     let r : ReadingState = seen c.self.inside in
     let waits : first_waiting r.file c.args.reader ≡ Some c.args.position = subst (λ (x : ReadingState). first_waiting x.file c.args.reader ≡ Some c.args.position) (sym c.self.view_is) c.requires.waits in
     let before : AreReadingBut (Some c.args.reader) bs r = subst (AreReadingBut (Some c.args.reader) bs) (sym c.self.view_is) c.requires.reading in
-    let live : IsLive r.file c.args.reader = subst (λ (x : ReadingState). IsLive x.file c.args.reader) (sym c.self.view_is) c.requires.live in
+    let live : IsHeard r.file c.args.reader = subst (λ (x : ReadingState). IsHeard x.file c.args.reader) (sym c.self.view_is) c.requires.live in
     subst (λ (x : ReadingState). Continues bs x bs (reading_state c.take.new.self c.self.inside.holdings.items)) c.self.view_is
     (record {
       goes = goes_none bs bs refl refl;

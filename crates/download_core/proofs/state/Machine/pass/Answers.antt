@@ -86,3 +86,28 @@ returns-in_err-tick-clause-failed c =
     let e : t ≡ m.beginnings = c.in_err-tick.ensures.err in
     kept_fails m Running t c.requires (from_same (entries_of m) t.holdings.requests.entries (ap (λ (x : BeginningsState). x.holdings.requests.entries) e)) (ap (λ (x : BeginningsState). x.holdings.blamed) e)
     (record m { beginnings = t }) (moves_none (record m { beginnings = t }))
+
+-- ---- no memory to put a reader aside
+
+pub returns-in_err-end_lost-clause-err : goal.returns-in_err-end_lost-clause-err
+returns-in_err-end_lost-clause-err c =
+    let m = c.args.self.now in
+    let t = c.tick.new.self in
+    let n = c.end_lost.new.self in
+    let ticks = c.in_ok-tick.ensures.ok in
+    let on = c.end_lost.ensures.moves in
+    on_any c.from_residual-in_err-end_lost.result ((servers : List ℕ) → StopsAt c.args.now (state_of m servers Running) (state_of n servers Failed))
+    (λ servers. record {
+      same = same_on m n t Running Failed ticks.same.blamed (from_tick c.args.now m.beginnings.holdings.requests t.holdings.requests ticks.requests).stays c.requires.file on servers;
+      requests = inr (on.goes.asks, on.goes.requests ∙ ap (asked_all on.goes.asks) ticks.requests);
+      failed = λ running. refl;
+      ended = λ other. absurd (other refl);
+      later = plans_from (found_of n.found) (entries_of m) t.holdings.requests.entries (entries_of n) (from_tick c.args.now m.beginnings.holdings.requests t.holdings.requests ticks.requests).alike on.later;
+    })
+
+pub returns-in_err-end_lost-clause-failed : goal.returns-in_err-end_lost-clause-failed
+returns-in_err-end_lost-clause-failed c =
+    let m = c.args.self.now in
+    let t = c.tick.new.self in
+    let ticks = c.in_ok-tick.ensures.ok in
+    kept_fails m Running t c.requires (from_tick c.args.now m.beginnings.holdings.requests t.holdings.requests ticks.requests) ticks.same.blamed c.end_lost.new.self c.end_lost.ensures.moves

@@ -5,7 +5,7 @@ use Rattle.share_layout.specs.Geometry.{Geometry}
 use Rattle.download_file.specs.Asked.{AsksNoMore}
 use Rattle.download_file.specs.Changes.{IsSameFile, StaysAskedUp, StaysRead}
 use Rattle.download_file.specs.Right.{IsFile}
-use Rattle.download_file.specs.State.{FileState, IsLive, IsReader, ReaderState, waiting_at, file_state}
+use Rattle.download_file.specs.State.{FileState, IsHeard, IsReader, ReaderState, waiting_at, file_state}
 use Rattle.download_file.specs.Steps.{IsBegun}
 use Rattle.download_file.proofs.BeginLemmas.{HasBegun, has_begun}
 use Rattle.download_file.proofs.GrowLemmas.{same_itself}
@@ -13,7 +13,7 @@ use Rattle.download_file.proofs.Fields.{seen}
 use Rattle.download_file.proofs.file.PartialFile.begin.Goals as goal
 
 abbrev then : goal.After-push_reserved → FileState
-then c = file_state c.self.inside.handout c.self.inside.plan.first c.self.inside.plan.end c.self.inside.taken c.push_reserved.new.self.items c.push.new.self.items c.self.inside.groups.items
+then c = file_state c.self.inside.handout c.self.inside.plan.first c.self.inside.plan.end c.self.inside.taken c.push_reserved.new.self.items c.push.new.self.items c.self.inside.aside.items c.self.inside.groups.items
 
 begun : (c : goal.After-push_reserved) → HasBegun c.args.self.now c.args.server c.args.share (then c)
 begun c =
@@ -21,18 +21,16 @@ begun c =
     let x : ReaderState = c.begin_reader-begun.result in
     let k : IsBegun f.handout.geometry f.first c.in-Some.next f.end c.args.server c.args.share c.is_empty-gives.result f.taken x =
     subst (λ (g : Geometry). IsBegun g f.first c.in-Some.next f.end c.args.server c.args.share c.is_empty-gives.result f.taken x) c.self.invariant.1 c.begin_reader-begun.ensures in
-    let given : f.live ≡ [] → c.is_empty-gives.result ≡ true = λ none.
-    c.is_empty-gives.ensures ∙ eq-eqb c.self.inside.live.len 0 (c.self.inside.live.ok.0 ∙ ap length none) in
     let readers : c.push_reserved.new.self.items ≡ f.readers ++ x ∷ [] = search rules in
     let live : c.push.new.self.items ≡ f.live ++ length f.readers ∷ [] = c.in_ok-push.ensures.items
     ∙ ap (λ (n : ℕ). f.live ++ n ∷ []) (c.len-reader.ensures ∙ c.self.inside.readers.ok.0) in
     subst (λ (s : FileState). HasBegun s c.args.server c.args.share (then c)) c.self.view_is
     (subst (λ (l : List ReaderState). HasBegun f c.args.server c.args.share (record f { readers = l; live = c.push.new.self.items })) (sym readers)
     (subst (λ (l : List ℕ). HasBegun f c.args.server c.args.share (record f { readers = f.readers ++ x ∷ []; live = l })) (sym live)
-    (has_begun f c.args.server c.args.share c.in-Some.next x c.is_empty-gives.result c.self.invariant.0 (sym c.in-Some.ensures.value) k given
+    (has_begun f c.args.server c.args.share c.in-Some.next x c.is_empty-gives.result c.self.invariant.0 (sym c.in-Some.ensures.value) k
     (subst (λ (s : FileState). c.args.share < s.handout.geometry.total) (sym c.self.view_is) c.requires.there)
     (subst (λ (s : FileState). length s.live < s.handout.geometry.needed) (sym c.self.view_is) c.requires.few)
-    (subst (λ (s : FileState). (reader : ℕ) (r : ReaderState) → IsLive s reader → IsReader s reader r → r.share ≢ c.args.share) (sym c.self.view_is) c.requires.unread))))
+    (subst (λ (s : FileState). (reader : ℕ) (r : ReaderState) → IsHeard s reader → IsReader s reader r → r.share ≢ c.args.share) (sym c.self.view_is) c.requires.unread))))
 
 pub invariant_of-self-2 : goal.invariant_of-self-2
 invariant_of-self-2 c = ((begun c).right, c.self.invariant.1)
@@ -62,7 +60,7 @@ on_err (Ok n) P is = tt
 on_err (Err e) P is = is
 
 abbrev unreserved_state : goal.After-drop-begun-inside-in_err-reserve-2 → FileState
-unreserved_state c = file_state c.self.inside.handout c.self.inside.plan.first c.self.inside.plan.end c.self.inside.taken c.reserve.new.self.items c.self.inside.live.items c.self.inside.groups.items
+unreserved_state c = file_state c.self.inside.handout c.self.inside.plan.first c.self.inside.plan.end c.self.inside.taken c.reserve.new.self.items c.self.inside.live.items c.self.inside.aside.items c.self.inside.groups.items
 
 unreserved : (c : goal.After-drop-begun-inside-in_err-reserve-2) → unreserved_state c ≡ c.args.self.now
 unreserved c =
@@ -98,7 +96,7 @@ pub returns-in_err-reserve-clause-right : goal.returns-in_err-reserve-clause-rig
 returns-in_err-reserve-clause-right c = subst IsFile (sym (unreserved c)) (subst IsFile c.self.view_is c.self.invariant.0)
 
 abbrev unpushed_state : goal.After-drop-begun-inside-in_err-push-3 → FileState
-unpushed_state c = file_state c.self.inside.handout c.self.inside.plan.first c.self.inside.plan.end c.self.inside.taken c.reserve.new.self.items c.push.new.self.items c.self.inside.groups.items
+unpushed_state c = file_state c.self.inside.handout c.self.inside.plan.first c.self.inside.plan.end c.self.inside.taken c.reserve.new.self.items c.push.new.self.items c.self.inside.aside.items c.self.inside.groups.items
 
 unpushed : (c : goal.After-drop-begun-inside-in_err-push-3) → unpushed_state c ≡ c.args.self.now
 unpushed c =

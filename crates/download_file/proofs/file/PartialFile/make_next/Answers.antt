@@ -227,7 +227,7 @@ make_segment-requires-clause-long c =
 -- ---- memory was refused
 
 abbrev refused : goal.After-drop-joined-in_err-make_segment → FileState
-refused c = file_state c.make_segment.new.handout c.self.inside.plan.first c.self.inside.plan.end c.self.inside.taken c.self.inside.readers.items c.self.inside.live.items c.make_segment.new.groups.items
+refused c = file_state c.make_segment.new.handout c.self.inside.plan.first c.self.inside.plan.end c.self.inside.taken c.self.inside.readers.items c.self.inside.live.items c.self.inside.aside.items c.make_segment.new.groups.items
 
 at_refusal : (c : goal.After-drop-joined-in_err-make_segment) → HasGroups c.args.requests.now.entries c.args.self.now (refused c)
 at_refusal c =
@@ -275,7 +275,7 @@ returns-in_err-make_segment-clause-right c = (at_refusal c).right
 -- ---- the segment is refuted
 
 abbrev refuted : goal.After-drop-joined-then-not-branch → FileState
-refuted c = file_state c.make_segment.new.handout c.self.inside.plan.first c.self.inside.plan.end c.self.inside.taken c.self.inside.readers.items c.self.inside.live.items c.make_segment.new.groups.items
+refuted c = file_state c.make_segment.new.handout c.self.inside.plan.first c.self.inside.plan.end c.self.inside.taken c.self.inside.readers.items c.self.inside.live.items c.self.inside.aside.items c.make_segment.new.groups.items
 
 at_refuted : (c : goal.After-drop-joined-then-not-branch) → HasGroups c.args.requests.now.entries c.args.self.now (refuted c)
 at_refuted c =
@@ -387,7 +387,7 @@ returns-then-not-branch-clause-no_code_word c = λ _.
 -- ---- a piece is made
 
 abbrev made : goal.After-drop-joined-2 → FileState
-made c = file_state c.make_segment.new.handout c.self.inside.plan.first c.self.inside.plan.end c.self.inside.taken c.self.inside.readers.items c.self.inside.live.items c.make_segment.new.groups.items
+made c = file_state c.make_segment.new.handout c.self.inside.plan.first c.self.inside.plan.end c.self.inside.taken c.self.inside.readers.items c.self.inside.live.items c.self.inside.aside.items c.make_segment.new.groups.items
 
 at_made : (c : goal.After-drop-joined-2) → HasMade c.args.requests.now.entries c.args.self.now (made c)
 at_made c =
@@ -473,6 +473,9 @@ returns-in_default-clause-reads c = c.requires.reads
 pub returns-in_default-clause-live : goal.returns-in_default-clause-live
 returns-in_default-clause-live c = refl
 
+pub returns-in_default-clause-aside : goal.returns-in_default-clause-aside
+returns-in_default-clause-aside c = refl
+
 pub returns-in_default-clause-readers : goal.returns-in_default-clause-readers
 returns-in_default-clause-readers c = refl
 
@@ -496,6 +499,9 @@ returns-then-not-has_all-clause-reads c = c.requires.reads
 
 pub returns-then-not-has_all-clause-live : goal.returns-then-not-has_all-clause-live
 returns-then-not-has_all-clause-live c = refl
+
+pub returns-then-not-has_all-clause-aside : goal.returns-then-not-has_all-clause-aside
+returns-then-not-has_all-clause-aside c = refl
 
 pub returns-then-not-has_all-clause-readers : goal.returns-then-not-has_all-clause-readers
 returns-then-not-has_all-clause-readers c = refl
@@ -521,6 +527,9 @@ returns-in_err-joined-clause-reads c = c.requires.reads
 pub returns-in_err-joined-clause-live : goal.returns-in_err-joined-clause-live
 returns-in_err-joined-clause-live c = refl
 
+pub returns-in_err-joined-clause-aside : goal.returns-in_err-joined-clause-aside
+returns-in_err-joined-clause-aside c = refl
+
 pub returns-in_err-joined-clause-readers : goal.returns-in_err-joined-clause-readers
 returns-in_err-joined-clause-readers c = refl
 
@@ -544,6 +553,9 @@ returns-in-Some-find_wrong-clause-reads c = c.requires.reads
 
 pub returns-in-Some-find_wrong-clause-live : goal.returns-in-Some-find_wrong-clause-live
 returns-in-Some-find_wrong-clause-live c = refl
+
+pub returns-in-Some-find_wrong-clause-aside : goal.returns-in-Some-find_wrong-clause-aside
+returns-in-Some-find_wrong-clause-aside c = refl
 
 pub returns-in-Some-find_wrong-clause-readers : goal.returns-in-Some-find_wrong-clause-readers
 returns-in-Some-find_wrong-clause-readers c = refl
@@ -577,6 +589,9 @@ returns-in_err-begin_group-clause-reads c =
 pub returns-in_err-begin_group-clause-live : goal.returns-in_err-begin_group-clause-live
 returns-in_err-begin_group-clause-live c = ap (λ (s : FileState). s.live) c.self.view_is
 
+pub returns-in_err-begin_group-clause-aside : goal.returns-in_err-begin_group-clause-aside
+returns-in_err-begin_group-clause-aside c = ap (λ (s : FileState). s.aside) c.self.view_is
+
 pub returns-in_err-begin_group-clause-readers : goal.returns-in_err-begin_group-clause-readers
 returns-in_err-begin_group-clause-readers c = ap (λ (s : FileState). s.readers) c.self.view_is
 
@@ -595,17 +610,26 @@ returns-in_err-begin_group-clause-right c =
 pub returns-in_err-make_segment-clause-live : goal.returns-in_err-make_segment-clause-live
 returns-in_err-make_segment-clause-live c = ap (λ (s : FileState). s.live) c.self.view_is
 
+pub returns-in_err-make_segment-clause-aside : goal.returns-in_err-make_segment-clause-aside
+returns-in_err-make_segment-clause-aside c = ap (λ (s : FileState). s.aside) c.self.view_is
+
 pub returns-in_err-make_segment-clause-readers : goal.returns-in_err-make_segment-clause-readers
 returns-in_err-make_segment-clause-readers c = ap (λ (s : FileState). s.readers) c.self.view_is
 
 pub returns-then-not-branch-clause-live : goal.returns-then-not-branch-clause-live
 returns-then-not-branch-clause-live c = ap (λ (s : FileState). s.live) c.self.view_is
 
+pub returns-then-not-branch-clause-aside : goal.returns-then-not-branch-clause-aside
+returns-then-not-branch-clause-aside c = ap (λ (s : FileState). s.aside) c.self.view_is
+
 pub returns-then-not-branch-clause-readers : goal.returns-then-not-branch-clause-readers
 returns-then-not-branch-clause-readers c = ap (λ (s : FileState). s.readers) c.self.view_is
 
 pub returns-clause-live : goal.returns-clause-live
 returns-clause-live c = ap (λ (s : FileState). s.live) c.self.view_is
+
+pub returns-clause-aside : goal.returns-clause-aside
+returns-clause-aside c = ap (λ (s : FileState). s.aside) c.self.view_is
 
 pub returns-clause-readers : goal.returns-clause-readers
 returns-clause-readers c = ap (λ (s : FileState). s.readers) c.self.view_is

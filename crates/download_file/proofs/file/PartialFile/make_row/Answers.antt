@@ -304,6 +304,9 @@ returns-in_default-clause-reads c = c.requires.reads
 pub returns-in_default-clause-live : goal.returns-in_default-clause-live
 returns-in_default-clause-live c = refl
 
+pub returns-in_default-clause-aside : goal.returns-in_default-clause-aside
+returns-in_default-clause-aside c = refl
+
 pub returns-in_default-clause-readers : goal.returns-in_default-clause-readers
 returns-in_default-clause-readers c = refl
 
@@ -327,6 +330,9 @@ returns-then-not-has_row-clause-reads c = c.requires.reads
 
 pub returns-then-not-has_row-clause-live : goal.returns-then-not-has_row-clause-live
 returns-then-not-has_row-clause-live c = refl
+
+pub returns-then-not-has_row-clause-aside : goal.returns-then-not-has_row-clause-aside
+returns-then-not-has_row-clause-aside c = refl
 
 pub returns-then-not-has_row-clause-readers : goal.returns-then-not-has_row-clause-readers
 returns-then-not-has_row-clause-readers c = refl
@@ -352,6 +358,9 @@ returns-in_err-rows-clause-reads c = c.requires.reads
 pub returns-in_err-rows-clause-live : goal.returns-in_err-rows-clause-live
 returns-in_err-rows-clause-live c = refl
 
+pub returns-in_err-rows-clause-aside : goal.returns-in_err-rows-clause-aside
+returns-in_err-rows-clause-aside c = refl
+
 pub returns-in_err-rows-clause-readers : goal.returns-in_err-rows-clause-readers
 returns-in_err-rows-clause-readers c = refl
 
@@ -375,6 +384,9 @@ returns-then-not-are_right-clause-reads c = c.requires.reads
 
 pub returns-then-not-are_right-clause-live : goal.returns-then-not-are_right-clause-live
 returns-then-not-are_right-clause-live c = refl
+
+pub returns-then-not-are_right-clause-aside : goal.returns-then-not-are_right-clause-aside
+returns-then-not-are_right-clause-aside c = refl
 
 pub returns-then-not-are_right-clause-readers : goal.returns-then-not-are_right-clause-readers
 returns-then-not-are_right-clause-readers c = refl
@@ -408,6 +420,9 @@ returns-in_err-begin_group-clause-reads c =
 pub returns-in_err-begin_group-clause-live : goal.returns-in_err-begin_group-clause-live
 returns-in_err-begin_group-clause-live c = ap (λ (s : FileState). s.live) c.self.view_is
 
+pub returns-in_err-begin_group-clause-aside : goal.returns-in_err-begin_group-clause-aside
+returns-in_err-begin_group-clause-aside c = ap (λ (s : FileState). s.aside) c.self.view_is
+
 pub returns-in_err-begin_group-clause-readers : goal.returns-in_err-begin_group-clause-readers
 returns-in_err-begin_group-clause-readers c = ap (λ (s : FileState). s.readers) c.self.view_is
 
@@ -425,6 +440,9 @@ returns-in_err-begin_group-clause-right c =
 
 pub returns-clause-live : goal.returns-clause-live
 returns-clause-live c = ap (λ (s : FileState). s.live) c.self.view_is
+
+pub returns-clause-aside : goal.returns-clause-aside
+returns-clause-aside c = ap (λ (s : FileState). s.aside) c.self.view_is
 
 pub returns-clause-readers : goal.returns-clause-readers
 returns-clause-readers c = ap (λ (s : FileState). s.readers) c.self.view_is

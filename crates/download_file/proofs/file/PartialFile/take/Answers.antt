@@ -1,17 +1,17 @@
 use Rattle.std.proofs.Common.{refl, ◌≡◌, ◌∙◌, ◌<◌, inr, ℕ, List, Err, Some, ap, subst, sym, length, slice_get, slice_set, rules}
-use Rattle.std.proofs.lemmas.List.Elements.{All-contains}
 use Rattle.lemmas.proofs.Options.{one_there}
 use Rattle.lemmas.proofs.Positions.{got}
 use Rattle.request_record.specs.declared.requests.Request.{Request}
 use Rattle.download_parts.specs.declared.error.TreeFault.TheVariants as faults
 use Rattle.download_segments.specs.State.{HandoutState}
-use Rattle.download_file.specs.State.{FileState, IsLive, ReaderState, copies, waiting_at, file_state}
+use Rattle.download_file.specs.State.{FileState, IsHeard, ReaderState, copies, waiting_at, file_state}
 use Rattle.download_file.specs.Answers.{AnswersFirst, IsRead}
 use Rattle.download_file.specs.Asked.{AsksNoMore}
 use Rattle.download_file.specs.Changes.{HandsNothing, IsSameFile, StaysAskedUp}
 use Rattle.download_file.specs.Right.{IsFile}
 use Rattle.download_file.specs.Taking.{IsRefused}
 use Rattle.download_file.proofs.GrowLemmas.{same_itself}
+use Rattle.download_file.proofs.StateLemmas.{heard_there}
 use Rattle.download_file.proofs.TakeLemmas.{HasTaken, front_is, has_taken, is_taker, same_still}
 use Rattle.download_file.proofs.Fields.{seen}
 use Rattle.download_file.proofs.file.PartialFile.take.Goals as goal
@@ -19,30 +19,30 @@ use Rattle.download_file.proofs.file.PartialFile.take.Goals as goal
 pub take_part-requires-clause-taker : goal.take_part-requires-clause-taker
 take_part-requires-clause-taker c =
     let f : FileState = seen c.self.inside in
-    let live : IsLive f c.args.reader = subst (λ (s : FileState). IsLive s c.args.reader) (sym c.self.view_is) c.requires.live in
-    let low : c.args.reader < length f.readers = All-contains (λ position. position < length f.readers) f.live c.args.reader c.self.invariant.0.live.there live in
+    let heard : IsHeard f c.args.reader = subst (λ (s : FileState). IsHeard s c.args.reader) (sym c.self.view_is) c.requires.heard in
+    let low : c.args.reader < length f.readers = heard_there f c.args.reader c.self.invariant.0 heard in
     let r : ReaderState = c.index_mut.result.now in
     let at : slice_get f.readers c.args.reader ≡ Some r = got f.readers c.args.reader r low c.index_mut.ensures.value in
     let was : c.index.result.now ≡ r = one_there (slice_get f.readers c.args.reader) c.index.result.now r (got f.readers c.args.reader c.index.result.now low c.index.ensures) at in
     let front = front_is r.waiting c.in-Some.first (sym (ap (λ (q : ReaderState). slice_get q.waiting 0) was) ∙ sym c.first.ensures ∙ c.in-Some.is) in
-    is_taker f f.handout.trees c.args.reader r r c.in-Some.first front.0 f.taken c.self.invariant.0 live at front.1
+    is_taker f f.handout.trees c.args.reader r r c.in-Some.first front.0 f.taken c.self.invariant.0 heard at front.1
 
 -- ---- it is taken
 
 abbrev then : goal.In_ok-take_part → FileState
-then c = file_state c.take_part.new.handout c.self.inside.plan.first c.self.inside.plan.end c.take_part.new.taken (slice_set c.self.inside.readers.items c.args.reader c.take_part.new.reader) c.self.inside.live.items c.self.inside.groups.items
+then c = file_state c.take_part.new.handout c.self.inside.plan.first c.self.inside.plan.end c.take_part.new.taken (slice_set c.self.inside.readers.items c.args.reader c.take_part.new.reader) c.self.inside.live.items c.self.inside.aside.items c.self.inside.groups.items
 
 taken : (c : goal.In_ok-take_part) → HasTaken c.args.self.now c.args.reader c.args.bytes.now (then c)
 taken c =
     let f : FileState = seen c.self.inside in
-    let live : IsLive f c.args.reader = subst (λ (s : FileState). IsLive s c.args.reader) (sym c.self.view_is) c.requires.live in
-    let low : c.args.reader < length f.readers = All-contains (λ position. position < length f.readers) f.live c.args.reader c.self.invariant.0.live.there live in
+    let heard : IsHeard f c.args.reader = subst (λ (s : FileState). IsHeard s c.args.reader) (sym c.self.view_is) c.requires.heard in
+    let low : c.args.reader < length f.readers = heard_there f c.args.reader c.self.invariant.0 heard in
     let r : ReaderState = c.index_mut.result.now in
     let at : slice_get f.readers c.args.reader ≡ Some r = got f.readers c.args.reader r low c.index_mut.ensures.value in
     let was : c.index.result.now ≡ r = one_there (slice_get f.readers c.args.reader) c.index.result.now r (got f.readers c.args.reader c.index.result.now low c.index.ensures) at in
     let front = front_is r.waiting c.in-Some.first (sym (ap (λ (q : ReaderState). slice_get q.waiting 0) was) ∙ sym c.first.ensures ∙ c.in-Some.is) in
     subst (λ (s : FileState). HasTaken s c.args.reader c.args.bytes.now (then c)) c.self.view_is
-    (has_taken f c.take_part.new.handout c.args.reader r c.take_part.new.reader c.in-Some.first front.0 c.take_part.new.taken c.args.bytes.now c.self.invariant.0 live at front.1
+    (has_taken f c.take_part.new.handout c.args.reader r c.take_part.new.reader c.in-Some.first front.0 c.take_part.new.taken c.args.bytes.now c.self.invariant.0 heard at front.1
     c.in_ok-take_part.ensures.taken c.if-bytes-first.false)
 
 pub invariant_of-self-2 : goal.invariant_of-self-2
@@ -72,13 +72,13 @@ returns-clause-reads c = (taken c).reads
 -- ---- it is refused
 
 abbrev still : goal.After-from_residual → FileState
-still c = file_state c.take_part.new.handout c.self.inside.plan.first c.self.inside.plan.end c.take_part.new.taken (slice_set c.self.inside.readers.items c.args.reader c.take_part.new.reader) c.self.inside.live.items c.self.inside.groups.items
+still c = file_state c.take_part.new.handout c.self.inside.plan.first c.self.inside.plan.end c.take_part.new.taken (slice_set c.self.inside.readers.items c.args.reader c.take_part.new.reader) c.self.inside.live.items c.self.inside.aside.items c.self.inside.groups.items
 
 same : (c : goal.After-from_residual) → still c ≡ c.args.self.now
 same c =
     let f : FileState = seen c.self.inside in
-    let live : IsLive f c.args.reader = subst (λ (s : FileState). IsLive s c.args.reader) (sym c.self.view_is) c.requires.live in
-    let low : c.args.reader < length f.readers = All-contains (λ position. position < length f.readers) f.live c.args.reader c.self.invariant.0.live.there live in
+    let heard : IsHeard f c.args.reader = subst (λ (s : FileState). IsHeard s c.args.reader) (sym c.self.view_is) c.requires.heard in
+    let low : c.args.reader < length f.readers = heard_there f c.args.reader c.self.invariant.0 heard in
     let r : ReaderState = c.index_mut.result.now in
     let at : slice_get f.readers c.args.reader ≡ Some r = got f.readers c.args.reader r low c.index_mut.ensures.value in
     let was : c.index.result.now ≡ r = one_there (slice_get f.readers c.args.reader) c.index.result.now r (got f.readers c.args.reader c.index.result.now low c.index.ensures) at in
@@ -109,8 +109,8 @@ returns-in_err-take_part-clause-reads c =
 pub returns-in_err-take_part-clause-refused : goal.returns-in_err-take_part-clause-refused
 returns-in_err-take_part-clause-refused c = λ check is.
     let f : FileState = seen c.self.inside in
-    let live : IsLive f c.args.reader = subst (λ (s : FileState). IsLive s c.args.reader) (sym c.self.view_is) c.requires.live in
-    let low : c.args.reader < length f.readers = All-contains (λ position. position < length f.readers) f.live c.args.reader c.self.invariant.0.live.there live in
+    let heard : IsHeard f c.args.reader = subst (λ (s : FileState). IsHeard s c.args.reader) (sym c.self.view_is) c.requires.heard in
+    let low : c.args.reader < length f.readers = heard_there f c.args.reader c.self.invariant.0 heard in
     let r : ReaderState = c.index_mut.result.now in
     let at : slice_get f.readers c.args.reader ≡ Some r = got f.readers c.args.reader r low c.index_mut.ensures.value in
     let was : c.index.result.now ≡ r = one_there (slice_get f.readers c.args.reader) c.index.result.now r (got f.readers c.args.reader c.index.result.now low c.index.ensures) at in
@@ -180,3 +180,12 @@ returns-in_err-take_part-clause-handout c = subst (HandsNothing c.args.self.now)
 
 pub returns-clause-live : goal.returns-clause-live
 returns-clause-live c = ap (λ (s : FileState). s.live) c.self.view_is
+
+pub returns-clause-aside : goal.returns-clause-aside
+returns-clause-aside c = ap (λ (s : FileState). s.aside) c.self.view_is
+
+pub returns-then-bytes-first-clause-aside : goal.returns-then-bytes-first-clause-aside
+returns-then-bytes-first-clause-aside c = refl
+
+pub returns-in_err-take_part-clause-aside : goal.returns-in_err-take_part-clause-aside
+returns-in_err-take_part-clause-aside c = ap (λ (s : FileState). s.aside) (same c)

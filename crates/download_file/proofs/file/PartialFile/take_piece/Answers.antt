@@ -6,7 +6,7 @@ use Rattle.download_file.proofs.Fields.{seen}
 use Rattle.download_file.proofs.file.PartialFile.take_piece.Goals as goal
 
 abbrev then : goal.After-take → FileState
-then c = file_state c.take.new.self c.self.inside.plan.first c.self.inside.plan.end c.self.inside.taken c.self.inside.readers.items c.self.inside.live.items c.self.inside.groups.items
+then c = file_state c.take.new.self c.self.inside.plan.first c.self.inside.plan.end c.self.inside.taken c.self.inside.readers.items c.self.inside.live.items c.self.inside.aside.items c.self.inside.groups.items
 
 taken : (c : goal.After-take) → HasPieces c.args.self.now (then c)
 taken c =

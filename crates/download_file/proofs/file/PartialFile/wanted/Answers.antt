@@ -1,31 +1,36 @@
-use Rattle.std.proofs.Common.{◌≡◌, ◌≢◌, ◌∙◌, ◌<◌, ℕ, List, true, false, Some, ap, subst, sym, length, slice_get, slice_set, arith}
+use Rattle.std.proofs.Common.{◌≡◌, ◌≢◌, ◌∙◌, ◌<◌, inl, inr, ℕ, List, true, false, Some, ap, subst, sym, length, slice_get, slice_set, arith}
 use Rattle.std.proofs.lemmas.List.{length-set}
-use Rattle.std.proofs.lemmas.List.Elements.{All-contains, All-weaker}
-use Rattle.lemmas.proofs.Positions.{get_other, got}
+use Rattle.std.proofs.lemmas.List.Elements.{All-weaker}
+use Rattle.lemmas.proofs.Positions.{got, set_cases}
+use Rattle.download_parts.specs.Plan.{IsNodePiece}
+use Rattle.download_parts.specs.declared.part.NodePiece.{NodePiece}
+use Rattle.download_supply.specs.Cursors.{cursor_at}
+use Rattle.download_supply.specs.Supply.{SupplyState}
 use Rattle.download_segments.specs.Handout.{next_segment}
-use Rattle.download_file.specs.State.{FileState, IsLive, ReaderState, giver, file_state}
-use Rattle.download_file.proofs.EndLemmas.{next_left, option_is_false, option_is_true}
+use Rattle.download_file.specs.State.{FileState, IsHeard, IsLive, ReaderState, giver, file_state, without}
+use Rattle.download_file.specs.Steps.{CanGive}
+use Rattle.download_file.proofs.EndLemmas.{option_is_true}
 use Rattle.download_file.proofs.EndFileLemmas.{HasEnded, can_give, has_ended}
+use Rattle.download_file.proofs.StateLemmas.{heard_there}
 use Rattle.download_file.proofs.WantedLemmas.{HasWanted, has_wanted}
 use Rattle.download_file.proofs.Fields.{seen}
 use Rattle.download_file.proofs.file.PartialFile.wanted.Goals as goal
 
 abbrev asked : goal.In-Ok → FileState
-asked c = file_state c.self.inside.handout c.self.inside.plan.first c.self.inside.plan.end c.self.inside.taken (slice_set c.self.inside.readers.items c.args.reader c.ask.new.self) c.self.inside.live.items c.self.inside.groups.items
+asked c = file_state c.self.inside.handout c.self.inside.plan.first c.self.inside.plan.end c.self.inside.taken (slice_set c.self.inside.readers.items c.args.reader c.ask.new.self) c.self.inside.live.items c.self.inside.aside.items c.self.inside.groups.items
 
 wanted : (c : goal.In-Ok) → HasWanted c.args.self.now c.args.reader c.args.position c.last_asked-last.result c.in-Ok.wanted.items (asked c)
 wanted c =
     let f : FileState = seen c.self.inside in
-    let live : IsLive f c.args.reader = subst (λ (s : FileState). IsLive s c.args.reader) (sym c.self.view_is) c.requires.live in
-    let low : c.args.reader < length f.readers = All-contains (λ position. position < length f.readers) f.live c.args.reader c.self.invariant.0.live.there live in
+    let heard : IsHeard f c.args.reader = inl (subst (λ (s : FileState). IsLive s c.args.reader) (sym c.self.view_is) c.requires.live) in
+    let low : c.args.reader < length f.readers = heard_there f c.args.reader c.self.invariant.0 heard in
     let r : ReaderState = c.index_mut.result.now in
     let at : slice_get f.readers c.args.reader ≡ Some r = got f.readers c.args.reader r low c.index_mut.ensures.value in
     let first_is : c.copied.result ≡ slice_get f.live 0 = c.copied.ensures ∙ c.first.ensures.value ∙ ap (λ (l : List ℕ). slice_get l 0) c.deref.ensures.value in
     let gives_yes : giver f ≡ Some c.args.reader → c.eq-gives.result ≡ true = λ e. c.eq-gives.ensures ∙ option_is_true c.copied.result c.args.reader (first_is ∙ e) in
-    let gives_no : giver f ≢ Some c.args.reader → c.eq-gives.result ≡ false = λ e. c.eq-gives.ensures ∙ option_is_false c.copied.result c.args.reader (λ k. e (sym first_is ∙ k)) in
     subst (λ (s : FileState). HasWanted s c.args.reader c.args.position c.last_asked-last.result c.in-Ok.wanted.items (asked c)) c.self.view_is
-    (has_wanted f c.args.reader r c.ask.new.self c.eq-gives.result c.last_asked-last.result c.args.position c.in-Ok.wanted.items c.self.invariant.0 live at
-    c.ask.ensures.server c.ask.ensures.share c.ask.ensures.only c.ask.ensures.right c.in-Ok.ensures.asks c.ask.ensures.none (gives_yes, gives_no) c.in-Ok.ensures.waits)
+    (has_wanted f c.args.reader r c.ask.new.self c.eq-gives.result c.last_asked-last.result c.args.position c.in-Ok.wanted.items c.self.invariant.0 heard at
+    c.ask.ensures.server c.ask.ensures.share c.ask.ensures.only c.ask.ensures.right c.in-Ok.ensures.asks gives_yes c.in-Ok.ensures.waits)
 
 pub invariant_of-self : goal.invariant_of-self
 invariant_of-self c = ((wanted c).right, c.self.invariant.1)
@@ -64,30 +69,41 @@ end_reader-requires-clause-there c =
     All-weaker (λ position. position < length c.self.inside.readers.items) (λ position. position < length (slice_set c.self.inside.readers.items c.args.reader c.ask.new.self))
     (λ position low. omega (arith, low, long)) c.self.inside.live.items c.self.invariant.0.live.there
 
-pub end_reader-requires-clause-gives : goal.end_reader-requires-clause-gives
-end_reader-requires-clause-gives c = λ gave next s first at.
+pub end_reader-requires-clause-found : goal.end_reader-requires-clause-found
+end_reader-requires-clause-found c =
     let f : FileState = seen c.self.inside in
-    let left = next_left f.live c.args.reader next first in
-    can_give f c.args.reader c.self.invariant.0 (subst (λ (s : FileState). IsLive s c.args.reader) (sym c.self.view_is) c.requires.live) gave next s first
-    (sym (get_other f.readers c.args.reader next c.ask.new.self left.1) ∙ at)
+    let long = length-set c.self.inside.readers.items c.args.reader c.ask.new.self in
+    let low = heard_there f c.args.reader c.self.invariant.0 (inl (subst (λ (s : FileState). IsLive s c.args.reader) (sym c.self.view_is) c.requires.live)) in
+    omega (arith, long, low)
+
+pub end_reader-requires-clause-gives : goal.end_reader-requires-clause-gives
+end_reader-requires-clause-gives c = λ position s among at.
+    let f : FileState = seen c.self.inside in
+    let heard : IsHeard f c.args.reader = inl (subst (λ (s : FileState). IsLive s c.args.reader) (sym c.self.view_is) c.requires.live) in
+    let low : c.args.reader < length f.readers = heard_there f c.args.reader c.self.invariant.0 heard in
+    let r : ReaderState = c.index_mut.result.now in
+    let was : slice_get f.readers c.args.reader ≡ Some r = got f.readers c.args.reader r low c.index_mut.ensures.value in
+    elim (set_cases f.readers c.args.reader position c.ask.new.self s at) [
+      | inr k ↦ can_give f position s c.self.invariant.0 k.1
+      | inl k ↦ subst (λ (q : ReaderState). CanGive q f.taken) k.1
+          (subst (λ (q : SupplyState). (p : NodePiece) → p.index < cursor_at f.taken p.level → IsNodePiece q.geometry q.start q.end p) (sym c.ask.ensures.only)
+          (can_give f c.args.reader r c.self.invariant.0 was))
+    ]
 
 abbrev then : goal.After-end_reader → FileState
-then c = file_state c.self.inside.handout c.self.inside.plan.first c.self.inside.plan.end c.self.inside.taken c.end_reader.new.readers.items c.end_reader.new.live.items c.self.inside.groups.items
+then c = file_state c.self.inside.handout c.self.inside.plan.first c.self.inside.plan.end c.self.inside.taken c.end_reader.new.readers.items c.end_reader.new.live.items c.end_reader.new.aside.items c.self.inside.groups.items
 
 ended : (c : goal.After-end_reader) → HasEnded c.args.self.now c.args.reader c.index_mut.result.now.supply c.ask.new.self.supply (then c)
 ended c =
     let f : FileState = seen c.self.inside in
-    let live : IsLive f c.args.reader = subst (λ (s : FileState). IsLive s c.args.reader) (sym c.self.view_is) c.requires.live in
-    let low : c.args.reader < length f.readers = All-contains (λ position. position < length f.readers) f.live c.args.reader c.self.invariant.0.live.there live in
+    let heard : IsHeard f c.args.reader = inl (subst (λ (s : FileState). IsLive s c.args.reader) (sym c.self.view_is) c.requires.live) in
+    let low : c.args.reader < length f.readers = heard_there f c.args.reader c.self.invariant.0 heard in
     let r : ReaderState = c.index_mut.result.now in
     let at : slice_get f.readers c.args.reader ≡ Some r = got f.readers c.args.reader r low c.index_mut.ensures.value in
-    let first_is : c.copied.result ≡ slice_get f.live 0 = c.copied.ensures ∙ c.first.ensures.value ∙ ap (λ (l : List ℕ). slice_get l 0) c.deref.ensures.value in
-    let gives_yes : giver f ≡ Some c.args.reader → c.eq-gives.result ≡ true = λ e. c.eq-gives.ensures ∙ option_is_true c.copied.result c.args.reader (first_is ∙ e) in
-    let gives_no : giver f ≢ Some c.args.reader → c.eq-gives.result ≡ false = λ e. c.eq-gives.ensures ∙ option_is_false c.copied.result c.args.reader (λ k. e (sym first_is ∙ k)) in
     subst (λ (s : FileState). HasEnded s c.args.reader r.supply c.ask.new.self.supply (then c)) c.self.view_is
-    (subst (λ (l : List ℕ). HasEnded f c.args.reader r.supply c.ask.new.self.supply (record f { readers = c.end_reader.new.readers.items; live = l })) (sym c.end_reader.ensures.live)
-    (has_ended f c.args.reader r c.ask.new.self c.end_reader.new.readers.items c.self.invariant.0 live at c.ask.ensures.server c.ask.ensures.share c.ask.ensures.only c.ask.ensures.right
-    (λ other. c.ask.ensures.none (gives_no other)) c.end_reader.ensures.ends))
+    (subst (λ (l : List ℕ). HasEnded f c.args.reader r.supply c.ask.new.self.supply (record f { readers = c.end_reader.new.readers.items; live = l; aside = c.end_reader.new.aside.items })) (sym c.end_reader.ensures.live)
+    (subst (λ (l : List ℕ). HasEnded f c.args.reader r.supply c.ask.new.self.supply (record f { readers = c.end_reader.new.readers.items; live = without c.args.reader f.live; aside = l })) (sym c.end_reader.ensures.aside)
+    (has_ended f c.args.reader c.self.invariant.0 r c.ask.new.self c.end_reader.new.readers.items at c.ask.ensures.server c.ask.ensures.share c.ask.ensures.only c.ask.ensures.right c.end_reader.ensures.ends)))
 
 pub invariant_of-self-in-Err : goal.invariant_of-self-in-Err
 invariant_of-self-in-Err c = ((ended c).right, c.self.invariant.1)
