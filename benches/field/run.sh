@@ -4,7 +4,7 @@
 set -e
 here=$(cd "$(dirname "$0")" && pwd)
 . "$here/../prepare.sh"
-prepare "gf256 zfec_code"
+prepare "zfec_code"
 echo "Encoding and decoding at 3 of 10: the time, that of the same sums one block after the other,"
 echo "and their ratio."
 rt run "$@"

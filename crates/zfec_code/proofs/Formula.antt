@@ -1,10 +1,10 @@
 -- The formula of a share's value is the value of the column's polynomial.
 use Rattle.std.proofs.Common.{◌≡◌, ℕ, ◌<◌, ◌≤◌, length, get_or, sym, ap, subst, ◌∙◌, arith}
-use Rattle.gf256.specs.Field as field
-use Rattle.gf256.specs.Field.{product, point_of}
-use Rattle.gf256.proofs.Laws.{product-lt, product_assoc, product_comm}
-use Rattle.gf256.proofs.Inverses.{product-inverse_right}
-use Rattle.gf256.proofs.FieldInverses.{inverse-is}
+use Rattle.zfec_code.specs.Field as field
+use Rattle.zfec_code.specs.Field.{product, point_of}
+use Rattle.zfec_code.proofs.Laws.{product-lt, product_assoc, product_comm}
+use Rattle.zfec_code.proofs.Inverses.{product-inverse_right}
+use Rattle.zfec_code.proofs.FieldInverses.{inverse-is}
 use Rattle.zfec_code.specs.Rows.{primary_points, product_without}
 use Rattle.zfec_code.specs.Tables.{IsCoefficient}
 use Rattle.zfec_code.specs.Shares.{IsShareValue}

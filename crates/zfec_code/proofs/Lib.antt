@@ -1,3 +1,13 @@
+pub mod Xor
+pub mod Additive
+pub mod Cases
+pub mod Laws
+pub mod TableEntries
+pub mod Inverses
+pub mod Points
+pub mod Division
+pub mod LaneLemmas
+pub mod FieldInverses
 pub mod Polynomial
 pub mod Lagrange
 pub mod ShareLemmas

@@ -2,7 +2,7 @@
 -- shares.
 use Rattle.std.specs.Prelude.{ℕ, ◌+◌, ◌*◌, List, map, slice_index}
 use Rattle.std.specs.List.{range_with_len}
-use Rattle.gf256.specs.Field.{product, inverse, point_of}
+use Rattle.zfec_code.specs.Field.{product, inverse, point_of}
 use Rattle.zfec_code.specs.Rows.{primary_points, product_without, weighted_sum}
 
 -- what primary share m counts at x: the product of (x - x_l) / (x_m - x_l) over the other primary

@@ -1,7 +1,7 @@
 -- Tables of coefficients: what a code and a decoder keep.
 use Rattle.std.specs.Prelude.{◌≡◌, ℕ, ◌+◌, ◌-◌, ◌*◌, ◌<◌, ◌≤◌, List, [], length, map, slice_index}
 use Rattle.std.specs.Prelude.{slice_index_or, All, Contains, EachIndex}
-use Rattle.gf256.specs.Field.{product, point_of}
+use Rattle.zfec_code.specs.Field.{product, point_of}
 use Rattle.zfec_code.specs.Shares.{AreParameters, evaluate}
 use Rattle.zfec_code.specs.Rows.{AreDistinct, primary_points, product_without}
 

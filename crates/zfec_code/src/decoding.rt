@@ -4,14 +4,14 @@
 ghost use Rattle.std.specs.Prelude.{◌≡◌, ℕ, ◌+◌, ◌*◌, ◌<◌, ◌≤◌, List, [], length, slice_index};
 ghost use Rattle.std.specs.Prelude.{slice_index_or, map, All, IfOk, OnOk, EachIndex, IsTrue, ◌↔◌};
 ghost use Rattle.std.specs.Prelude.{MatchBool, Contains};
-ghost use Rattle.gf256.specs.Field.{point_of};
+ghost use Rattle.zfec_code.specs.Field.{point_of};
 ghost use Rattle.zfec_code.specs.Shares.{AreSharesOf, HaveLengths, evaluate};
 ghost use Rattle.zfec_code.specs.Rows.{AreDistinct};
 ghost use Rattle.zfec_code.specs.Tables.{AreDecodingRows, IsDecodingTable, IsThrough};
 
+use crate::field::point;
 use crate::interpolation::Nodes;
 use crate::sums::{Shares, combine};
-use gf256::point;
 use std::alloc::{AllocError, Global};
 use std::marker::Model;
 

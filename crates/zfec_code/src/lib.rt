@@ -17,12 +17,15 @@ ghost use Rattle.zfec_code.specs.Rows.{AreDistinct, primary_points};
 ghost use Rattle.zfec_code.specs.Tables.{IsTable};
 
 mod decoding;
+pub mod field;
 mod interpolation;
+pub mod lanes;
 mod sums;
+mod tables;
 
 pub use decoding::Decoder;
 use decoding::{are_below, has_repeat, have_lengths, numbers_of};
-use gf256::point;
+use field::point;
 use interpolation::Nodes;
 use std::alloc::{AllocError, AllocFailed, Global};
 use std::marker::Model;

@@ -6,7 +6,7 @@ ghost use Rattle.std.specs.Prelude.{slice_index_or, EachIndex, map};
 ghost use Rattle.std.specs.List.{slice_range};
 ghost use Rattle.zfec_code.specs.Rows.{weighted_sum};
 
-use gf256::{add_mul, add_mul_three};
+use crate::lanes::{add_mul, add_mul_three};
 
 /// Blocks, each with its number.
 pub(crate) trait Blocks {

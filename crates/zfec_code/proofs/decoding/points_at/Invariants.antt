@@ -1,5 +1,5 @@
 use Rattle.std.proofs.Common.{◌≡◌, map, take}
-use Rattle.gf256.specs.Field.{point_of}
+use Rattle.zfec_code.specs.Field.{point_of}
 use Rattle.zfec_code.proofs.decoding.points_at.Given as goal
 
 abbrev pub invariant-loop-number : goal.invariant-loop-number

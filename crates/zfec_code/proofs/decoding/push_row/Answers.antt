@@ -1,6 +1,6 @@
 use Rattle.std.proofs.Common.{◌≡◌, length, map, ap, subst, ◌∙◌, arith}
 use Rattle.std.proofs.lemmas.List.{length-map}
-use Rattle.gf256.specs.Field.{point_of}
+use Rattle.zfec_code.specs.Field.{point_of}
 use Rattle.zfec_code.specs.Tables.{AppendsRow}
 use Rattle.zfec_code.proofs.RowLemmas.{AreDecodingRows-given, AreDecodingRows-more}
 use Rattle.zfec_code.proofs.ShareLists.{given_point}

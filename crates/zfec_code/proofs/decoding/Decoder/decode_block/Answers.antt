@@ -1,6 +1,6 @@
 use Rattle.std.proofs.Common.{◌≡◌, ◌<◌, ◌≤◌, ◌+◌, ◌*◌, ◌-◌, length, map, get_or, drop, ap, sym, subst, ◌∙◌, arith, mul-le-mul, below_more, length-take}
 use Rattle.std.specs.List.{slice_range}
-use Rattle.gf256.specs.Field.{point_of}
+use Rattle.zfec_code.specs.Field.{point_of}
 use Rattle.zfec_code.specs.Shares.{evaluate}
 use Rattle.zfec_code.specs.Tables.{IsThrough}
 use Rattle.zfec_code.proofs.ShareBlocks.{value_of_row}

@@ -1,5 +1,5 @@
 use Rattle.std.proofs.Common.{map, sym, subst, get_or, ◌∙◌, ap}
-use Rattle.gf256.specs.Field.{point_of}
+use Rattle.zfec_code.specs.Field.{point_of}
 use Rattle.zfec_code.specs.Rows.{AreDistinct}
 use Rattle.zfec_code.proofs.ShareLemmas.{nodes_distinct, points_are}
 use Rattle.zfec_code.proofs.decoding.Decoder.new.Goals as goal

@@ -1,2 +1,0 @@
-pub mod Field
-pub mod Nibbles
