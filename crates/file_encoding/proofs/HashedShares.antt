@@ -6,8 +6,8 @@ use Rattle.lemmas.proofs.Positions.{get_of}
 use Rattle.share_layout.specs.Geometry.{Geometry}
 use Rattle.share_layout.specs.Layout.{offsets_of}
 use Rattle.share_layout.specs.Writing.{ending}
-use Rattle.share_digests.specs.Wholes.{AreGiven, IsGivenAt}
-use Rattle.share_digests.specs.declared.wholes.WholeHashers.{WholeHashers}
+use Rattle.tagged_hash.specs.Wholes.{AreGiven, IsGivenAt}
+use Rattle.tagged_hash.specs.declared.wholes.WholeHashers.{WholeHashers}
 use Rattle.file_encoding.specs.BegunFiles.{AreBegun}
 use Rattle.file_encoding.specs.Blocks.{draft_of, finished}
 use Rattle.file_encoding.specs.Digests.{beginning_of, begun_bytes}

@@ -8,7 +8,7 @@ use Rattle.tagged_hash.specs.declared.tag.Tag.TheVariants.{Ciphertext}
 use Rattle.share_layout.specs.Geometry.{Geometry, IsGeometry}
 use Rattle.share_layout.specs.Pieces.{segments_of}
 use Rattle.share_verify.specs.Pieces.{block_hashes}
-use Rattle.share_digests.specs.Wholes.{AreGiven}
+use Rattle.tagged_hash.specs.Wholes.{AreGiven}
 use Rattle.proved_parts.specs.FileOf.{segment_hashes}
 use Rattle.file_encoding.specs.Blocks.{draft_of, padded_blocks}
 use Rattle.file_encoding.specs.Digests.{begun_bytes}

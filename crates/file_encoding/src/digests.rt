@@ -6,14 +6,13 @@ ghost use Rattle.std.specs.Int.{div_ceil};
 ghost use Rattle.sha2_lanes.specs.Lanes.{text};
 ghost use Rattle.tagged_hash.specs.TaggedHash.{share_digest, tagged_hash};
 ghost use Rattle.tagged_hash.specs.declared.tag.Tag.TheVariants.{Ciphertext};
-ghost use Rattle.share_digests.specs.Wholes.{AreGiven};
+ghost use Rattle.tagged_hash.specs.Wholes.{AreGiven};
 ghost use Rattle.file_encoding.specs.Digests.{beginning_of, begun_bytes};
 
 use crate::draft::Begun;
 use crate::share::Share;
-use share_digests::{Endings, WholeHashers, finish_digests};
 use std::alloc::{AllocError, Global};
-use tagged_hash::{Tag, TaggedHasher};
+use tagged_hash::{Endings, Tag, TaggedHasher, WholeHashers, finish_digests};
 
 /// The hash of a ciphertext, and hashers of its shares, seven by seven.
 #[derive(Drop)]

@@ -17,7 +17,7 @@ use Rattle.sources.specs.Source.{IsPass, IsRead}
 use Rattle.share_gathering.specs.Gathered.{Gathered, gathered_none, gathered_segments}
 use Rattle.share_gathering.specs.Groups.{gathered_group}
 use Rattle.share_gathering.specs.Shares.{HoldShares}
-use Rattle.share_digests.specs.Wholes.{AreGiven}
+use Rattle.tagged_hash.specs.Wholes.{AreGiven}
 use Rattle.share_gathering.specs.declared.finishing.Finished.{Finished}
 use Rattle.share_gathering.specs.declared.groups.Group.{Group}
 use Rattle.file_remaking.specs.declared.remaking.Remaking.{Remaking}

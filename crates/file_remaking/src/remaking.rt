@@ -13,14 +13,13 @@ ghost use Rattle.file_remaking.specs.Remaking.{HasMore, HoldsShares, IsGroupRema
 ghost use Rattle.file_remaking.specs.Remaking.{IsRemakingFrom};
 
 use crate::error::RemakeError;
-use share_digests::WholeHashers;
 use share_gathering::{
     Group, ShareSoFar, add_leaves, add_segments, begin_shares, begin_wholes, segments_at_once,
 };
 use share_layout::Geometry;
 use sources::{Source, read_part};
 use std::alloc::{AllocError, Global};
-use tagged_hash::Tag;
+use tagged_hash::{Tag, WholeHashers};
 use zfec_code::Code;
 
 /// What is gathered of a padded ciphertext: the leaves of the ciphertext tree, and the shares by

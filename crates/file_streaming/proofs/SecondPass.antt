@@ -26,7 +26,7 @@ use Rattle.block_making.proofs.ReadRuns.{is_read-append}
 use Rattle.share_gathering.proofs.GroupSteps.{group-end, segments-group}
 use Rattle.share_gathering.proofs.OneByOne.{ciphertext-all, gathered-encrypted, joined-pieces, leaves-all}
 use Rattle.share_gathering.specs.Shares.{HoldShares}
-use Rattle.share_digests.specs.Wholes.{AreGiven}
+use Rattle.tagged_hash.specs.Wholes.{AreGiven}
 use Rattle.share_gathering.specs.declared.groups.Group.{Group}
 use Rattle.proved_parts.specs.FileOf.{segment_hashes}
 use Rattle.block_making.proofs.MadeBlocks.{begins-before}

@@ -10,7 +10,7 @@ use Rattle.sources.specs.Source.{IsPass, IsRead}
 use Rattle.share_gathering.specs.Gathered.{Gathered, gathered, gathered_none}
 use Rattle.share_gathering.specs.Groups.{gathered_group}
 use Rattle.share_gathering.specs.Shares.{HoldShares}
-use Rattle.share_digests.specs.Wholes.{AreGiven}
+use Rattle.tagged_hash.specs.Wholes.{AreGiven}
 use Rattle.file_streaming.specs.declared.gathering.Gathering.{Gathering}
 use Rattle.share_gathering.specs.declared.groups.Group.{Group}
 

@@ -11,7 +11,7 @@ use Rattle.sources.specs.Source.{IsPass}
 use Rattle.share_gathering.specs.Gathered.{Gathered, gathered, gathered_none}
 use Rattle.share_gathering.specs.Buffers.{AreBuffers}
 use Rattle.share_gathering.specs.Shares.{HoldShares}
-use Rattle.share_digests.specs.Wholes.{AreGiven}
+use Rattle.tagged_hash.specs.Wholes.{AreGiven}
 use Rattle.file_streaming.specs.declared.passes.Passes.{Passes}
 
 -- what is gathered of a whole file under a key

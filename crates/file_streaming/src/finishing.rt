@@ -17,16 +17,15 @@ ghost use Rattle.share_gathering.specs.Finishing.{HaveLeaves};
 ghost use Rattle.file_streaming.specs.Finishing.{IsFinished};
 ghost use Rattle.share_gathering.specs.Gathered.{Gathered, IsGathered};
 ghost use Rattle.share_gathering.specs.Shares.{HoldShares};
-ghost use Rattle.share_digests.specs.Wholes.{AreGiven};
+ghost use Rattle.tagged_hash.specs.Wholes.{AreGiven};
 
 use crate::geometry::write_extension_block;
-use share_digests::WholeHashers;
 use share_gathering::{
     Behind, Finished, ShareSoFar, Trees, build_trees, digests_of, write_all_hashes,
 };
 use share_layout::Geometry;
 use std::alloc::{AllocError, Global};
-use tagged_hash::TaggedHasher;
+use tagged_hash::{TaggedHasher, WholeHashers};
 
 // What shares hold behind their blocks, by the trees of their file and the hash of its ciphertext.
 fn write_behind(

@@ -18,7 +18,6 @@ ghost use Rattle.share_gathering.specs.Groups.{gathered_group};
 use crate::error::PrepareError;
 use aes_ctr::Aes128;
 use block_making::Encoder;
-use share_digests::WholeHashers;
 use share_gathering::{
     Group, ShareSoFar, add_leaves, add_segments_beside, begin_shares, begin_wholes, file_code,
     segments_at_once,
@@ -26,7 +25,7 @@ use share_gathering::{
 use share_layout::Geometry;
 use sources::{Source, read_part};
 use std::alloc::{AllocError, Global};
-use tagged_hash::{KeyHasher, Tag, TaggedHasher};
+use tagged_hash::{KeyHasher, Tag, TaggedHasher, WholeHashers};
 use zfec_code::Code;
 
 /// What is gathered of a file: its key, the hash of its ciphertext, the leaves of the ciphertext

@@ -11,12 +11,11 @@ ghost use Rattle.file_streaming.specs.Prepared.{PassesDiffer};
 use crate::error::PrepareError;
 use crate::first_pass::read_key;
 use crate::gathering::{FileEncoder, Gathering, file_encoder, gather};
-use share_digests::WholeHashers;
 use share_gathering::{Buffers, ShareSoFar};
 use share_layout::Geometry;
 use sources::Source;
 use std::alloc::Global;
-use tagged_hash::{KeyHasher, TaggedHasher};
+use tagged_hash::{KeyHasher, TaggedHasher, WholeHashers};
 
 // The hasher of a file's key, which was given no byte yet.
 fn key_hasher(geometry: &Geometry, secret: &[u8]) -> KeyHasher

@@ -22,10 +22,10 @@ use Rattle.file_encoding.proofs.OwnBlocks.{AreCut, are_cut, div_ceil_within, len
 use Rattle.share_gathering.specs.Gathered.{Gathered}
 use Rattle.share_gathering.specs.Groups.{IsGroup, at_once, gathered_group, row_of}
 use Rattle.share_gathering.specs.Shares.{HaveBlocksMore, HaveWholesMore, HoldShares}
-use Rattle.share_digests.specs.Wholes.{AreGiven}
+use Rattle.tagged_hash.specs.Wholes.{AreGiven}
 use Rattle.share_gathering.specs.declared.groups.Group.{Group}
 use Rattle.share_gathering.specs.declared.shares.ShareSoFar.{ShareSoFar}
-use Rattle.share_digests.specs.declared.wholes.WholeHashers.{WholeHashers}
+use Rattle.tagged_hash.specs.declared.wholes.WholeHashers.{WholeHashers}
 use Rattle.share_gathering.proofs.GroupSteps.{has_first, has_offset, pieces-more}
 use Rattle.share_gathering.proofs.OneByOne.{block_leaves-all, written-all}
 use Rattle.share_gathering.proofs.ShareBlocks.{given-more}

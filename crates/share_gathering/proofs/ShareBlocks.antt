@@ -10,8 +10,8 @@ use Rattle.lemmas.proofs.Positions.{get_pushed, get_set, get_set_other}
 use Rattle.tagged_hash.specs.TaggedHash.{tagged_hash}
 use Rattle.tagged_hash.specs.declared.tag.Tag.TheVariants.{Block}
 use Rattle.share_layout.specs.Pieces.{pieces}
-use Rattle.share_digests.specs.Wholes.{AreGiven}
-use Rattle.share_digests.specs.declared.wholes.WholeHashers.{WholeHashers}
+use Rattle.tagged_hash.specs.Wholes.{AreGiven}
+use Rattle.tagged_hash.specs.declared.wholes.WholeHashers.{WholeHashers}
 use Rattle.share_gathering.specs.Gathered.{Gathered}
 use Rattle.share_gathering.specs.Shares.{HasBlocksMore, HaveBecome, HaveBlocksMore, HaveWholesMore, HoldShares}
 use Rattle.share_gathering.specs.declared.shares.ShareSoFar.{ShareSoFar}

@@ -9,8 +9,8 @@ use Rattle.share_layout.specs.Geometry.{Geometry}
 use Rattle.share_layout.specs.Pieces.{pieces}
 use Rattle.share_gathering.specs.Gathered.{Gathered}
 use Rattle.share_gathering.specs.Groups.{IsGroup, gathered_group}
-use Rattle.share_digests.specs.Wholes.{AreGiven, IsGivenAt}
-use Rattle.share_digests.specs.declared.wholes.WholeHashers.{WholeHashers}
+use Rattle.tagged_hash.specs.Wholes.{AreGiven, IsGivenAt}
+use Rattle.tagged_hash.specs.declared.wholes.WholeHashers.{WholeHashers}
 use Rattle.share_gathering.specs.declared.groups.Group.{Group}
 use Rattle.share_gathering.specs.declared.shares.ShareSoFar.{ShareSoFar}
 

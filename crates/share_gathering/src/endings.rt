@@ -11,13 +11,13 @@ ghost use Rattle.tagged_hash.specs.declared.tag.Tag.TheVariants.{WholeShare};
 ghost use Rattle.ueb.specs.Limits.{max_length};
 ghost use Rattle.share_verify.specs.Pieces.{joined};
 ghost use Rattle.share_gathering.specs.Finishing.{bytes_behind};
-ghost use Rattle.share_digests.specs.Wholes.{AreGiven, IsGivenAt};
+ghost use Rattle.tagged_hash.specs.Wholes.{AreGiven, IsGivenAt};
 
 use crate::finishing::{Behind, spelled_length};
 use merkle::Tree;
-use share_digests::{Endings, WholeHashers, finish_digests};
 use share_layout::Geometry;
 use std::alloc::{AllocError, Global};
+use tagged_hash::{Endings, WholeHashers, finish_digests};
 
 // What all shares of a file hold behind their blocks.
 #[derive(Clone, Copy)]

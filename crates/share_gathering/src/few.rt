@@ -5,16 +5,15 @@ ghost use Rattle.std.specs.Prelude.{OnOk, drop, length, slice_index_or, take};
 ghost use Rattle.sha2_lanes.specs.Lanes.{text};
 ghost use Rattle.tagged_hash.specs.TaggedHasher.{Holds};
 ghost use Rattle.tagged_hash.specs.declared.tag.Tag.{Tag};
-ghost use Rattle.share_digests.specs.Wholes.{IsGivenAt};
+ghost use Rattle.tagged_hash.specs.Wholes.{IsGivenAt};
 ghost use Rattle.share_gathering.specs.Shares.{HaveBecome, HaveBlocksMore};
 
 use crate::groups::Group;
 use crate::shares::ShareSoFar;
 use block_making::lane_of;
-use share_digests::WholeHashers;
 use share_layout::Geometry;
 use std::alloc::AllocError;
-use tagged_hash::{TaggedHasher, pieces_from};
+use tagged_hash::{TaggedHasher, WholeHashers, pieces_from};
 
 // What eight hashers begin and end with each of them hashes alone, some half a KiB: blocks that
 // are not much longer are better hashed eight of a share side by side.

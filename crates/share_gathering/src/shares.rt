@@ -16,10 +16,9 @@ ghost use Rattle.share_gathering.specs.Shares.{HaveWholesMore, HoldShares, HoldS
 use crate::few::{add_blocks, have_free_lanes};
 use crate::groups::Group;
 use block_making::{encode_lane, lane_of};
-use share_digests::WholeHashers;
 use share_layout::Geometry;
 use std::alloc::{AllocError, Global};
-use tagged_hash::{Tag, TaggedHasher, tagged_pieces};
+use tagged_hash::{Tag, TaggedHasher, WholeHashers, tagged_pieces};
 use zfec_code::Code;
 
 /// What is gathered of a share alone: the leaves of its block tree.

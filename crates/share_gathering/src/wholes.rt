@@ -2,12 +2,12 @@
 
 ghost use Rattle.std.specs.Prelude.{◌≡◌, IfOk, length};
 ghost use Rattle.std.specs.Int.{div_ceil};
-ghost use Rattle.share_digests.specs.Wholes.{AreGiven};
+ghost use Rattle.tagged_hash.specs.Wholes.{AreGiven};
 ghost use Rattle.share_gathering.specs.Gathered.{gathered_none};
 
-use share_digests::WholeHashers;
 use share_layout::Geometry;
 use std::alloc::{AllocError, Global};
+use tagged_hash::WholeHashers;
 
 /// The hashers of all shares of a file, which were given the header of each.
 pub fn begin_wholes(alloc: Global, geometry: &Geometry) -> Result<Vec<WholeHashers>, AllocError>

@@ -15,19 +15,23 @@ use input::{HashInput, first_half};
 mod convergence;
 mod decimal;
 mod eight;
+mod finishing;
 mod hasher;
 mod input;
 mod row;
 mod tag;
 mod waiting;
+mod wholes;
 
 pub use convergence::KeyHasher;
 pub use decimal::{DecimalText, read_decimal};
 pub use eight::update_eight;
+pub use finishing::{Endings, finish_digests};
 pub use hasher::TaggedHasher;
 pub use row::{WORTH_LANES, pieces_from, tagged_eight, tagged_pieces};
 pub use tag::Tag;
 pub use waiting::{WaitingHasher, hashed_eight};
+pub use wholes::{HashedBlocks, WholeHashers};
 
 /// The hash of `message` under `tag`.
 pub fn tagged(tag: Tag, message: &[u8]) -> [u8; 32]

@@ -3,18 +3,18 @@
 #![tactic(auto)]
 
 #[cfg(test)]
-#[cfg(test)]
-#[cfg(test)]
-#[cfg(test)]
-#[cfg(test)]
-#[cfg(test)]
-#[cfg(test)]
-#[cfg(test)]
 mod aes_ctr_tests;
+#[cfg(test)]
 mod field_tests;
+#[cfg(test)]
 mod merkle_tests;
+#[cfg(test)]
 mod sha256_tests;
+#[cfg(test)]
 mod sha2_lanes_tests;
+#[cfg(test)]
 mod streams_tests;
+#[cfg(test)]
 mod tagged_hash_tests;
+#[cfg(test)]
 mod zfec_code_tests;

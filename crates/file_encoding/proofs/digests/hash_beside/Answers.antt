@@ -4,8 +4,8 @@ use Rattle.std.proofs.lemmas.List.{length-drop, length_push, take-append-drop, t
 use Rattle.tagged_hash.specs.TaggedHash.{tagged_hash}
 use Rattle.tagged_hash.specs.TaggedHasher.{Holds}
 use Rattle.tagged_hash.specs.declared.tag.Tag.TheVariants.{Ciphertext}
-use Rattle.share_digests.specs.Wholes.{AreGiven, IsGivenAt}
-use Rattle.share_digests.proofs.GivenBytes.{given-push}
+use Rattle.tagged_hash.specs.Wholes.{AreGiven, IsGivenAt}
+use Rattle.tagged_hash.proofs.GivenBytes.{given-push}
 use Rattle.file_encoding.specs.Digests.{begun_bytes}
 use Rattle.file_encoding.specs.declared.draft.Begun.{Begun}
 use Rattle.file_encoding.proofs.digests.hash_beside.Goals as goal

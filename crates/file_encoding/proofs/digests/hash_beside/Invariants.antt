@@ -1,7 +1,7 @@
 use Rattle.std.proofs.Common.{◌≡◌, ◌≤◌, length, take}
 use Rattle.tagged_hash.specs.TaggedHasher.{Holds}
 use Rattle.tagged_hash.specs.declared.tag.Tag.TheVariants.{Ciphertext}
-use Rattle.share_digests.specs.Wholes.{AreGiven}
+use Rattle.tagged_hash.specs.Wholes.{AreGiven}
 use Rattle.file_encoding.specs.Digests.{begun_bytes}
 use Rattle.file_encoding.proofs.digests.hash_beside.Given as goal
 

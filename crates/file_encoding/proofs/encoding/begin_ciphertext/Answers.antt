@@ -9,7 +9,7 @@ use Rattle.share_layout.specs.Geometry.{Geometry, segment_count}
 use Rattle.share_layout.specs.Pieces.{segments_of}
 use Rattle.proved_parts.specs.FileOf.{segment_hashes}
 use Rattle.proved_parts.proofs.Files.{length-pieces}
-use Rattle.share_digests.specs.Wholes.{AreGiven}
+use Rattle.tagged_hash.specs.Wholes.{AreGiven}
 use Rattle.file_encoding.specs.BegunFiles.{AreBegun}
 use Rattle.file_encoding.specs.Digests.{begun_bytes}
 use Rattle.file_encoding.specs.Encoding.{padded_segment}

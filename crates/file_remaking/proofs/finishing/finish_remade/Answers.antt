@@ -13,7 +13,7 @@ use Rattle.file_encoding.specs.Encoding.{share_hashes}
 use Rattle.block_making.proofs.MadeBlocks.{other_hash}
 use Rattle.share_gathering.specs.Finishing.{HaveLeaves, bytes_behind}
 use Rattle.file_remaking.specs.Remaking.{IsRemaking}
-use Rattle.share_digests.specs.Wholes.{AreGiven}
+use Rattle.tagged_hash.specs.Wholes.{AreGiven}
 use Rattle.share_gathering.specs.declared.finishing.Behind.{Behind}
 use Rattle.file_remaking.specs.declared.remaking.Remaking.{Remaking}
 use Rattle.file_remaking.proofs.RemadeEnd.{all_fit, block_leaves_are, digests_are, gathered_padded, leaves_are, leaves_fit, roots_are}

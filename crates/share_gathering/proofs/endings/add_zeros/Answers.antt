@@ -1,6 +1,6 @@
 use Rattle.std.proofs.Common.{◌≡◌, ℕ, ◌+◌, ◌*◌, ◌%◌, List, ◌++◌, replicate, ap, subst, ◌∙◌, arith}
 use Rattle.std.proofs.lemmas.List.{append_assoc, replicate-append-replicate, take-replicate}
-use Rattle.share_digests.specs.Wholes.{IsGivenAt}
+use Rattle.tagged_hash.specs.Wholes.{IsGivenAt}
 use Rattle.share_gathering.proofs.endings.add_zeros.Goals as goal
 
 -- more zeros behind zeros

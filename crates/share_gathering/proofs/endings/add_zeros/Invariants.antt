@@ -1,5 +1,5 @@
 use Rattle.std.proofs.Common.{ℕ, ◌*◌, ◌<◌, List, ◌++◌, replicate}
-use Rattle.share_digests.specs.Wholes.{IsGivenAt}
+use Rattle.tagged_hash.specs.Wholes.{IsGivenAt}
 use Rattle.share_gathering.proofs.endings.add_zeros.Given as goal
 
 abbrev pub invariant-loop-part : goal.invariant-loop-part

@@ -1,7 +1,7 @@
 use Rattle.std.proofs.Common.{ℕ, ◌*◌, ◌<◌, ◌≤◌, List, ◌++◌, length, take, drop}
 use Rattle.tagged_hash.specs.TaggedHasher.{Holds}
 use Rattle.tagged_hash.specs.declared.tag.Tag.{Tag}
-use Rattle.share_digests.specs.Wholes.{IsGivenAt}
+use Rattle.tagged_hash.specs.Wholes.{IsGivenAt}
 use Rattle.share_gathering.specs.Shares.{HaveBlocksMore}
 use Rattle.share_gathering.proofs.few.add_blocks.Given as goal
 

@@ -4,7 +4,7 @@ use Rattle.std.proofs.lemmas.List.{length-set, take_all}
 use Rattle.std.proofs.lemmas.Option.{slice_get-get_or}
 use Rattle.std.proofs.lemmas.Result.{on_ok_weaker}
 use Rattle.share_layout.specs.Geometry.{Geometry, block_size}
-use Rattle.share_digests.specs.Wholes.{IsGivenAt}
+use Rattle.tagged_hash.specs.Wholes.{IsGivenAt}
 use Rattle.share_gathering.specs.Groups.{row_of}
 use Rattle.share_gathering.specs.Shares.{HaveBlocksMore, HavePieceMore}
 use Rattle.share_gathering.specs.declared.groups.Group.{Group}

@@ -7,7 +7,7 @@ use Rattle.std.specs.Int.{div_ceil}
 use Rattle.tagged_hash.specs.TaggedHasher.{Holds}
 use Rattle.share_gathering.specs.Groups.{row_of}
 use Rattle.share_gathering.specs.Shares.{HasBlocksMore, HaveBlocksMore, HavePieceMore}
-use Rattle.share_digests.specs.Wholes.{IsGivenAt}
+use Rattle.tagged_hash.specs.Wholes.{IsGivenAt}
 use Rattle.share_gathering.specs.declared.groups.Group.{Group}
 use Rattle.share_gathering.specs.declared.shares.ShareSoFar.{ShareSoFar}
 use Rattle.share_gathering.proofs.GroupSteps.{has_first, has_offset}

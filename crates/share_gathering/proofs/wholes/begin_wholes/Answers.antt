@@ -1,8 +1,8 @@
 use Rattle.std.proofs.Common.{ℕ, ◌+◌, List, [], ap, length, subst, sym, ◌∙◌, arith}
 use Rattle.std.proofs.lemmas.List.{length_push}
 use Rattle.share_layout.specs.Layout.{header}
-use Rattle.share_digests.specs.Wholes.{AreGiven, IsGivenAt}
-use Rattle.share_digests.proofs.GivenBytes.{given-push}
+use Rattle.tagged_hash.specs.Wholes.{AreGiven, IsGivenAt}
+use Rattle.tagged_hash.proofs.GivenBytes.{given-push}
 use Rattle.share_gathering.proofs.wholes.begin_wholes.Goals as goal
 
 pub loop-group-preserved : goal.loop-group-preserved

@@ -1,6 +1,6 @@
 use Rattle.std.proofs.Common.{◌≡◌, length}
 use Rattle.share_layout.specs.Layout.{header}
-use Rattle.share_digests.specs.Wholes.{AreGiven}
+use Rattle.tagged_hash.specs.Wholes.{AreGiven}
 use Rattle.share_gathering.proofs.wholes.begin_wholes.Given as goal
 
 abbrev pub invariant-loop-group : goal.invariant-loop-group

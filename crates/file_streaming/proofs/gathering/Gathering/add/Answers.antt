@@ -13,10 +13,10 @@ use Rattle.share_layout.specs.Geometry.{Geometry}
 use Rattle.share_layout.specs.Pieces.{pieces}
 use Rattle.share_gathering.specs.Groups.{gathered_group}
 use Rattle.share_gathering.specs.Shares.{HoldShares}
-use Rattle.share_digests.specs.Wholes.{AreGiven}
+use Rattle.tagged_hash.specs.Wholes.{AreGiven}
 use Rattle.share_gathering.specs.declared.groups.Group.{Group}
 use Rattle.share_gathering.specs.declared.shares.ShareSoFar.{ShareSoFar}
-use Rattle.share_digests.specs.declared.wholes.WholeHashers.{WholeHashers}
+use Rattle.tagged_hash.specs.declared.wholes.WholeHashers.{WholeHashers}
 use Rattle.share_layout.proofs.GeometryLemmas.{size_low}
 use Rattle.share_gathering.proofs.GroupSteps.{has_first, has_offset}
 use Rattle.share_gathering.proofs.Rows.{row-room}

@@ -4,7 +4,7 @@ use Rattle.merkle.specs.Tree.{tree_nodes}
 use Rattle.share_layout.specs.Geometry.{Geometry, tree_size}
 use Rattle.share_layout.specs.Layout.{spelled}
 use Rattle.share_verify.specs.Pieces.{joined}
-use Rattle.share_digests.specs.Wholes.{IsGivenAt}
+use Rattle.tagged_hash.specs.Wholes.{IsGivenAt}
 use Rattle.share_gathering.specs.declared.finishing.Behind.{Behind}
 use Rattle.share_gathering.proofs.OneByOne.{behind}
 use Rattle.share_gathering.proofs.endings.BehindBlocksEndings.give.Goals as goal

@@ -6,7 +6,7 @@ ghost use Rattle.std.specs.Int.{div_ceil};
 ghost use Rattle.std.specs.List.{range_with_len};
 ghost use Rattle.tagged_hash.specs.TaggedHash.{tagged_hash};
 ghost use Rattle.tagged_hash.specs.declared.tag.Tag.TheVariants.{WholeShare};
-ghost use Rattle.share_digests.specs.Wholes.{AreGiven, IsGivenAt};
+ghost use Rattle.tagged_hash.specs.Wholes.{AreGiven, IsGivenAt};
 
 use crate::wholes::WholeHashers;
 use std::alloc::{AllocError, Global};

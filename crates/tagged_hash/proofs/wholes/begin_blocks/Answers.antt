@@ -5,8 +5,8 @@ use Rattle.std.proofs.lemmas.Bool.{cases_eq}
 use Rattle.tagged_hash.specs.TaggedHasher.{HoldsIn}
 use Rattle.tagged_hash.specs.declared.hasher.TaggedHasher.{TaggedHasher}
 use Rattle.tagged_hash.specs.declared.tag.Tag.TheVariants.{Block}
-use Rattle.share_digests.proofs.Lanes.{placed, stays}
-use Rattle.share_digests.proofs.wholes.begin_blocks.Goals as goal
+use Rattle.tagged_hash.proofs.Lanes.{placed, stays}
+use Rattle.tagged_hash.proofs.wholes.begin_blocks.Goals as goal
 
 pub loop-lane-preserved : goal.loop-lane-preserved
 loop-lane-preserved c =

@@ -2,7 +2,7 @@
 use Rattle.std.specs.Prelude.{◌≡◌, ℕ, ◌+◌, ◌*◌, ◌<◌, List, slice_get, Some}
 use Rattle.tagged_hash.specs.TaggedHasher.{HoldsIn}
 use Rattle.tagged_hash.specs.declared.tag.Tag.TheVariants.{WholeShare}
-use Rattle.share_digests.specs.declared.wholes.WholeHashers.{WholeHashers}
+use Rattle.tagged_hash.specs.declared.wholes.WholeHashers.{WholeHashers}
 
 -- share j of seven is there, and its hasher was given these bytes
 pub record IsGivenAt (whole : WholeHashers) (j : ℕ) (given : List ℕ) : Type 0 where

@@ -1,8 +1,8 @@
 -- What the hashers of whole shares were given.
 use Rattle.std.proofs.Common.{◌≡◌, ℕ, ◌+◌, ◌*◌, ◌<◌, List, [], ◌∷◌, ◌++◌, length, inl, inr, ap, sym, subst, arith}
 use Rattle.lemmas.proofs.Positions.{get_pushed}
-use Rattle.share_digests.specs.Wholes.{AreGiven, IsGivenAt}
-use Rattle.share_digests.specs.declared.wholes.WholeHashers.{WholeHashers}
+use Rattle.tagged_hash.specs.Wholes.{AreGiven, IsGivenAt}
+use Rattle.tagged_hash.specs.declared.wholes.WholeHashers.{WholeHashers}
 
 -- one group more
 pub given-push : (total : ℕ) (written : ℕ → List ℕ) (wholes : List WholeHashers) (whole : WholeHashers) → AreGiven total written wholes

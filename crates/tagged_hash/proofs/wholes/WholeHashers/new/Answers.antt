@@ -2,7 +2,7 @@ use Rattle.std.proofs.Common.{◌∷◌, [], refl, arith}
 use Rattle.lemmas.proofs.Eights.{by_eight}
 use Rattle.tagged_hash.specs.TaggedHasher.{HoldsIn}
 use Rattle.tagged_hash.specs.declared.tag.Tag.TheVariants.{WholeShare}
-use Rattle.share_digests.proofs.wholes.WholeHashers.new.Goals as goal
+use Rattle.tagged_hash.proofs.wholes.WholeHashers.new.Goals as goal
 
 pub returns : goal.returns
 returns c = λ j low there. record {

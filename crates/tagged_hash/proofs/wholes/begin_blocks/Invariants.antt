@@ -2,7 +2,7 @@ use Rattle.std.proofs.Common.{◌≡◌, ℕ, ◌<◌, ◌≤◌, List, [], leng
 use Rattle.tagged_hash.specs.TaggedHasher.{HoldsIn}
 use Rattle.tagged_hash.specs.declared.tag.Tag.{Tag}
 use Rattle.tagged_hash.specs.declared.tag.Tag.TheVariants.{Block}
-use Rattle.share_digests.proofs.wholes.begin_blocks.Given as goal
+use Rattle.tagged_hash.proofs.wholes.begin_blocks.Given as goal
 
 abbrev pub invariant-loop-lane : goal.invariant-loop-lane
 invariant-loop-lane l = record {

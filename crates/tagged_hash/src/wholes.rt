@@ -8,10 +8,12 @@ ghost use Rattle.tagged_hash.specs.TaggedHash.{tagged_hash};
 ghost use Rattle.tagged_hash.specs.TaggedHasher.{Holds, HoldsIn};
 ghost use Rattle.tagged_hash.specs.declared.tag.Tag.{Tag};
 ghost use Rattle.tagged_hash.specs.declared.tag.Tag.TheVariants.{Block, WholeShare};
-ghost use Rattle.share_digests.specs.Wholes.{IsGivenAt};
+ghost use Rattle.tagged_hash.specs.Wholes.{IsGivenAt};
 
+use crate::eight::update_eight;
+use crate::hasher::TaggedHasher;
+use crate::tag::Tag;
 use std::mem;
-use tagged_hash::{Tag, TaggedHasher, update_eight};
 
 /// The hashers of at most seven shares, whose numbers follow one another, each in its lane of
 /// eight. Another text may ride in the last.

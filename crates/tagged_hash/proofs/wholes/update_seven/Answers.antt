@@ -1,8 +1,8 @@
 use Rattle.std.proofs.Common.{◌≢◌, ◌<◌, ◌++◌, ℕ, List, length, sym, subst, arith}
 use Rattle.tagged_hash.specs.TaggedHasher.{Holds, HoldsIn}
 use Rattle.tagged_hash.specs.declared.hasher.TaggedHasher.{TaggedHasher}
-use Rattle.share_digests.proofs.Lanes.{placed, stays, taken}
-use Rattle.share_digests.proofs.wholes.update_seven.Goals as goal
+use Rattle.tagged_hash.proofs.Lanes.{placed, stays, taken}
+use Rattle.tagged_hash.proofs.wholes.update_seven.Goals as goal
 
 pub returns-clause-seven : goal.returns-clause-seven
 returns-clause-seven c = λ j tag given low held.

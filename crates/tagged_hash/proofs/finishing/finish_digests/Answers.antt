@@ -9,8 +9,8 @@ use Rattle.std.proofs.lemmas.List.FromFn.{fill_by_all}
 use Rattle.lemmas.proofs.Positions.{got}
 use Rattle.tagged_hash.specs.TaggedHash.{tagged_hash}
 use Rattle.tagged_hash.specs.declared.tag.Tag.TheVariants.{WholeShare}
-use Rattle.share_digests.specs.declared.wholes.WholeHashers.{WholeHashers}
-use Rattle.share_digests.proofs.finishing.finish_digests.Goals as goal
+use Rattle.tagged_hash.specs.declared.wholes.WholeHashers.{WholeHashers}
+use Rattle.tagged_hash.proofs.finishing.finish_digests.Goals as goal
 
 -- some digests more, or those that are left
 more-at : (f : ℕ → List ℕ) (digests some : List (List ℕ)) (n : ℕ) → n ≤ length some

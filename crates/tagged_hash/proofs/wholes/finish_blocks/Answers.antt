@@ -2,8 +2,8 @@ use Rattle.std.proofs.Common.{◌≡◌, ◌+◌, ◌∷◌, [], slice_index_or,
 use Rattle.tagged_hash.specs.TaggedHash.{tagged_hash}
 use Rattle.tagged_hash.specs.TaggedHasher.{HoldsIn}
 use Rattle.tagged_hash.specs.declared.tag.Tag.TheVariants.{Block}
-use Rattle.share_digests.proofs.Lanes.{by_three}
-use Rattle.share_digests.proofs.wholes.finish_blocks.Goals as goal
+use Rattle.tagged_hash.proofs.Lanes.{by_three}
+use Rattle.tagged_hash.proofs.wholes.finish_blocks.Goals as goal
 
 pub returns-clause-blocks : goal.returns-clause-blocks
 returns-clause-blocks c = λ j given low held.

@@ -1,8 +1,8 @@
 use Rattle.std.proofs.Common.{◌≡◌, ℕ, ◌*◌, ◌<◌, List, [], ◌++◌, length, min, slice_index_or}
 use Rattle.tagged_hash.specs.TaggedHash.{tagged_hash}
 use Rattle.tagged_hash.specs.declared.tag.Tag.TheVariants.{WholeShare}
-use Rattle.share_digests.specs.Wholes.{AreGiven}
-use Rattle.share_digests.proofs.finishing.finish_digests.Given as goal
+use Rattle.tagged_hash.specs.Wholes.{AreGiven}
+use Rattle.tagged_hash.proofs.finishing.finish_digests.Given as goal
 
 abbrev pub invariant-loop-whole : goal.invariant-loop-whole
 invariant-loop-whole g l = record {

@@ -1,2 +1,0 @@
--- what public contracts rest on
-pub mod Wholes
