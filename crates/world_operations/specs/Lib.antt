@@ -7,5 +7,6 @@ pub mod Moves
 pub mod UploadPieces
 pub mod Asked
 pub mod Follow
+pub mod Carried
 pub mod Status
 pub mod Repairs

@@ -6,6 +6,7 @@
 //! that are made anew of those that a check found good.
 #![tactic(auto)]
 
+mod carrying;
 pub mod job;
 pub mod message;
 pub mod operation;
@@ -14,3 +15,5 @@ mod repair;
 pub mod status;
 pub mod task;
 pub mod upload_pieces;
+
+pub use carrying::carry_task;

@@ -15,7 +15,7 @@ use Rattle.world_operations.specs.Moves.{Advances, StaysWell, TicksOn, task_call
 use Rattle.world_operations.specs.Tasks.{requests_of}
 use Rattle.world_operations.specs.UploadPieces.{fails, gives}
 use Rattle.world_operations.proofs.TaskMoves.{by_machine, check_heard, check_ticked, download_advanced, download_ticked, goes_nowhere, same_goes, taken, upload_heard, upload_ticked}
-use Rattle.carried_tasks.specs.Carried.{IsCarried}
+use Rattle.world_operations.specs.Carried.{IsCarried}
 
 both : (New : Said) (a b c : Task) → GoesOn New a b → GoesOn New b c → GoesOn New a c
 both New a b c f g = record {
