@@ -1,3 +1,8 @@
+pub mod PaddedTexts
+pub mod RemadeLaws
+pub mod RemakePass
+pub mod RemadeEnd
+pub mod RemadeKept
 pub mod Given
 pub mod KeyReading
 pub mod SecondPass

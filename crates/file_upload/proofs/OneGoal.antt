@@ -21,8 +21,8 @@ use Rattle.share_verify.proofs.GeometryOfUeb.{is_geometry}
 use Rattle.file_encoding.specs.Padded.{padded_sections, padded_share, padded_shares}
 use Rattle.file_encoding.proofs.RemadePassing.{lengths as own_lengths}
 use Rattle.share_gathering.specs.KeptFile.{kept_length}
-use Rattle.file_remaking.specs.Remade.{remade_by}
-use Rattle.file_remaking.proofs.PaddedTexts.{data_same, layout_same, tree_same}
+use Rattle.file_streaming.specs.Remade.{remade_by}
+use Rattle.file_streaming.proofs.PaddedTexts.{data_same, layout_same, tree_same}
 use Rattle.file_streaming.specs.Prepared.{geometry_for, key_for}
 use Rattle.file_upload.specs.Laws.{GoalsAreOne}
 use Rattle.file_upload.specs.RemadeStream.{RemadeGoalsAreOne}

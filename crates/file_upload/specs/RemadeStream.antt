@@ -9,7 +9,7 @@ use Rattle.file_encoding.specs.Padded.{padded_shares}
 use Rattle.sources.specs.Source.{HasFailedMore}
 use Rattle.block_making.specs.Making.{WereRead}
 use Rattle.share_gathering.specs.KeptFile.{GivesKept, kept_length}
-use Rattle.file_remaking.specs.Remade.{IsOfNoText, IsTextOf, RemadeFile, remade_by}
+use Rattle.file_streaming.specs.Remade.{IsOfNoText, IsTextOf, RemadeFile, remade_by}
 use Rattle.upload_core.specs.Pieces.{length_of}
 use Rattle.upload_core.specs.Ready.{Ready}
 use Rattle.upload_core.specs.State.{Goal}

@@ -6,7 +6,7 @@ ghost use Rattle.file_upload.specs.RemadeStream.{GaveNoRemade, GaveRemade, ready
 ghost use Rattle.file_upload.specs.Streamed.{fault_of};
 
 use crate::streamed::fault_of;
-use file_remaking::RemadeFile;
+use file_streaming::RemadeFile;
 use sources::Source;
 use std::alloc::{AllocError, Global};
 use std::marker::Model;

@@ -11,7 +11,7 @@ use Rattle.share_source.specs.Decoded.{Decoding, GivesDecoded}
 use Rattle.share_source.specs.Reads.{Fails, Gives, WasRead}
 use Rattle.fetched_shares.specs.Fetched.{FetchedState}
 use Rattle.sources.specs.Source.{HasFailedMore}
-use Rattle.file_remaking.specs.Remade.{IsOfNoText, IsRemadeFrom}
+use Rattle.file_streaming.specs.Remade.{IsOfNoText, IsRemadeFrom}
 use Rattle.file_upload.specs.RemadeStream.{GaveRemade, RemadeStreaming, ready_remade}
 use Rattle.request_record.specs.Operations.{OperationCalls}
 use Rattle.upload_core.specs.Calls.{upload_calls}

@@ -10,7 +10,7 @@ ghost use Rattle.grid_repairs.specs.Remaking.{AreMadeAnew, IsBegun, read_places}
 use crate::made_shares::{MadeShares, lacks_memory, told_apart};
 use cap_text::VerifyCap;
 use fetched_shares::{FetchedShares, SharePlace};
-use file_remaking::{RemakeError, prepare_remade};
+use file_streaming::{RemakeError, prepare_remade};
 use file_upload::remade::ready_remade;
 use grid_faults::Fault;
 use grid_rules::becoming::fault_of_remaking;

@@ -9,9 +9,9 @@ use Rattle.download_core.specs.Refusals as download_errors
 use Rattle.file_encoding.specs.declared.error.EncodeError.{EncodeError}
 use Rattle.file_encoding.specs.declared.error.EncodeError.TheVariants as encodings
 use Rattle.file_encoding.specs.Refusals.{encode_refusal_number}
-use Rattle.file_remaking.specs.declared.error.RemakeError.{RemakeError}
-use Rattle.file_remaking.specs.declared.error.RemakeError.TheVariants as remaking
-use Rattle.file_remaking.specs.RemakeError as remake_errors
+use Rattle.file_streaming.specs.declared.remake_error.RemakeError.{RemakeError}
+use Rattle.file_streaming.specs.declared.remake_error.RemakeError.TheVariants as remaking
+use Rattle.file_streaming.specs.RemakeError as remake_errors
 use Rattle.file_streaming.specs.declared.error.PrepareError.{PrepareError}
 use Rattle.file_streaming.specs.declared.error.PrepareError.TheVariants as preparing
 use Rattle.file_streaming.specs.PrepareError as prepare_errors

@@ -3,8 +3,8 @@ use Rattle.download_core.specs.declared.status.DownloadError.{DownloadError}
 use Rattle.download_core.specs.declared.status.DownloadError.TheVariants as downloads
 use Rattle.file_encoding.specs.declared.error.EncodeError.{EncodeError}
 use Rattle.file_encoding.specs.declared.error.EncodeError.TheVariants as encodings
-use Rattle.file_remaking.specs.declared.error.RemakeError.{RemakeError}
-use Rattle.file_remaking.specs.declared.error.RemakeError.TheVariants as remaking
+use Rattle.file_streaming.specs.declared.remake_error.RemakeError.{RemakeError}
+use Rattle.file_streaming.specs.declared.remake_error.RemakeError.TheVariants as remaking
 use Rattle.file_streaming.specs.declared.error.PrepareError.{PrepareError}
 use Rattle.file_streaming.specs.declared.error.PrepareError.TheVariants as preparing
 use Rattle.grid_faults.specs.declared.fault.Fault.{Fault}

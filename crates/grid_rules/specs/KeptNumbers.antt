@@ -6,8 +6,8 @@ use Rattle.download_core.specs.Refusals as download_errors
 use Rattle.download_core.specs.declared.status.DownloadError.{DownloadError}
 use Rattle.file_encoding.specs.Refusals as file_errors
 use Rattle.file_encoding.specs.declared.error.EncodeError.{EncodeError}
-use Rattle.file_remaking.specs.RemakeError as remake_errors
-use Rattle.file_remaking.specs.declared.error.RemakeError.{RemakeError}
+use Rattle.file_streaming.specs.RemakeError as remake_errors
+use Rattle.file_streaming.specs.declared.remake_error.RemakeError.{RemakeError}
 use Rattle.file_streaming.specs.PrepareError as prepare_errors
 use Rattle.file_streaming.specs.declared.error.PrepareError.{PrepareError}
 use Rattle.local_grid.specs.Refusals as loop_errors

@@ -8,8 +8,7 @@ ghost use Rattle.grid_rules.specs.KeptNumbers.{NumbersAreKept};
 
 use download_core::status::DownloadError;
 use file_encoding::EncodeError;
-use file_remaking::RemakeError;
-use file_streaming::PrepareError;
+use file_streaming::{PrepareError, RemakeError};
 use grid_faults::Fault;
 use local_grid::error::LoopError;
 use upload_core::pieces::PieceFault;

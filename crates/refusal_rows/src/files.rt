@@ -4,8 +4,7 @@ use crate::rows::Rows;
 use block_making::PieceError;
 use download_parts::TreeFault;
 use file_encoding::{EncodeError, ReadError, RegenerateError};
-use file_remaking::RemakeError;
-use file_streaming::PrepareError;
+use file_streaming::{PrepareError, RemakeError};
 use share_layout::{LayoutError, Section};
 use share_reading::OpeningError;
 use share_verify::{Check, ShareFault};
@@ -144,7 +143,7 @@ fn tell_remaking(rows: &mut Rows) -> Result<(), AllocError> {
         RemakeError::SourceChanged,
         RemakeError::SourceFault,
     ] {
-        rows.name("file_remaking::RemakeError", error.number(), &error)?;
+        rows.name("file_streaming::RemakeError", error.number(), &error)?;
     }
     Ok(())
 }

@@ -3,7 +3,7 @@
 use crate::prepare_tests::counted;
 use cap_text::{Cap, VerifyCap};
 use file_encoding::{Encoded, Params, Share, encode_all};
-use file_remaking::{PieceError, RemadeFile, RemakeError, padded_size, prepare_remade};
+use file_streaming::{PieceError, RemadeFile, RemakeError, padded_size, prepare_remade};
 use share_verify::{read_share, read_ueb};
 use sources::{SliceSource, Source};
 use std::alloc::{AllocError, Global};

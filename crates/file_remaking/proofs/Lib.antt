@@ -1,5 +1,0 @@
-pub mod PaddedTexts
-pub mod RemadeLaws
-pub mod RemakePass
-pub mod RemadeEnd
-pub mod RemadeKept
