@@ -11,7 +11,7 @@ use Rattle.std.proofs.lemmas.List.Elements.{All-push, Contains-append_cases, Con
 use Rattle.placement.specs.Matching.{Pair}
 use Rattle.checker.specs.Report.{good_pairs, is_good, pair_of}
 use Rattle.checker.specs.declared.status.ShareVerdict.{ShareVerdict}
-use Rattle.fetched_shares.specs.declared.range.SharePlace.{SharePlace}
+use Rattle.carried_operations.specs.declared.range.SharePlace.{SharePlace}
 
 -- what is chosen by these verdicts
 pub record Chosen (verdicts : List ShareVerdict) (places : List SharePlace) : Type 0 where

@@ -6,10 +6,10 @@ use Rattle.std.specs.Option.{option_to_list}
 use Rattle.cap_text.specs.Cap.{VerifyCapValue}
 use Rattle.ueb.specs.Shape.{Contents}
 use Rattle.share_verify.specs.CapBlock.{IsUebFor, geometry_by}
-use Rattle.fetched_shares.specs.declared.range.SharePlace.{SharePlace}
+use Rattle.carried_operations.specs.declared.range.SharePlace.{SharePlace}
 use Rattle.share_source.specs.Decoded.{Decoding, GivesDecoded}
 use Rattle.share_source.specs.Reads.{Fails, Gives, WasRead}
-use Rattle.fetched_shares.specs.Fetched.{FetchedState}
+use Rattle.carried_operations.specs.Fetched.{FetchedState}
 use Rattle.sources.specs.Source.{HasFailedMore}
 use Rattle.file_streaming.specs.Remade.{IsOfNoText, IsRemadeFrom}
 use Rattle.file_upload.specs.RemadeStream.{GaveRemade, RemadeStreaming, ready_remade}

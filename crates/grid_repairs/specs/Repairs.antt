@@ -6,9 +6,9 @@ use Rattle.cap_text.specs.Cap.{VerifyCapValue}
 use Rattle.cap_text.specs.CapText.{Spells}
 use Rattle.cap_text.specs.declared.cap.Cap.{Cap}
 use Rattle.placement.specs.Matching.{Pair}
-use Rattle.fetched_shares.specs.declared.range.SharePlace.{SharePlace}
+use Rattle.carried_operations.specs.declared.range.SharePlace.{SharePlace}
 use Rattle.share_source.specs.Decoded.{Decoding, GivesDecoded}
-use Rattle.fetched_shares.specs.Fetched.{FetchedState, IsReadOver, IsUnread}
+use Rattle.carried_operations.specs.Fetched.{FetchedState, IsReadOver, IsUnread}
 use Rattle.file_upload.specs.RemadeStream.{RemadeStreaming}
 use Rattle.upload_core.specs.Ready.{Ready}
 use Rattle.checker.specs.Report.{good_pairs}

@@ -6,8 +6,8 @@ ghost use Rattle.std.specs.List.{Contains};
 ghost use Rattle.placement.specs.Matching.{Pair};
 ghost use Rattle.checker.specs.Report.{good_pairs, is_good};
 
+use carried_operations::SharePlace;
 use checker::status::ShareVerdict;
-use fetched_shares::SharePlace;
 use share_reading::Verdict;
 use std::alloc::{AllocError, Global};
 

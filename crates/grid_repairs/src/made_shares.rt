@@ -2,11 +2,11 @@
 
 ghost use Rattle.std.specs.Prelude.{◌≡◌, ◌+◌, ◌<◌, ◌≤◌, length, IfErr, OnOk};
 ghost use Rattle.share_source.specs.Decoded.{Decoding, GivesDecoded};
-ghost use Rattle.fetched_shares.specs.Fetched.{FetchedState, IsReadOver, IsUnread};
+ghost use Rattle.carried_operations.specs.Fetched.{FetchedState, IsReadOver, IsUnread};
 ghost use Rattle.file_upload.specs.RemadeStream.{GaveRemade, RemadeStreaming, remade_goal};
 ghost use Rattle.grid_repairs.specs.Remaking.{GaveNonePlaced, lacks_memory, told_by};
 
-use fetched_shares::FetchedShares;
+use carried_operations::FetchedShares;
 use file_upload::remade::RemadeStream;
 use local_grid::Outside;
 use share_source::ShareSource;

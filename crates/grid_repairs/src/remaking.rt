@@ -4,12 +4,12 @@ ghost use Rattle.std.specs.Prelude.{◌≡◌, ◌++◌, IfOk, IfSome, OnOk, map
 ghost use Rattle.std.specs.Option.{option_to_list};
 ghost use Rattle.share_source.specs.Block.{IsReadBlock};
 ghost use Rattle.share_source.specs.Reads.{WasRead};
-ghost use Rattle.fetched_shares.specs.Fetched.{IsReadOver, IsUnread};
+ghost use Rattle.carried_operations.specs.Fetched.{IsReadOver, IsUnread};
 ghost use Rattle.grid_repairs.specs.Remaking.{AreMadeAnew, IsBegun, read_places};
 
 use crate::made_shares::{MadeShares, lacks_memory, told_apart};
 use cap_text::VerifyCap;
-use fetched_shares::{FetchedShares, SharePlace};
+use carried_operations::{FetchedShares, SharePlace};
 use file_streaming::{RemakeError, prepare_remade};
 use file_upload::remade::ready_remade;
 use grid_faults::Fault;

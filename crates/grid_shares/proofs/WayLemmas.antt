@@ -9,7 +9,7 @@ use Rattle.share_scrub.specs.declared.mending.LeftShare.{LeftShare}
 use Rattle.share_scrub.specs.Clearing.{IsCleared}
 use Rattle.grid_shares.specs.declared.mending.Way.{Way}
 use Rattle.grid_shares.specs.Ways.{AreCleared, IsWanted, IsWay, ServerWay, is_still, is_stuck, is_touched, read_at, stuck_by, way_by}
-use Rattle.fetched_shares.specs.declared.range.SharePlace.{SharePlace}
+use Rattle.carried_operations.specs.declared.range.SharePlace.{SharePlace}
 use Rattle.upload_core.specs.State.{Goal}
 
 and-true : (b : Bool) → (b && true) ≡ b

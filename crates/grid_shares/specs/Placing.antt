@@ -5,7 +5,7 @@ use Rattle.upload_core.specs.Moves.{Begins}
 use Rattle.upload_core.specs.Ready.{Ready}
 use Rattle.upload_core.specs.Sending.{Uploading}
 use Rattle.upload_core.specs.State.{with_ahead}
-use Rattle.fetched_shares.specs.declared.range.SharePlace.{SharePlace}
+use Rattle.carried_operations.specs.declared.range.SharePlace.{SharePlace}
 use Rattle.carried_operations.specs.Stored.{IsStored}
 use Rattle.grid_faults.specs.Servers.{server_of}
 use Rattle.grid_servers.specs.Grids.{FolderGridState, GridCalls}

@@ -2,7 +2,7 @@
 use Rattle.std.specs.Prelude.{◌≡◌, ◌==◌, ◌||◌, ℕ, Bool, true, false, List, [], ◌∷◌, None, Some}
 use Rattle.std.specs.Prelude.{filter, map, not, if◌then◌else◌, option_map}
 use Rattle.std.specs.List.{AllByRecursion, list_all}
-use Rattle.fetched_shares.specs.declared.range.SharePlace.{SharePlace}
+use Rattle.carried_operations.specs.declared.range.SharePlace.{SharePlace}
 use Rattle.share_scrub.specs.Clearing.{IsCleared}
 use Rattle.share_files.specs.declared.acts.Act.{Act}
 use Rattle.share_files.specs.declared.acts.Act.TheVariants.{Unlisted}

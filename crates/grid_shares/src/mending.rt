@@ -8,7 +8,7 @@ ghost use Rattle.grid_shares.specs.Ways.{AreCleared, IsWanted, IsWay, is_still, 
 ghost use Rattle.grid_shares.specs.Ways.{read_at, stuck_by, way_by};
 
 use crate::placing::Placing;
-use fetched_shares::SharePlace;
+use carried_operations::SharePlace;
 use grid_faults::{Fault, server_name, told_path};
 use grid_marks::{Mark, grid_mark, server_folder, try_known};
 use grid_servers::is_served_elsewhere;

@@ -16,8 +16,8 @@ ghost use Rattle.grid_shares.specs.Standing.{WereOpened};
 
 use crate::mending::{Clearance, clear_servers};
 use crate::standing::OpenGrid;
+use carried_operations::SharePlace;
 use carried_operations::uploads::carry_upload;
-use fetched_shares::SharePlace;
 use grid_faults::{Fault, servers_of};
 use grid_rules::becoming::fault_of_loop;
 use grid_rules::{reached_happiness, turn_limit};
@@ -31,9 +31,9 @@ use std::io::{IsTerminal, Write};
 use std::net::Net;
 use std::random::RandomSource;
 use std::rt::{Clock, Files};
+use upload_core::{ReadyUpload, Upload};
 use upload_core::pieces::Pieces;
 use upload_core::status::UploadGoal;
-use upload_core::{ReadyUpload, Upload};
 use user_files::Locks;
 use wire::message::NodeId;
 

@@ -5,7 +5,7 @@ use Rattle.std.proofs.lemmas.List.{take_all, take_more}
 use Rattle.checker.specs.Report.{is_good}
 use Rattle.checker.specs.declared.status.ShareVerdict.{ShareVerdict}
 use Rattle.share_reading.specs.declared.verdict.Verdict.TheVariants.{Good}
-use Rattle.fetched_shares.specs.declared.range.SharePlace.{SharePlace}
+use Rattle.carried_operations.specs.declared.range.SharePlace.{SharePlace}
 use Rattle.grid_repairs.proofs.Chosen.{Chosen, chosen_enough, chosen_more, chosen_other}
 use Rattle.grid_repairs.proofs.choosing.candidate_places.Goals as goal
 use Rattle.grid_repairs.proofs.choosing.candidate_places.Goals.{then-is_wanted+in_ok-push, else-is_wanted}

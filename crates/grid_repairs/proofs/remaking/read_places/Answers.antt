@@ -3,7 +3,7 @@ use Rattle.std.specs.Prelude.{slice_get}
 use Rattle.std.specs.Option.{option_to_list}
 use Rattle.std.proofs.lemmas.List.{append-nil, take_more}
 use Rattle.std.proofs.lemmas.Grind.{flat_map-append}
-use Rattle.fetched_shares.specs.declared.range.SharePlace.{SharePlace}
+use Rattle.carried_operations.specs.declared.range.SharePlace.{SharePlace}
 use Rattle.grid_repairs.specs.Remaking.{read_places}
 use Rattle.grid_repairs.proofs.remaking.read_places.Goals as goal
 

@@ -1,8 +1,8 @@
 use Rattle.std.proofs.Common.{◌≡◌, ℕ, List, map, ap, refl, subst, sym, ◌∙◌}
 use Rattle.ueb.specs.Shape.{Contents}
-use Rattle.fetched_shares.specs.declared.range.SharePlace.{SharePlace}
+use Rattle.carried_operations.specs.declared.range.SharePlace.{SharePlace}
 use Rattle.share_source.specs.Reads.{WasRead}
-use Rattle.fetched_shares.specs.Fetched.{IsReadOver, IsUnread}
+use Rattle.carried_operations.specs.Fetched.{IsReadOver, IsUnread}
 use Rattle.grid_repairs.specs.Remaking.{AreMadeAnew, IsBegun, read_places}
 use Rattle.grid_repairs.proofs.remaking.remake.Goals as goal
 

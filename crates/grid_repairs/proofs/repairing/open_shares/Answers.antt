@@ -1,6 +1,6 @@
 use Rattle.std.proofs.Common.{ap, subst, sym, ◌∙◌}
 use Rattle.grid_servers.specs.Opened.{AreOpened}
-use Rattle.fetched_shares.specs.Fetched.{FetchedState}
+use Rattle.carried_operations.specs.Fetched.{FetchedState}
 use Rattle.grid_repairs.proofs.repairing.open_shares.Goals as goal
 
 pub returns : goal.returns

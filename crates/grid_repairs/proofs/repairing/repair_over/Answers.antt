@@ -2,8 +2,8 @@ use Rattle.std.proofs.Common.{List, ap, subst, ◌∙◌}
 use Rattle.std.specs.Prelude.{is_some}
 use Rattle.std.proofs.lemmas.Result.{IfOk-weaker}
 use Rattle.checker.specs.declared.status.ShareVerdict.{ShareVerdict}
-use Rattle.fetched_shares.specs.declared.range.SharePlace.{SharePlace}
-use Rattle.fetched_shares.specs.Fetched.{IsReadOver, IsUnread}
+use Rattle.carried_operations.specs.declared.range.SharePlace.{SharePlace}
+use Rattle.carried_operations.specs.Fetched.{IsReadOver, IsUnread}
 use Rattle.share_source.specs.Decoded.{GivesDecoded}
 use Rattle.grid_servers.specs.Grids.{grid_calls}
 use Rattle.grid_shares.specs.Placing.{ArePlaced}

@@ -1,6 +1,6 @@
 use Rattle.std.proofs.Common.{◌≡◌, IfErr, OnOk, Err, subst, sym, refl, ap, ◌∙◌}
 use Rattle.share_source.specs.Decoded.{Decoding, GivesDecoded}
-use Rattle.fetched_shares.specs.Fetched.{FetchedState, IsReadOver, IsUnread}
+use Rattle.carried_operations.specs.Fetched.{FetchedState, IsReadOver, IsUnread}
 use Rattle.file_upload.specs.RemadeStream.{GaveNoRemade, GaveRemade}
 use Rattle.upload_core.specs.declared.pieces.PieceFault.{PieceFault}
 use Rattle.grid_repairs.specs.Remaking.{GaveNonePlaced, lacks_memory, told_by}

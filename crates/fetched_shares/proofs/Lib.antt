@@ -1,4 +1,0 @@
-pub mod Asked
-pub mod Parts
-pub mod FetchRuns
-pub mod ReadLemmas

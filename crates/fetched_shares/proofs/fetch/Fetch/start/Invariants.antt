@@ -1,8 +1,0 @@
-use Rattle.std.proofs.Common.{◌≡◌}
-use Rattle.request_record.specs.Asking.{fresh}
-use Rattle.request_record.specs.Record.{asked_all}
-use Rattle.fetched_shares.proofs.Asked.{first_reads}
-use Rattle.fetched_shares.proofs.fetch.Fetch.start.Given as goal
-
-abbrev pub invariant-reads : goal.invariant-reads
-invariant-reads l = l.requests ≡ asked_all (first_reads l.range l.number) (fresh l.session l.now)
