@@ -6,8 +6,8 @@ use Rattle.share_folders.specs.Folder.{FolderState}
 use Rattle.grid_marks.specs.Marks.{IsGrids}
 use Rattle.grid_marks.specs.declared.mark.Mark.{Mark}
 use Rattle.local_grid.specs.Nodes.{NodeState}
-use Rattle.socket_links.specs.declared.ends.SocketPair.{SocketPair}
-use Rattle.socket_links.specs.declared.link.GridLink.{GridLink}
+use Rattle.local_grid.specs.declared.ends.SocketPair.{SocketPair}
+use Rattle.local_grid.specs.declared.socket_link.GridLink.{GridLink}
 use Rattle.connections.specs.declared.ends.Nonblocking.{Nonblocking}
 use Rattle.connections.specs.declared.socket.Socket.{Socket}
 use Rattle.served_grid.specs.Remotes.{RemoteState}

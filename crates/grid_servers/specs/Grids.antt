@@ -2,10 +2,10 @@
 use Rattle.std.specs.Prelude.{ℕ, List, Option, None}
 use Rattle.share_folders.specs.Folder.{FolderState, folder_calls}
 use Rattle.local_grid.specs.Outside.{OutsideCalls}
-use Rattle.socket_links.specs.Ends.{pair_calls}
-use Rattle.socket_links.specs.Links.{IsCarriedOver, IsGivenUp}
-use Rattle.socket_links.specs.declared.ends.SocketPair.{SocketPair}
-use Rattle.socket_links.specs.declared.link.GridLink.{GridLink}
+use Rattle.local_grid.specs.Ends.{pair_calls}
+use Rattle.local_grid.specs.Links.{IsCarriedOver, IsGivenUp}
+use Rattle.local_grid.specs.declared.ends.SocketPair.{SocketPair}
+use Rattle.local_grid.specs.declared.socket_link.GridLink.{GridLink}
 use Rattle.connections.specs.Wires.{WireCalls, known_calls}
 use Rattle.connections.specs.declared.ends.Nonblocking.{Nonblocking}
 use Rattle.connections.specs.declared.socket.Socket.{Socket}

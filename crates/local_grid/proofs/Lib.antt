@@ -1,3 +1,4 @@
+mod Passing
 pub mod Same
 pub mod CourseLaws
 pub mod FrameLaws

@@ -2,13 +2,13 @@
 
 ghost use Rattle.std.specs.Prelude.{◌≡◌, ◌⊎◌, IfNone, IfOk, IfSome, None, OnOk, Some};
 ghost use Rattle.wire.specs.Frames.{frame};
-ghost use Rattle.socket_links.specs.Carrying.{Breaks, Carries};
-ghost use Rattle.socket_links.specs.Links.{ComesElse, IsCarried, IsCarriedOver, IsGivenUp};
+ghost use Rattle.local_grid.specs.Carrying.{Breaks, Carries};
+ghost use Rattle.local_grid.specs.Links.{ComesElse, IsCarried, IsCarriedOver, IsGivenUp};
 
-use crate::carrying::{CarryFault, carry};
 use crate::ends::Ends;
-use local_grid::frames::message_of;
-use local_grid::link::{Link, MemoryLink, Way};
+use crate::frames::message_of;
+use crate::link::{Link, MemoryLink, Way};
+use crate::passing::{CarryFault, carry};
 use std::alloc::{AllocError, Global};
 use std::marker::Model;
 use wire::message::Message;

@@ -2,11 +2,11 @@
 
 ghost use Rattle.std.specs.Prelude.{◌≡◌, ◌++◌, ◌≤◌, List, ℕ, IsErrOf, OnErr, OnOk, drop, length};
 ghost use Rattle.std.specs.Prelude.{take};
-ghost use Rattle.socket_links.specs.Carrying.{Breaks, Carries, Fails, Passes};
-ghost use Rattle.socket_links.specs.declared.carrying.CarryFault.{CarryFault};
+ghost use Rattle.local_grid.specs.Carrying.{Breaks, Carries, Fails, Passes};
+ghost use Rattle.local_grid.specs.declared.passing.CarryFault.{CarryFault};
 
 use crate::ends::Ends;
-use local_grid::link::Way;
+use crate::link::Way;
 use std::alloc::AllocError;
 use std::io;
 
@@ -21,7 +21,7 @@ pub(crate) enum CarryFault {
 }
 
 impl From<AllocError> for CarryFault {
-    ghost use Rattle.socket_links.specs.declared.carrying.CarryFault.TheVariants.{OutOfMemory};
+    ghost use Rattle.local_grid.specs.declared.passing.CarryFault.TheVariants.{OutOfMemory};
 
     ghost from_gives = { λ _ fault. fault ≡ OutOfMemory };
 
@@ -31,7 +31,7 @@ impl From<AllocError> for CarryFault {
 }
 
 impl From<io::Error> for CarryFault {
-    ghost use Rattle.socket_links.specs.declared.carrying.CarryFault.TheVariants.{Socket};
+    ghost use Rattle.local_grid.specs.declared.passing.CarryFault.TheVariants.{Socket};
 
     ghost from_gives = { λ _ fault. fault ≡ Socket };
 

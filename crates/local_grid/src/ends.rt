@@ -1,9 +1,9 @@
 //! Both ends of a connection.
 
 ghost use Rattle.std.specs.Prelude.{OnErr, OnOk};
-ghost use Rattle.socket_links.specs.Ends.{EndsCalls, pair_calls};
+ghost use Rattle.local_grid.specs.Ends.{EndsCalls, pair_calls};
 
-use local_grid::link::Way;
+use crate::link::Way;
 use std::io::{self, Read, Write};
 use std::marker::Model;
 

@@ -3,7 +3,7 @@ use Rattle.std.specs.Prelude.{◌≡◌, ℕ, List, Option}
 use Rattle.std.specs.Io.KnownBytes.{Appends, Consumes}
 use Rattle.local_grid.specs.declared.link.Way.{Way}
 use Rattle.local_grid.specs.declared.link.Way.TheVariants.{ToServer, ToClient}
-use Rattle.socket_links.specs.declared.ends.SocketPair.{SocketPair}
+use Rattle.local_grid.specs.declared.ends.SocketPair.{SocketPair}
 
 -- What the calls on both ends do, as relations between the state before a call and the state after
 -- it: bytes are sent at the end where a way begins, bytes come at its other end, or the call fails.

@@ -1,6 +1,6 @@
 use Rattle.std.proofs.Common.{length}
-use Rattle.socket_links.proofs.Passing.{IsSent}
-use Rattle.socket_links.proofs.carrying.carry.Given as goal
+use Rattle.local_grid.proofs.Passing.{IsSent}
+use Rattle.local_grid.proofs.passing.carry.Given as goal
 
 -- of the frame all but the rest was sent
 abbrev pub invariant-pieces : goal.invariant-pieces

@@ -2,7 +2,7 @@
 use Rattle.std.specs.Prelude.{◌≡◌, ◌⊎◌, ℕ, ◌≤◌, List, [], ◌∷◌, length}
 use Rattle.std.specs.List.{flat_map}
 use Rattle.local_grid.specs.declared.link.Way.{Way}
-use Rattle.socket_links.specs.Ends.{EndsCalls}
+use Rattle.local_grid.specs.Ends.{EndsCalls}
 
 -- A piece of at most 4,096 bytes is sent, and then as many bytes come.
 pub record Passes {E : Type 0} (calls : EndsCalls E) (way : Way) (old : E)

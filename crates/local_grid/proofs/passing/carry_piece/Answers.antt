@@ -1,6 +1,6 @@
 use Rattle.std.proofs.Common.{◌≡◌, ◌++◌, ◌∙◌, ◌+◌, ◌-◌, ℕ, List, length, take, drop, replicate, sym, ap, arith, rules, length-drop}
 use Rattle.std.proofs.lemmas.List.{take-append-drop, take_all, take_at}
-use Rattle.socket_links.proofs.carrying.carry_piece.Goals as goal
+use Rattle.local_grid.proofs.passing.carry_piece.Goals as goal
 
 pub returns-clause-ok : goal.returns-clause-ok
 returns-clause-ok g c =

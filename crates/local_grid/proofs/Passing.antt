@@ -3,8 +3,8 @@ use Rattle.std.proofs.Common.{◌≡◌, ℕ, List, [], ◌∷◌, ◌++◌, ref
 use Rattle.std.specs.List.{flat_map}
 use Rattle.std.proofs.lemmas.List.Concat.{flat_map-append}
 use Rattle.local_grid.specs.declared.link.Way.{Way}
-use Rattle.socket_links.specs.Carrying.{Carries, Passes, PassesEach}
-use Rattle.socket_links.specs.Ends.{EndsCalls}
+use Rattle.local_grid.specs.Carrying.{Carries, Passes, PassesEach}
+use Rattle.local_grid.specs.Ends.{EndsCalls}
 
 abbrev firsts : List (List ℕ × List ℕ) → List ℕ
 firsts = flat_map (λ (p : List ℕ × List ℕ). p.0)

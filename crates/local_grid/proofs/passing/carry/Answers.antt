@@ -1,8 +1,8 @@
 use Rattle.std.proofs.Common.{◌≡◌, ◌++◌, ◌∙◌, List, ℕ, ap, sym, drop}
 use Rattle.std.proofs.lemmas.Bool.{eqb-true}
 use Rattle.std.proofs.lemmas.List.{nil_from_length, take-append-drop}
-use Rattle.socket_links.proofs.Passing.{sent_more, sent_none, sent_whole}
-use Rattle.socket_links.proofs.carrying.carry.Goals as goal
+use Rattle.local_grid.proofs.Passing.{sent_more, sent_none, sent_whole}
+use Rattle.local_grid.proofs.passing.carry.Goals as goal
 
 pub pieces-init : goal.pieces-init
 pieces-init g c = sent_none g.E.Ends.calls c.args.way c.args.ends.now c.args.frame.now c.args.came.now.items

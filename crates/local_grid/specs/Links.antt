@@ -3,10 +3,10 @@ use Rattle.std.specs.Prelude.{◌≡◌, ◌≢◌, ◌⊎◌, ℕ, List, Option
 use Rattle.wire.specs.Frames.{IsMessage, frame}
 use Rattle.wire.specs.declared.message.Message.{Message}
 use Rattle.local_grid.specs.declared.link.Way.{Way}
-use Rattle.socket_links.specs.Carrying.{Breaks, Carries}
-use Rattle.socket_links.specs.Ends.{EndsCalls}
-use Rattle.socket_links.specs.declared.link.GridLink.{GridLink}
-use Rattle.socket_links.specs.declared.link.GridLink.TheVariants.{Memory, Sockets}
+use Rattle.local_grid.specs.Carrying.{Breaks, Carries}
+use Rattle.local_grid.specs.Ends.{EndsCalls}
+use Rattle.local_grid.specs.declared.socket_link.GridLink.{GridLink}
+use Rattle.local_grid.specs.declared.socket_link.GridLink.TheVariants.{Memory, Sockets}
 
 -- bytes are sent, and what comes is the frame of no message
 pub record ComesElse {E : Type 0} (calls : EndsCalls E) (way : Way) (old : E) (sent : List ℕ)

@@ -1,4 +1,0 @@
--- what public contracts rest on
-pub mod Ends
-pub mod Carrying
-pub mod Links
