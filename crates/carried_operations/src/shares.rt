@@ -5,8 +5,8 @@ ghost use Rattle.carried_operations.specs.Fetched.{IsReadOver, IsUnanswered, IsU
 
 use crate::fetch::Fetch;
 use crate::range::{SharePlace, ShareRange};
-use local_grid::{Outside, carry_on};
 use local_grid::error::LoopError;
+use local_grid::{Outside, carry_on};
 use share_source::ShareBytes;
 use sources::SourceFault;
 use std::alloc::{AllocError, Global};

@@ -1,6 +1,6 @@
 -- What a catalogue tells of names.
-use Rattle.std.proofs.Common.{◌≡◌, ◌≢◌, ◌⊎◌, ℕ, ◌+◌, List, [], ◌∷◌, ◌++◌, Bool, true, false, cond, Option, None, Some, if◌then◌else◌, length, refl, sym, ap, subst, ◌∙◌, inl, inr, ⊎_elim, arith, append_assoc, append-nil}
-use Rattle.std.specs.BTreeMap.{BTreeMap, UpdatesBy, get_by}
+use Rattle.std.proofs.Common.{◌≡◌, ℕ, ◌+◌, List, [], ◌∷◌, ◌++◌, Bool, true, false, cond, Option, None, Some, if◌then◌else◌, length, refl, sym, ap, subst, ◌∙◌, ⊎_elim, arith, append_assoc, append-nil}
+use Rattle.std.specs.BTreeMap.{BTreeMap, UpdatesBy}
 use Rattle.std.specs.Cmp.{eq_by_cmp_equiv}
 use Rattle.std.specs.Cmp.Lexicographic.{bytes_decides, nat_list_cmp_total, nat_list_eq_equiv, slice_cmp}
 use Rattle.std.specs.Global.{Vec}
@@ -8,7 +8,6 @@ use Rattle.std.specs.List.{AllByRecursion, flat_map}
 use Rattle.std.specs.Map.{AreApart, IsKeyTest, KeepsOthers, lookup}
 use Rattle.std.specs.Ordering.{is_eq, nat_cmp}
 use Rattle.std.specs.declared.cmp.Ordering.{Ordering}
-use Rattle.std.specs.Prelude.{fold}
 use Rattle.std.specs.Str.{bytes_eq}
 use Rattle.std.proofs.lemmas.Bool.{cases_Bool, cond-true, cond-false}
 use Rattle.std.proofs.lemmas.List.{length_push}
@@ -16,8 +15,8 @@ use Rattle.std.proofs.lemmas.List.Concat.{flat_map-append}
 use Rattle.std.proofs.lemmas.List.Sums.{fold-append}
 use Rattle.std.proofs.lemmas.Map.Text.{is_eq-slice_cmp}
 use Rattle.cap_text.specs.declared.cap.Cap.{Cap}
-use Rattle.catalogues.specs.Catalogues.{BeginsWithLine, Entry, HasNoLine, IsEntry, Reading, entry_text}
-use Rattle.catalogues.specs.Known.{AreRead, IsReadTo, cap_under, last_cap}
+use Rattle.catalogues.specs.Catalogues.{BeginsWithLine, Entry, IsEntry, Reading, entry_text}
+use Rattle.catalogues.specs.Known.{AreRead, cap_under, last_cap}
 use Rattle.catalogues.specs.Lines.{line_text}
 use Rattle.catalogues.proofs.WholeLaws.{all_push}
 

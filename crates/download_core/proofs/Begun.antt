@@ -3,11 +3,9 @@ use Rattle.std.proofs.Common.{◌≡◌, ℕ, ◌⊎◌, inl, inr, true, List, [
 use Rattle.std.specs.Prelude.{slice_get, slice_set}
 use Rattle.std.proofs.lemmas.List.{length-append, length-map, length-set}
 use Rattle.share_layout.specs.Geometry.{Geometry}
-use Rattle.std.proofs.lemmas.List.Elements.{Contains-append_cases, Contains-append_left, Contains-append_right}
 use Rattle.std.proofs.lemmas.Option.{slice_get_within}
 use Rattle.lemmas.proofs.Positions.{get_pushed, get_set, get_other, set_cases, get_last, get_push}
 use Rattle.lemmas.proofs.Options.{one_there}
-use Rattle.placement.proofs.Members.{Contains-head, Contains-nil, Contains-uncons}
 use Rattle.request_record.specs.Record.{RequestsState}
 use Rattle.download_shares.specs.Numbers.{taken_up}
 use Rattle.download_shares.specs.HoldingState.{HoldingsState, NumberState, TableState}

@@ -1,5 +1,5 @@
 -- What is known where nothing more is made.
-use Rattle.std.proofs.Common.{◌≡◌, ℕ, ◌<◌, ◌≤◌, ◌⊎◌, inl, inr, Bool, List, Contains, length, sym, ap, subst, ◌∙◌, arith}
+use Rattle.std.proofs.Common.{◌≡◌, ℕ, ◌<◌, ◌≤◌, ◌⊎◌, inl, inr, Bool, List, [], Contains, length, sym, ap, subst, ◌∙◌, arith}
 use Rattle.std.specs.Prelude.{slice_get}
 use Rattle.download_shares.specs.Table.{NoneIsFree}
 use Rattle.download_shares.specs.BeginningState.{BeginningsState}
@@ -32,6 +32,11 @@ module _ (a b d : BeginningsState) (x y z : ReadingState) (enough : (x.file.hand
     first = ap (λ (l : List ReaderState). first_position (waiting_in (slice_get l w.reader))) still.readers ∙ w.first;
   }
 
+  left_still : NoneIsLeft a x → NoneIsLeft d z
+  left_still none =
+      let listed : z.file.aside ≡ [] = still.aside ∙ aside ∙ none.1 in
+      (subst NoneIsFree (sym (ap (λ (s : BeginningsState). s.holdings.table) still.same ∙ table)) none.0, listed)
+
   few : length y.file.live < y.file.handout.geometry.needed → (x.file.handout.geometry.needed ≤ length x.file.live) ⊎ NoneIsLeft a x → IsStuck d z
   few lt (inl all) =
       let l = ap length live in
@@ -40,7 +45,7 @@ module _ (a b d : BeginningsState) (x y z : ReadingState) (enough : (x.file.hand
   few lt (inr none) =
       let l = ap length still.live in
       let g = ap (λ (h : HandoutState). h.geometry.needed) same in
-      inl (omega (arith, lt, l, g), subst NoneIsFree (sym (ap (λ (s : BeginningsState). s.holdings.table) still.same ∙ table)) none.0, still.aside ∙ aside ∙ none.1)
+      inl (omega (arith, lt, l, g), left_still none)
 
   pub stuck : CanNotGoOn y.file → IsStuck d z
   stuck (inl complete) = absurd (more complete)

@@ -1,5 +1,5 @@
 -- A segment is made, or not.
-use Rattle.std.proofs.Common.{◌≡◌, ℕ, ◌<◌, List, Contains, None, refl, ap, subst, arith}
+use Rattle.std.proofs.Common.{◌≡◌, ◌<◌, List, None, refl, ap, arith}
 use Rattle.std.specs.Prelude.{slice_get}
 use Rattle.download_shares.specs.BeginningState.{BeginningsState}
 use Rattle.download_segments.specs.State.{HandoutState, IsHandout}

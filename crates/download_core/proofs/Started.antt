@@ -1,6 +1,6 @@
 -- Nothing is read yet.
 use Rattle.std.proofs.lemmas.Option.{slice_get-get_or, slice_get_within}
-use Rattle.std.proofs.Common.{◌≡◌, ℕ, zero, suc, ◌<◌, inl, List, [], ◌∷◌, length, arith, Some, None, refl, sym, ◌∙◌}
+use Rattle.std.proofs.Common.{◌≡◌, ℕ, zero, suc, ◌<◌, inl, inr, List, [], ◌∷◌, length, arith, Some, None, refl, sym, ◌∙◌}
 use Rattle.std.specs.Prelude.{slice_get, slice_index_or}
 use Rattle.placement.proofs.Members.{Contains-nil}
 use Rattle.request_record.specs.declared.requests.Request.{Request}
@@ -14,7 +14,7 @@ use Rattle.download_shares.specs.Table.{IsHolding}
 use Rattle.download_shares.specs.declared.holding.Holding.{Holding}
 use Rattle.download_file.specs.Answers.{IsRead}
 use Rattle.download_file.specs.Right.{IsFile}
-use Rattle.download_file.specs.State.{new_file}
+use Rattle.download_file.specs.State.{IsHeard, new_file}
 use Rattle.download_core.specs.Reading.{AreLinked, AreReading}
 use Rattle.download_core.specs.ReadingState.{ReadingState}
 
@@ -37,6 +37,10 @@ module _ (s : BeginningsState) (key : List ℕ) (u : Contents) (g : Geometry) (f
   abbrev pub nothing_read : ReadingState
   nothing_read = record { file = new_file key u g from to; holdings = [] }
 
+  no_heard : (q : ℕ) → IsHeard nothing_read.file q → ⊥
+  no_heard q (inl live) = Contains-nil q live
+  no_heard q (inr aside) = Contains-nil q aside
+
   started_linked : AreLinked s nothing_read
   started_linked = record {
     kept = record {
@@ -50,7 +54,7 @@ module _ (s : BeginningsState) (key : List ℕ) (u : Contents) (g : Geometry) (f
       reads = λ x i offset len h b is there left read. inl ((compared.each x h b is there).beside left i offset len read);
       answers = reads s.holdings.requests.entries;
     };
-    live = λ q alive. absurd (Contains-nil q alive);
+    live = λ q heard. absurd (no_heard q heard);
   }
 
   begun_there : (x : ℕ) (h : Holding) → IsHolding s.holdings.table x h → (b : Begun) × IsBegun s x b
@@ -60,8 +64,8 @@ module _ (s : BeginningsState) (key : List ℕ) (u : Contents) (g : Geometry) (f
   started = record {
     linked = started_linked;
     awaits = record {
-      asked = λ q h w k among. absurd (Contains-nil q k.live);
-      first = λ q position h k other e. absurd (Contains-nil q k.live);
+      asked = λ q h w k among. absurd (no_heard q k.live);
+      first = λ q position h k other e. absurd (no_heard q k.live);
     };
     busy = record {
       suspended = λ x h is left busy other. (let b = begun_there x h is in (compared.each x h b.0 is b.1).out left busy);

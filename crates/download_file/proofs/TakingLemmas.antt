@@ -91,10 +91,10 @@ module _ (h : HandoutState) (r : ReaderState) (taken : List ℕ) (a b : ℕ) (w 
     grow = grow;
     stays = λ number known. kept_known h.trees.ciphertext h'.trees.ciphertext (nodes_offered nodes bytes) number takes known;
     passes = inr (
-        high,
-        refl,
-        offered_known (nodes_of h.geometry a b p) bytes h.trees.ciphertext h'.trees.ciphertext (subst (λ (n : Nodes). length bytes ≡ 32 * n.count) these long)
-            (subst (λ (n : Nodes). Takes h.trees.ciphertext (nodes_offered n bytes) h'.trees.ciphertext) these takes),
+      high,
+      refl,
+      offered_known (nodes_of h.geometry a b p) bytes h.trees.ciphertext h'.trees.ciphertext (subst (λ (n : Nodes). length bytes ≡ 32 * n.count) these long)
+          (subst (λ (n : Nodes). Takes h.trees.ciphertext (nodes_offered n bytes) h'.trees.ciphertext) these takes),
     );
     server = ap (λ (q : ReaderState). q.server) reader;
     share = ap (λ (q : ReaderState). q.share) reader;

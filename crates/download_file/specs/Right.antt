@@ -44,7 +44,8 @@ WaitsByLevels r =
     UpperComeFirst r.supply.geometry (first_of r.supply) r.supply.taken (waiting_parts r.waiting)
 
 -- The readers that are read, at most as many as are needed, and those that are put aside: they are
--- of different shares. The parts that wait of each lead from what was taken of it to what was asked.
+-- of different shares. The parts that wait of each lead from what was taken of it to what was
+-- asked.
 pub record AreLive (f : FileState) : Type 0 where
   pub once : AreDistinct f.live
   pub apart : (position : ℕ) → IsLive f position → ¬ IsAside f position

@@ -20,9 +20,9 @@ pub record ReaderState : Type 0 where
 
 -- The segments `first` to before `end` are wanted. `taken`: how many pieces of each level of the
 -- ciphertext tree were taken. `readers`: all readers, in the order in which they were begun.
--- `live`: the positions of those that are read. `aside`: of those that are put aside: what was asked
--- of them is still taken, and no segment is made of their blocks. `groups`: what the segments were
--- made of, in order.
+-- `live`: the positions of those that are read. `aside`: of those that are put aside: what was
+-- asked of them is still taken, and no segment is made of their blocks. `groups`: what the segments
+-- were made of, in order.
 pub record FileState : Type 0 where
   pub handout : HandoutState
   pub first : ℕ

@@ -252,8 +252,8 @@ impl PartialFile {
         }
     }
 
-    /// Takes the answer to the first request that waits of a reader, which is read or put aside. The
-    /// answer is refused with the check that it does not pass; then nothing changes.
+    /// Takes the answer to the first request that waits of a reader, which is read or put aside.
+    /// The answer is refused with the check that it does not pass; then nothing changes.
     pub fn take(&mut self, reader: usize, bytes: &[u8]) -> Result<(), TreeFault>
         requires heard { IsHeard self.old reader }
         requires waits { IsSome (first_waiting self.old reader) }

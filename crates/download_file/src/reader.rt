@@ -339,8 +339,8 @@ pub(crate) fn end_reader(
     leave(readers, live, taken, reader);
 }
 
-/// The reader at a position is not one of those that are read any more. Where it gave the ciphertext
-/// tree, the first that is left gives it from now on.
+/// The reader at a position is not one of those that are read any more. Where it gave the
+/// ciphertext tree, the first that is left gives it from now on.
 pub(crate) fn leave(
     readers: &mut Vec<Reader>,
     live: &mut Vec<usize>,
@@ -361,8 +361,8 @@ pub(crate) fn leave(
     }
 }
 
-/// The reader at a position, which is put aside, is read again, behind the others. Where there is no
-/// other it gives the ciphertext tree. Where memory is refused nothing changes.
+/// The reader at a position, which is put aside, is read again, behind the others. Where there is
+/// no other it gives the ciphertext tree. Where memory is refused nothing changes.
 pub(crate) fn resume_reader(
     readers: &mut Vec<Reader>,
     live: &mut Vec<usize>,

@@ -23,7 +23,7 @@ pub(crate) fn plan_of(geometry: &Geometry, from: u64, to: u64) -> Plan
     Plan::of(geometry, first as u32, end as u32)
 }
 
-/// The last segment that is asked for now.
+/// The last segment that is asked for.
 pub(crate) fn last_asked(plan: &Plan, next: u32) -> u32
     requires { next < plan.now.end }
     ensures from { next ≤ result }

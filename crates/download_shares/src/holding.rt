@@ -12,7 +12,7 @@ pub struct Holding {
     pub share: u8,
     /// Whether it is left: it failed no check, and no read of it is lost or found no share.
     pub left: bool,
-    /// Whether it is not to be chosen for now.
+    /// Whether it is not to be chosen while others are.
     pub suspended: bool,
 }
 

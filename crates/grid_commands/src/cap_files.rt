@@ -74,7 +74,7 @@ fn first_line(text: &[u8]) -> &[u8]
 }
 
 /// The words of a get with this cap.
-pub(crate) fn get_words<'a>(words: &GetWords<'a>, cap: &'a str) -> GetWords<'a>
+pub(crate) fn get_words<'b: 'a, 'a>(words: &GetWords<'b>, cap: &'a str) -> GetWords<'a>
     ensures { result ≡ record words.now { cap = cap.entry } }
 {
     GetWords {
@@ -91,7 +91,7 @@ pub(crate) fn get_words<'a>(words: &GetWords<'a>, cap: &'a str) -> GetWords<'a>
 }
 
 /// Those of a check.
-pub(crate) fn check_words<'a>(words: &CheckWords<'a>, cap: &'a str) -> CheckWords<'a>
+pub(crate) fn check_words<'b: 'a, 'a>(words: &CheckWords<'b>, cap: &'a str) -> CheckWords<'a>
     ensures { result ≡ record words.now { cap = cap.entry } }
 {
     CheckWords {
@@ -107,7 +107,7 @@ pub(crate) fn check_words<'a>(words: &CheckWords<'a>, cap: &'a str) -> CheckWord
 }
 
 /// Those of a repair.
-pub(crate) fn repair_words<'a>(words: &RepairWords<'a>, cap: &'a str) -> RepairWords<'a>
+pub(crate) fn repair_words<'b: 'a, 'a>(words: &RepairWords<'b>, cap: &'a str) -> RepairWords<'a>
     ensures { result ≡ record words.now { cap = cap.entry } }
 {
     RepairWords {

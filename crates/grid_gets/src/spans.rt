@@ -211,16 +211,7 @@ where
         self.session = session.saturating_add(1);
         let now = self.nodes.clock();
         let pressing = pieces_at_once(&self.nodes) > 1;
-        let download = begin_download(
-            self.alloc,
-            pressing,
-            cap,
-            from,
-            to,
-            servers,
-            session,
-            now,
-        )?;
+        let download = begin_download(self.alloc, pressing, cap, from, to, servers, session, now)?;
         let mut watch = Watching::new(&mut *progress);
         let carried = carry_download(self.alloc, &mut self.nodes, download, from, out, &mut watch);
         self.conclude(servers, &carried, progress)
@@ -326,8 +317,9 @@ fn begin_download(
     ensures { IfOk result (Begins cap.now from to servers.now session now) }
 {
     if pressing {
-        return Download::start_pressing(alloc, *cap, from, to, servers, session, now)
-            .map_err(fault_of_download);
+        return Download::start_pressing(alloc, *cap, from, to, servers, session, now).map_err(
+            fault_of_download,
+        );
     }
     Download::start(alloc, *cap, from, to, servers, session, now).map_err(fault_of_download)
 }

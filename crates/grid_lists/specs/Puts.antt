@@ -105,8 +105,9 @@ listed_entries l = fate_entries l.name l.fate
 
 -- Files were put one after the other, all under one secret: those that are named by words, and then
 -- those that a list names. What was written is the catalogue of those that were stored, or whose
--- lines were kept, of which the first line tells the numbers and the secret. Which names a list has,
--- which text the catalogue that words name, and which secret a grid keeps, is what the system says.
+-- lines were kept, of which the first line tells the numbers and the secret. Which names a list
+-- has, which text the catalogue that words name, and which secret a grid keeps, is what the system
+-- says.
 pub record IsPutList {F S : Type 0} (gives : Opened F → ℕ → List ℕ → Opened F → Type 0)
     (calls : GridCalls S) (words : PutWords) (status : ℕ) (before after : Option (List ℕ))
     : Type 0 where

@@ -19,8 +19,8 @@ IsTold (Some path) (Some known) = (text : List ℕ) × IsKnownFrom text known
 abbrev pub IsSince : PutWords → Option Known → Type 0
 IsSince words since = IsTold words.since since
 
--- A catalogue is known, its last line of this name has this cap, and that is kept in one that begins
--- so, by the size and the times of the file. Which these are is what the system says.
+-- A catalogue is known, its last line of this name has this cap, and that is kept in one that
+-- begins so, by the size and the times of the file. Which these are is what the system says.
 pub record IsKeptSince (since : Option Known) (head : Head) (name : List ℕ) (cap : Cap)
     : Type 0 where
   pub known : Known

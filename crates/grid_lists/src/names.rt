@@ -49,8 +49,8 @@ where
     }
 }
 
-/// The text of a list whose names, or of a catalogue whose lines, end with this byte, where they are
-/// not too many.
+/// The text of a list whose names, or of a catalogue whose lines, end with this byte, where they
+/// are not too many.
 pub(crate) fn bounded(text: Vec<u8>, end: u8) -> Result<Vec<u8>, Fault> {
     if text.iter().filter(|byte| **byte == end).count() > MOST_NAMES {
         return Err(Fault::TooLarge);

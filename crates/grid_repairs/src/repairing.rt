@@ -13,11 +13,11 @@ ghost use Rattle.grid_repairs.specs.Repairs.{IsRepairedFile, IsRepairedOver, hap
 
 use crate::checking::{literal_outcome, note_report, verify_cap};
 use crate::choosing::candidate_places;
-use crate::remaking::remake;
+use crate::remaking::{Made, remake};
 use crate::standing::{OpenGrid, Place};
 use cap_text::{Cap, VerifyCap};
+use carried_operations::{FetchedShares, SharePlace};
 use checker::status::Report;
-use fetched_shares::{FetchedShares, SharePlace};
 use grid_faults::{Fault, Limit};
 use grid_rules::read_cap;
 use grid_servers::{FIRST_SESSION, FolderGrid, Purpose, open_servers};
@@ -161,18 +161,18 @@ where
 {
     let happy = happy_within(rt, repairing.happy, u64::from(cap.total()), progress)?;
     let found = find_shares(rt, &repairing.place, cap, reading, progress)?;
-    let placing = placing_of(repairing, found.servers.as_slice());
+    let placing = placing_of(repairing.place.grid, found.servers.as_slice(), repairing);
     repair_over(rt, &placing, &found.report, cap, happy, writing, progress)
 }
 
-// How shares are placed on these servers.
-fn placing_of<'a>(repairing: &Repairing<'a>, servers: &'a [NodeId]) -> Placing<'a>
-    ensures grid { result.grid.now ≡ repairing.now.place.grid.now }
+// How shares are placed on these servers of a grid.
+fn placing_of<'a>(grid: &'a str, servers: &'a [NodeId], repairing: &Repairing<'_>) -> Placing<'a>
+    ensures grid { result.grid.now ≡ grid.now }
     ensures servers { result.servers.now ≡ servers.now }
     ensures mend { result.mend ≡ repairing.now.mend }
 {
     Placing {
-        grid: repairing.place.grid,
+        grid,
         servers,
         durability: durability_of(repairing.no_sync),
         mend: repairing.mend,
@@ -248,8 +248,8 @@ where
     progress.encode(Verb::Repair, cap.size());
     let bytes = open_shares(rt, placing, cap, places)?;
     let made = remake(rt.alloc(), cap, happy, bytes)?;
-    let reading = made.reading.as_slice();
-    let stored = place_shares(rt, placing, kept, made.ready, reading, progress);
+    let Made { ready, reading } = made;
+    let stored = place_shares(rt, placing, kept, ready, reading.as_slice(), progress);
     progress.clear();
     stored
 }

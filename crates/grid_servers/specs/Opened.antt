@@ -52,8 +52,8 @@ abbrev pub AreApart : {N M : Type 0} → List (Option N) → List (Option M) →
 AreApart here elsewhere = (number : ℕ)
     → IsSome (get_or elsewhere number None) → get_or here number None ≡ None
 
--- how many pieces of a share may be on their way at once to each of these servers: one where none of
--- them is elsewhere
+-- how many pieces of a share may be on their way at once to each of these servers: one where none
+-- of them is elsewhere
 abbrev pub at_once : {W : Type 0} → List (Option (RemoteState W)) → ℕ
 at_once [] = 1
 at_once (remote ∷ more) = 8

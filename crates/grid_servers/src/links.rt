@@ -3,8 +3,8 @@
 ghost use Rattle.std.specs.Prelude.{◌≡◌, length, IfOk, Ok};
 
 use grid_faults::{Fault, is_memory};
-use local_grid::{GridLink, SocketLink, SocketPair, connect, listen};
 use local_grid::link::MemoryLink;
+use local_grid::{GridLink, SocketLink, SocketPair, connect, listen};
 use std::io;
 use std::net::Net;
 

@@ -31,9 +31,9 @@ use std::io::{IsTerminal, Write};
 use std::net::Net;
 use std::random::RandomSource;
 use std::rt::{Clock, Files};
-use upload_core::{ReadyUpload, Upload};
 use upload_core::pieces::Pieces;
 use upload_core::status::UploadGoal;
+use upload_core::{ReadyUpload, Upload};
 use user_files::Locks;
 use wire::message::NodeId;
 

@@ -21,7 +21,7 @@ use grid_repairs::{OpenGrid, Place, Repairing, check_file, may_repair, repair_fi
 use grid_shares::Environment;
 use grid_telling::{Failure, Progress, print};
 use grid_words::{CheckFilesWords, RepairFilesWords};
-use std::alloc::{AllocError, Global};
+use std::alloc::Global;
 use std::io::{self, IsTerminal, Write};
 use std::net::Net;
 use std::random::RandomSource;

@@ -1,8 +1,8 @@
 // Products of the field modulo 0x11D, computed by Python.
 
+use std::test::Fail;
 use zfec_code::field::{inv, mul, point};
 use zfec_code::lanes::{add_mul, add_mul_three};
-use std::test::Fail;
 
 #[test]
 fn products_are_those_of_0x11d(rt: HostRuntime) -> Result<(), Fail> {

@@ -124,9 +124,7 @@ fn turn(download: &mut Download, grid: &Grid, site: &mut Site) -> bool {
     }
     let due = site.due(node);
     match site.answer(grid, node, &request) {
-        Some(message) if due <= site.now => {
-            download.on_message(node, message, site.now).is_ok()
-        }
+        Some(message) if due <= site.now => { download.on_message(node, message, site.now).is_ok() }
         Some(message) => site.keep(due, node, message),
         None => false,
     }

@@ -36,7 +36,16 @@ fn fill(rt: &HostRuntime) -> Result<bool, Fail> {
     let grid = path(rt, "/grid")?;
     let first = run(rt, "put", &[file.as_str()], grid.as_str(), &["-q"]);
     let numbers = [
-        "--k", "2", "--happy", "5", "--n", "5", "--segment", "20", "--secret", "abc",
+        "--k",
+        "2",
+        "--happy",
+        "5",
+        "--n",
+        "5",
+        "--segment",
+        "20",
+        "--secret",
+        "abc",
     ];
     let second = run(rt, "put", &[other.as_str()], grid.as_str(), &numbers);
     let text = format!(in rt.alloc();
@@ -44,8 +53,10 @@ fn fill(rt: &HostRuntime) -> Result<bool, Fail> {
         {LOST_CAP}  gone\n"
     )?;
     fs::write(rt, path(rt, "/caps")?.as_str(), text.as_str())?;
-    Ok(first.out.starts_with(COUNTED_CAP.as_bytes())
-        && second.out.starts_with(OTHER_CAP.as_bytes()))
+    Ok(
+        first.out.starts_with(COUNTED_CAP.as_bytes())
+            && second.out.starts_with(OTHER_CAP.as_bytes()),
+    )
 }
 
 // The bytes i modulo 251.
@@ -97,7 +108,12 @@ fn each_file_has_its_line(rt: HostRuntime) -> Result<(), Fail> {
     let net = over(&rt, "check", &[], &["--net"])?;
     assert!(rt; net.status == 5 && net.out.as_slice() == lines.as_bytes());
     let well = over(&rt, "check", &["a", "b", "e"], &["--strict"])?;
-    assert!(rt; well.status == 0 && well.out.ends_with(b"files 3 healthy 3 recoverable 0 lost 0\n"));
+    assert!(rt;
+        well.status == 0
+            && well
+                .out
+                .ends_with(b"files 3 healthy 3 recoverable 0 lost 0\n")
+    );
     let none = over(&rt, "check", &["x", "y*"], &[])?;
     assert!(rt; none.status == 3 && none.tells(b"grid: 112 BadName"));
     assert!(rt; none.out.as_slice() == b"files 0 healthy 0 recoverable 0 lost 0\n".as_slice());
@@ -115,8 +131,12 @@ fn repairs_make_them_healthy(rt: HostRuntime) -> Result<(), Fail> {
     remove_servers(&rt, &["0", "1", "2", "3", "4", "5"])?;
     let worse = over(&rt, "check", &["a", "b"], &[])?;
     assert!(rt; worse.status == 0);
-    assert!(rt; worse.out.as_slice() == b"healthy no recoverable yes happiness 4  a/file\n\
-        literal  b\nfiles 2 healthy 1 recoverable 1 lost 0\n".as_slice());
+    assert!(rt;
+        worse.out.as_slice()
+            == b"healthy no recoverable yes happiness 4  a/file\n\
+        literal  b\nfiles 2 healthy 1 recoverable 1 lost 0\n"
+                .as_slice()
+    );
     let strict = over(&rt, "check", &["a", "b"], &["--strict"])?;
     assert!(rt; strict.status == 5 && strict.out.as_slice() == worse.out.as_slice());
     for server in ["0", "1", "2", "3", "4", "5"] {
@@ -128,9 +148,18 @@ fn repairs_make_them_healthy(rt: HostRuntime) -> Result<(), Fail> {
     assert!(rt; few.out.as_slice() == b"files 1 repaired 0 lost 0\n".as_slice());
     let repaired = over(&rt, "repair", &names, &["--happy", "5"])?;
     assert!(rt; repaired.status == 5 && repaired.tells(b"grid: 71 NotEnoughShares (gone)"));
-    assert!(rt; repaired.out.starts_with(b"happiness 10  a/file\nliteral  b\n"));
+    assert!(rt;
+        repaired
+            .out
+            .starts_with(b"happiness 10  a/file\nliteral  b\n")
+    );
     let after = over(&rt, "check", &["a", "b"], &["--strict"])?;
-    assert!(rt; after.status == 0 && after.out.ends_with(b"files 2 healthy 2 recoverable 0 lost 0\n"));
+    assert!(rt;
+        after.status == 0
+            && after
+                .out
+                .ends_with(b"files 2 healthy 2 recoverable 0 lost 0\n")
+    );
     assert!(rt; removes_all(&rt));
     Ok(())
 }
@@ -171,8 +200,9 @@ fn no_catalogue(rt: HostRuntime) -> Result<(), Fail> {
     let none = format!(in rt.alloc(); "grid: 100 NoServers {} (b)", path(&rt, "/grid")?)?;
     assert!(rt; came.status == 5 && came.tells(none.as_bytes()));
     assert!(rt; came.tells(b"grid: 111 NotALine 4"));
-    assert!(rt; came.out.as_slice()
-        == b"literal  a\nfiles 2 healthy 1 recoverable 0 lost 0\n".as_slice());
+    assert!(rt;
+        came.out.as_slice() == b"literal  a\nfiles 2 healthy 1 recoverable 0 lost 0\n".as_slice()
+    );
     let came = over(&rt, "repair", &[], &["--happy", "0"])?;
     assert!(rt; came.status == 3 && came.out.is_empty());
     let came = over(&rt, "check", &[], &["--known"])?;
@@ -194,13 +224,23 @@ fn caps_in_files(rt: HostRuntime) -> Result<(), Fail> {
     assert!(rt; got.status == 0 && got.out.as_slice() == counted(&rt, 56)?.as_slice());
     for command in ["check", "repair"] {
         let said = run(&rt, command, &[VERIFY_CAP], grid.as_str(), &[]);
-        fs::write(&rt, cap.as_str(), format!(in rt.alloc(); "{VERIFY_CAP}\n")?.as_str())?;
+        fs::write(
+            &rt,
+            cap.as_str(),
+            format!(in rt.alloc(); "{VERIFY_CAP}\n")?.as_str(),
+        )?;
         let read = run(&rt, command, &[], grid.as_str(), &words);
         assert!(rt; read.status == 0 && read.out.as_slice() == said.out.as_slice());
     }
     let long = format!(in rt.alloc(); "{ONE_CAP}{:300}", "")?;
     let two = format!(in rt.alloc(); "{ONE_CAP}\n\n")?;
-    for text in [two.as_bytes(), long.as_bytes(), b"", b"\n", b"URI:LIT:n5xgk\xff"] {
+    for text in [
+        two.as_bytes(),
+        long.as_bytes(),
+        b"",
+        b"\n",
+        b"URI:LIT:n5xgk\xff",
+    ] {
         fs::write(&rt, cap.as_str(), text)?;
         let refused = run(&rt, "get", &[], grid.as_str(), &words);
         assert!(rt; refused.status == 3 && refused.out.is_empty());

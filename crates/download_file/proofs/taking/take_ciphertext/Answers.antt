@@ -1,12 +1,17 @@
-use Rattle.std.proofs.Common.{◌≡◌, ◌∙◌, ◌*◌, ◌+◌, ◌<◌, ◌≤◌, inl, inr, ℕ, List, length, ap, arith, subst, sym, true≢false, slice_set}
+use Rattle.std.proofs.Common.{◌≡◌, ◌∙◌, ◌*◌, ◌+◌, ◌<◌, ◌≤◌, inl, inr, ℕ, List, length, ap, arith, subst, sym, true≢false, slice_set, Err, rules}
 use Rattle.std.proofs.lemmas.Bool.{cases_lt}
+use Rattle.merkle.specs.Partial.{IsNotConsistent}
 use Rattle.download_parts.specs.Plan.{nodes_of}
+use Rattle.download_parts.specs.Offers.{nodes_offered}
+use Rattle.download_parts.specs.declared.error.TreeFault.TheVariants as faults
+use Rattle.download_parts.specs.declared.part.Nodes.{Nodes}
 use Rattle.download_parts.specs.declared.part.Part.{Part}
 use Rattle.download_parts.specs.declared.part.Part.TheVariants.{CiphertextTree}
 use Rattle.share_layout.specs.Geometry.{Geometry}
 use Rattle.download_supply.specs.Cursors.{cursor_at}
 use Rattle.download_supply.specs.Taking.{IsDue}
 use Rattle.download_file.specs.Steps.{TakesPart}
+use Rattle.download_file.specs.Taking.{RefutesPart}
 use Rattle.download_file.proofs.TakingLemmas.{passed_ciphertext, read_long, took_ciphertext}
 use Rattle.download_file.proofs.taking.take_ciphertext.Goals as goal
 
@@ -49,3 +54,16 @@ returns-clause-taken c =
     subst (λ (q : Part). TakesPart h r taken a b q w.position c.take_nodes.new.self c.take_ciphertext.new.self (slice_set taken p.level (p.index + 1))) (sym c.requires.part)
     (took_ciphertext h r taken a b w c.requires.taker c.take_nodes.new.self c.take_ciphertext.new.self p c.nodes-nodes.result c.args.bytes.now
     c.in_ok-take_nodes.ensures.others c.in_ok-take_nodes.ensures.right c.in_ok-take_nodes.ensures.grow these long c.in_ok-take_nodes.ensures.taken c.take_ciphertext.ensures.taken c.take_ciphertext.ensures.right high)
+
+pub returns-in_err-take_nodes-clause-refused : goal.returns-in_err-take_nodes-clause-refused
+returns-in_err-take_nodes-clause-refused c = λ check is.
+    let h = c.args.handout.now in
+    let r = c.args.reader.now in
+    let a = c.args.plan.now.first in
+    let b = c.args.plan.now.end in
+    let p = c.args.piece.now in
+    let same : c.in_err-take_nodes.field-0.0 ≡ faults.Check check = search rules in
+    let k = c.in_err-take_nodes.ensures.refused check (ap Err same) in
+    let these : c.nodes-nodes.result ≡ nodes_of h.geometry a b p = c.nodes-nodes.ensures.value ∙ ap (λ (g : Geometry). nodes_of g a b p) c.requires.plan in
+    subst (λ (q : Part). RefutesPart h a b r q c.args.bytes.now check) (sym c.requires.part)
+    (k.0, subst (λ (n : Nodes). IsNotConsistent h.trees.ciphertext (nodes_offered n c.args.bytes.now)) these k.1)

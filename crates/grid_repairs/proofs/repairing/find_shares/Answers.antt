@@ -2,20 +2,23 @@ use Rattle.std.proofs.Common.{IfSome, Option, subst, sym, ap, ◌∙◌}
 use Rattle.std.specs.Prelude.{is_some}
 use Rattle.grid_servers.specs.Grids.{grid_calls}
 use Rattle.grid_repairs.specs.Checks.{Standing, WereChecked}
-use Rattle.grid_repairs.proofs.StandingLemmas.{checked_by, checked_more, stands_distinct}
+use Rattle.grid_repairs.proofs.StandingLemmas.{checked_more, stands_distinct}
 use Rattle.grid_repairs.proofs.repairing.find_shares.Goals as goal
 
-pub look_at-report-requires : goal.look_at-report-requires
-look_at-report-requires g c = stands_distinct _ c.args.place.now.grid.now (is_some c.args.kept.now) c.in_ok-open.open c.in_ok-open.ensures.stand
+pub look_at-requires : goal.look_at-requires
+look_at-requires g c = stands_distinct _ c.args.place.now.grid.now (is_some c.args.kept.now) c.in_ok-open.open c.in_ok-open.ensures.stand
 
-pub returns-then-branch-clause-found : goal.returns-then-branch-clause-found
-returns-then-branch-clause-found g c = (
-  checked_by _ c.args.place.now.grid.now (is_some c.args.kept.now) c.args.cap.now c.in_ok-report.report c.in_ok-open.open c.in_ok-open.ensures.stand c.in_ok-report.ensures.found,
+pub returns-then-report-clause-found : goal.returns-then-report-clause-found
+returns-then-report-clause-found g c = (
+  record { stood = c.in_ok-open.open; stands = c.in_ok-open.ensures.stand; checked = c.in_ok-report.ensures.found },
   c.in_ok-servers.ensures.items ∙ c.servers.ensures ∙ c.in_ok-report.ensures.led.servers,
 )
 
-pub returns-clause-kept : goal.returns-clause-kept
-returns-clause-kept g c = checked_more _ c.args.place.now.grid.now (is_some c.args.kept.now) c.in_ok-open.open c.look_at-report.new.open c.still_speaking.result c.in_ok-open.ensures.stand c.in_ok-report.ensures.led c.still_speaking.ensures
+pub returns-then-report-clause-kept : goal.returns-then-report-clause-kept
+returns-then-report-clause-kept g c = checked_more _ c.args.place.now.grid.now (is_some c.args.kept.now) c.in_ok-open.open c.look_at.new.open c.still_speaking.result c.in_ok-open.ensures.stand c.in_ok-report.ensures.led c.still_speaking.ensures
+
+pub returns-else-report-clause-kept : goal.returns-else-report-clause-kept
+returns-else-report-clause-kept g c = checked_more _ c.args.place.now.grid.now (is_some c.args.kept.now) c.in_ok-open.open c.look_at.new.open c.still_speaking.result c.in_ok-open.ensures.stand c.in_ok-report.ensures.led c.still_speaking.ensures
 
 -- none are kept
 pub returns-in_err-open-clause-kept : goal.returns-in_err-open-clause-kept

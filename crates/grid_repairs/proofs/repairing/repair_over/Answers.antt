@@ -30,6 +30,6 @@ returns-clause-repaired g c =
       made = c.in_ok-made.made.ready;
       reading = c.in_ok-made.made.reading.items;
       anew = subst (λ (ps : List SharePlace). AreMadeAnew gives fails c.args.cap.now c.args.happy ps c.in_ok-bytes.bytes c.in_ok-made.made.ready c.in_ok-made.made.reading.items) opened.places_are c.in_ok-made.ensures;
-      placed = subst (λ (ps : List SharePlace). ArePlaced (remade_calls (GivesDecoded gives fails) (λ s. s.failures) lacks_memory) calls grid (is_some c.args.kept.now) c.args.placing.now.mend ps servers c.in_ok-made.made.ready stored) c.as_slice-reading.ensures.value placed;
+      placed = subst (λ (ps : List SharePlace). ArePlaced (remade_calls (GivesDecoded gives fails) (λ s. s.failures) lacks_memory) calls grid (is_some c.args.kept.now) c.args.placing.now.mend ps servers c.in_ok-made.made.ready stored) c.as_slice-2.ensures.value placed;
     })
     c.place_shares-stored.ensures.placed

@@ -1,6 +1,4 @@
-use Rattle.std.proofs.Common.{◌∙◌, inr, length, refl, subst, ap, arith}
-use Rattle.download_shares.specs.HoldingState.{HoldingsState}
-use Rattle.download_shares.specs.Table.{NoneIsFree}
+use Rattle.std.proofs.Common.{rules, ◌∙◌, length, refl, ap, arith}
 use Rattle.share_layout.specs.Geometry.{Geometry}
 use Rattle.download_segments.specs.State.{HandoutState}
 use Rattle.download_core.specs.ReadingState.{ReadingState}
@@ -10,13 +8,13 @@ use Rattle.download_core.proofs.file_reading.FileReading.begin_more.Goals as goa
 pub loop-self-init : goal.loop-self-init
 loop-self-init c = record { reading = c.requires.reading; handout = refl; blamed = refl; held = refl; continues = continues_none c.args.beginnings.now c.args.self.now }
 
-pub returns-in_default-clause-enough : goal.returns-in_default-clause-enough
-returns-in_default-clause-enough c = inr (subst (λ (x : HoldingsState). NoneIsFree x.table) c.holdings.ensures c.in_default.ensures.none)
+pub returns-then-not-branch-clause-continues : goal.returns-then-not-branch-clause-continues
+returns-then-not-branch-clause-continues c = continues_trans c.args.beginnings.now c.loop-self.beginnings c.begin_one.new.beginnings c.args.self.now c.loop-self.self c.begin_one.new.self c.loop-self.invariant.continues c.in_ok-begin_one.ensures.continues
 
 pub loop-self-smaller : goal.loop-self-smaller
 loop-self-smaller c =
     let same = ap (λ (h : HandoutState). h.geometry.needed) c.in_ok-begin_one.ensures.handout in
-    let more = c.in_ok-begin_one.ensures.live in
+    let more = c.in_ok-begin_one.ensures.live (search rules) in
     let live = ap length (c.live.ensures.value ∙ ap (λ (x : ReadingState). x.file.live) c.self.view_is) in
     let needed = c.needed.ensures.value ∙ ap (λ (g : Geometry). g.needed) (c.geometry.ensures.value ∙ ap (λ (x : ReadingState). x.file.handout.geometry) c.self.view_is) in
     let wide = c.from.ensures in

@@ -1,4 +1,4 @@
-use Rattle.std.proofs.Common.{◌≡◌, ◌∙◌, ℕ, inl, inr, IfNone, IfSome, List, Contains, Option, Some, None, ap, subst, sym}
+use Rattle.std.proofs.Common.{◌∙◌, ℕ, inl, inr, IfNone, IfSome, List, Contains, Option, Some, None, ap, subst, sym}
 use Rattle.download_file.specs.State.{IsHeard}
 use Rattle.download_core.specs.Reading.{IsGone}
 use Rattle.download_core.specs.ReadingState.{ReadingState}

@@ -1,4 +1,4 @@
-use Rattle.std.proofs.Common.{◌≡◌, ◌∙◌, ◌<◌, length, ap, arith, subst, sym}
+use Rattle.std.proofs.Common.{◌<◌, length, ap, arith, subst, sym}
 use Rattle.lemmas.proofs.Results.{on_ok_then}
 use Rattle.download_file.specs.State.{IsLive}
 use Rattle.download_core.specs.Reading.{AreReading}

@@ -69,6 +69,12 @@ returns-in-Ok-clause-next c e =
       busy = busy_file None bs r q refl before.busy;
     }
 
+pub returns-in-Ok-clause-live : goal.returns-in-Ok-clause-live
+returns-in-Ok-clause-live c e =
+    let r : ReadingState = seen c.self.inside in
+    let live : IsHeard r.file c.args.reader = subst (λ (x : ReadingState). IsHeard x.file c.args.reader) (sym c.self.view_is) c.requires.live in
+    heard_same c.take.new.self r.file (sym c.in-Ok.ensures.live) (sym c.in-Ok.ensures.aside) c.args.reader live
+
 pub returns-in-Ok-clause-continues : goal.returns-in-Ok-clause-continues
 returns-in-Ok-clause-continues c =
     let bs = c.args.beginnings.now in

@@ -11,7 +11,7 @@ returns-clause-reading c s before =
     let r : ReadingState = seen c.self.inside in
     let reading : AreReading s r = subst (AreReading s) (sym c.self.view_is) before in
     let k = c.take_piece.ensures in
-    all_made s r c.take_piece.new.self reading (ap (λ (f : FileState). f.live) k.rest) (ap (λ (f : FileState). f.readers) k.rest) k.asked
+    all_made s r c.take_piece.new.self reading (ap (λ (f : FileState). f.live) k.rest) (ap (λ (f : FileState). f.aside) k.rest) (ap (λ (f : FileState). f.readers) k.rest) k.asked
     (k.reads s.holdings.requests.entries reading.linked.kept.answers) k.right k.same
 
 -- what was asked stays asked

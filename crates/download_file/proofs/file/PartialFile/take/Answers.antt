@@ -1,10 +1,14 @@
-use Rattle.std.proofs.Common.{refl, ◌≡◌, ◌∙◌, ◌<◌, inr, ℕ, List, Err, Some, ap, subst, sym, length, slice_get, slice_set, rules}
+use Rattle.std.proofs.Common.{refl, ◌≡◌, ◌∙◌, ◌∷◌, ◌<◌, [], inl, inr, ℕ, List, Err, Option, Some, None, ap, arith, subst, sym, length, slice_get, slice_set, rules}
+use Rattle.std.specs.Prelude.{IsSome}
+use Rattle.std.proofs.lemmas.Bool.{false≢true}
 use Rattle.lemmas.proofs.Options.{one_there}
 use Rattle.lemmas.proofs.Positions.{got}
 use Rattle.request_record.specs.declared.requests.Request.{Request}
 use Rattle.download_parts.specs.declared.error.TreeFault.TheVariants as faults
 use Rattle.download_segments.specs.State.{HandoutState}
-use Rattle.download_file.specs.State.{FileState, IsHeard, ReaderState, copies, waiting_at, file_state}
+use Rattle.share_verify.specs.declared.check.Check.TheVariants as checks
+use Rattle.download_file.specs.State.{FileState, IsHeard, ReaderState, copies, file_state, first_position, first_waiting, waiting_at, waiting_in}
+use Rattle.download_file.specs.declared.reader.Waiting.{Waiting}
 use Rattle.download_file.specs.Answers.{AnswersFirst, IsRead}
 use Rattle.download_file.specs.Asked.{AsksNoMore}
 use Rattle.download_file.specs.Changes.{HandsNothing, IsSameFile, StaysAskedUp}
@@ -189,3 +193,46 @@ returns-then-bytes-first-clause-aside c = refl
 
 pub returns-in_err-take_part-clause-aside : goal.returns-in_err-take_part-clause-aside
 returns-in_err-take_part-clause-aside c = ap (λ (s : FileState). s.aside) (same c)
+
+-- ---- the reader is there, and something waits of it
+
+pub index_mut-requires : goal.index_mut-requires
+index_mut-requires c =
+    let f : FileState = seen c.self.inside in
+    let heard : IsHeard f c.args.reader = subst (λ (s : FileState). IsHeard s c.args.reader) (sym c.self.view_is) c.requires.heard in
+    let low : c.args.reader < length f.readers = heard_there f c.args.reader c.self.invariant.0 heard in
+    let long = c.self.inside.readers.ok.0 in
+    omega (arith, low, long)
+
+none_first : (ws : List Waiting) → slice_get ws 0 ≡ None → first_position ws ≡ None
+none_first [] e = refl
+none_first (w ∷ ws) e = absurd (let k : Some w ≡ None = e in cc)
+
+pub unreachable-requires : goal.unreachable-requires
+unreachable-requires c =
+    let f : FileState = seen c.self.inside in
+    let heard : IsHeard f c.args.reader = subst (λ (s : FileState). IsHeard s c.args.reader) (sym c.self.view_is) c.requires.heard in
+    let low : c.args.reader < length f.readers = heard_there f c.args.reader c.self.invariant.0 heard in
+    let at : slice_get f.readers c.args.reader ≡ Some c.index.result.now = got f.readers c.args.reader c.index.result.now low c.index.ensures in
+    let none : first_position c.index.result.now.waiting ≡ None = none_first c.index.result.now.waiting (sym c.first.ensures ∙ c.in_default.is) in
+    let here : first_waiting f c.args.reader ≡ None = ap (λ (o : Option ReaderState). first_position (waiting_in o)) at ∙ none in
+    absurd (false≢true (subst IsSome (ap (λ (s : FileState). first_waiting s c.args.reader) (sym c.self.view_is) ∙ here) c.requires.waits))
+
+pub returns-then-bytes-first-clause-refused : goal.returns-then-bytes-first-clause-refused
+returns-then-bytes-first-clause-refused c = λ check is.
+    let f : FileState = seen c.self.inside in
+    let heard : IsHeard f c.args.reader = subst (λ (s : FileState). IsHeard s c.args.reader) (sym c.self.view_is) c.requires.heard in
+    let low : c.args.reader < length f.readers = heard_there f c.args.reader c.self.invariant.0 heard in
+    let r : ReaderState = c.index.result.now in
+    let at : slice_get f.readers c.args.reader ≡ Some r = got f.readers c.args.reader r low c.index.ensures in
+    let front = front_is r.waiting c.in-Some.first (sym c.first.ensures ∙ c.in-Some.is) in
+    let fault : check ≡ checks.Layout = cc in
+    subst (λ (s : FileState). IsRefused s c.args.reader c.args.bytes.now check) c.self.view_is
+    (record {
+      r = r;
+      there = at;
+      first = c.in-Some.first;
+      others = front.0;
+      waits = front.1;
+      why = inl (fault, c.if-bytes-first.true);
+    })
