@@ -40,12 +40,12 @@ use wire::message::NodeId;
 /// The exit status where a share that is none of the file's could not be set aside.
 const NOT_CLEARED: u8 = 5;
 
-// The most pieces of a share that may wait at a server elsewhere: more would make a put over a slow
-// line lose pieces, as a request's age counts from when it is asked.
-const MOST_AHEAD: usize = 4;
+// The most pieces of a share that may wait at a server elsewhere.
+const MOST_AHEAD: usize = 8;
 
-// The most pieces that have room in what may wait for a server.
-const MOST_PIECES: usize = 512;
+// The most of all shares together: two megabytes, which take 17 seconds at 1 Mbit/s. With more a put
+// over a slow line would lose pieces, since a request is lost 20 seconds after it is asked.
+const MOST_PIECES: usize = 64;
 
 /// How a store puts shares on its disk.
 pub fn durability_of(no_sync: bool) -> Durability
@@ -208,7 +208,7 @@ where
         turns_for(ready.goal()),
         standing.nodes.clock(),
     );
-    let ahead = pieces_ahead(&standing.nodes, ready.goal(), servers);
+    let ahead = pieces_ahead(&standing.nodes, ready.goal());
     let upload = begin(rt.alloc(), ready, ahead, servers, session, now)?;
     let alloc = rt.alloc();
     let nodes = &mut standing.nodes;
@@ -239,19 +239,17 @@ fn turns_for(goal: &UploadGoal) -> u64 {
     turn_limit(shares, goal.share_length().get())
 }
 
-// How many pieces of a share may wait for their answers at one server. Over folders of this process
-// each comes after the answer to the one before it; where a server is elsewhere four may wait, so
-// that not each of them costs a round trip, and fewer where a server is to hold so many shares that
-// their pieces have no room in what may wait for it.
-fn pieces_ahead<R>(nodes: &FolderGrid<R>, goal: &UploadGoal, servers: &[NodeId]) -> u8
+// How many pieces of a share may wait for their answers. Over folders of this process each comes
+// after the answer to the one before it; where a server is elsewhere up to eight may wait, so that
+// not each of them costs a round trip, and fewer where there are many shares.
+fn pieces_ahead<R>(nodes: &FolderGrid<R>, goal: &UploadGoal) -> u8
 where
     R: Files + Net + Clock + RandomSource + AllocGlobal + Clone + Drop,
     ensures some { 1 ≤ result }
     ensures few { result ≤ at_once nodes.now.remotes }
 {
     let most = pieces_at_once(nodes).min(MOST_AHEAD);
-    let shares_each = goal.share_count().div_ceil(servers.len().max(1)).max(1);
-    (MOST_PIECES / shares_each).clamp(1, most) as u8
+    (MOST_PIECES / goal.share_count().max(1)).clamp(1, most) as u8
 }
 
 // Begins an upload to these servers, which are distinct, where so many pieces of a share may wait
