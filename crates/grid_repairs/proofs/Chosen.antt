@@ -1,5 +1,5 @@
 -- Which good shares are chosen, verdict by verdict.
-use Rattle.std.proofs.Common.{◌≡◌, ◌≢◌, ℕ, zero, suc, ◌+◌, ◌<◌, ◌≤◌, List, [], ◌∷◌, ◌++◌, Bool, true, false, cond, map, filter, refl, sym, subst, ap, inl, inr, ◌∙◌, arith, zero-add, get_or}
+use Rattle.std.proofs.Common.{◌≡◌, ℕ, ◌+◌, ◌<◌, ◌≤◌, List, [], ◌∷◌, ◌++◌, Bool, true, false, cond, map, filter, sym, subst, ap, inl, inr, ◌∙◌, arith, zero-add, get_or}
 use Rattle.std.specs.Prelude.{◌==◌, All, count_by}
 use Rattle.std.specs.List.{Contains}
 use Rattle.lemmas.proofs.Bools.{bool_cases}

@@ -1,5 +1,5 @@
 -- What a check and a repair come to.
-use Rattle.std.proofs.Common.{◌≡◌, false, ℕ, List, Option, Some, None, Result, Ok, Err, IfOk, IfSome, ap, sym, subst, ◌∙◌}
+use Rattle.std.proofs.Common.{◌≡◌, false, ℕ, Option, Some, None, Result, Ok, Err, IfOk, IfSome, ap, sym, subst, ◌∙◌}
 use Rattle.std.specs.Option.{ok_or}
 use Rattle.cap_text.specs.Cap.{VerifyCapValue}
 use Rattle.cap_text.specs.CapText.{Spells}

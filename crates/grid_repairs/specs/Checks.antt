@@ -1,6 +1,6 @@
 -- What a check tells.
-use Rattle.std.specs.Prelude.{◌≡◌, ◌+◌, ℕ, List, Bool, Option, Some, None, true, false, codes}
-use Rattle.std.specs.Prelude.{if◌then◌else◌, nat_eq}
+use Rattle.std.specs.Prelude.{◌≡◌, ◌<◌, ◌+◌, ℕ, List, Bool, Option, Some, None, true, false, codes}
+use Rattle.std.specs.Prelude.{if◌then◌else◌, length, nat_eq}
 use Rattle.std.specs.List.{IsDistinct}
 use Rattle.cap_text.specs.Cap.{VerifyCapValue, verify_cap_of}
 use Rattle.cap_text.specs.CapText.{Spells}
@@ -29,8 +29,10 @@ pub record Standing (G : Type 0) : Type 0 where
   pub grid : G
   pub session : ℕ
 
--- They were just opened, each over its own folder or elsewhere, and are distinct.
+-- They were just opened, each over its own folder or elsewhere; there are some, and they are
+-- distinct.
 pub record AreNew {S : Type 0} (grid : List ℕ) (s : Standing (FolderGridState S)) : Type 0 where
+  pub some : 0 < length s.servers
   pub distinct : IsDistinct nat_eq s.servers
   pub opened : AreOpened grid s.grid
   pub first : s.session ≡ 1

@@ -10,6 +10,7 @@ use Rattle.carried_operations.specs.declared.range.SharePlace.{SharePlace}
 use Rattle.share_source.specs.Decoded.{Decoding, GivesDecoded}
 use Rattle.carried_operations.specs.Fetched.{FetchedState, IsReadOver, IsUnread}
 use Rattle.file_upload.specs.RemadeStream.{RemadeStreaming}
+use Rattle.file_upload.specs.Shares.{MayWant}
 use Rattle.upload_core.specs.Ready.{Ready}
 use Rattle.checker.specs.Report.{good_pairs}
 use Rattle.checker.specs.declared.status.Report.{Report}
@@ -58,10 +59,11 @@ pub record IsRepairedOver {S : Type 0} (calls : GridCalls S) (grid : List ℕ) (
       (GivesDecoded (IsReadOver calls) (IsUnread calls))
       (λ s. s.failures) lacks_memory) calls grid kept mend reading servers made stored
 
--- A file was repaired by a check at the servers of a grid, and on these; those for reading and those
--- for writing were kept open, or just opened.
+-- A file was repaired by a check at the servers of a grid, and on these, for so many of them as a
+-- file's shares can be at; those for reading and those for writing were kept open, or just opened.
 pub record IsRepairedBy {S : Type 0} (calls : GridCalls S) (grid : List ℕ) (read_on write_on : Bool)
     (mend : Bool) (happy : ℕ) (cap : VerifyCapValue) (stored : Stored) : Type 0 where
+  pub may : MayWant cap happy
   pub report : Report
   pub by_check : IsCheckedBy calls grid read_on cap report
   pub enough : report.recoverable ≡ true

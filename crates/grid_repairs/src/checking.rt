@@ -193,23 +193,23 @@ fn find_shares<R, E>(
     rt: &R,
     place: &Place<'_>,
     cap: VerifyCap,
-    open: &mut OpenGrid<R>,
+    standing: &mut OpenGrid<R>,
     progress: &mut Progress<'_, R, E>,
 ) -> Result<Report, Fault>
 where
     R: Files + Net + Clock + RandomSource + AllocGlobal + Clone + Drop,
     E: Write + IsTerminal,
-    requires { IsDistinct nat_eq open.old.servers }
+    requires { IsDistinct nat_eq standing.old.servers }
     ensures found { IfOk result
-        (IsCheckedAt (grid_calls R.Stream.contents R.Stream.remaining) cap open.old) }
+        (IsCheckedAt (grid_calls R.Stream.contents R.Stream.remaining) cap standing.old) }
     ensures led { IfOk result (λ _.
-        AreCheckedTo (grid_calls R.Stream.contents R.Stream.remaining) open.old open.new) }
+        AreCheckedTo (grid_calls R.Stream.contents R.Stream.remaining) standing.old standing.new) }
 {
     let total = cap.total();
-    let found = open.check(rt.alloc(), cap, Verb::Check, progress);
+    let found = standing.check(rt.alloc(), cap, Verb::Check, progress);
     progress.clear();
     let report = found?;
-    open.note(rt, place.grid, progress)?;
+    standing.note(rt, place.grid, progress)?;
     note_report(rt, place.grid, &report, total, progress)?;
     Ok(report)
 }

@@ -1,7 +1,7 @@
 //! `grid repair`: the missing shares of a cap's file are made again and placed on servers, by
 //! anyone who has its verify cap. It holds neither the file nor a share of it.
 
-ghost use Rattle.std.specs.Prelude.{◌≡◌, ◌≤◌, ◌<◌, IfOk, IfSome, is_some, nat_eq, true};
+ghost use Rattle.std.specs.Prelude.{◌≡◌, ◌≤◌, ◌<◌, IfOk, IfSome, OnOk, is_some, nat_eq, true};
 ghost use Rattle.std.specs.List.{IsDistinct};
 ghost use Rattle.grid_servers.specs.Grids.{grid_calls};
 ghost use Rattle.grid_shares.specs.Puts.{stored_status};
@@ -89,6 +89,7 @@ pub fn may_repair<R, E>(rt: &R, happy: u64, progress: &mut Progress<'_, R, E>) -
 where
     R: Clock + AllocGlobal,
     E: Write + IsTerminal,
+    ensures { OnOk result ((1 ≤ happy) × (happy ≤ 256)) }
 {
     match happy_within(rt, happy, MAX_SHARES, progress) {
         Ok(_) => Ok(()),
@@ -205,7 +206,8 @@ fn happy_within<R, E>(
 where
     R: Clock + AllocGlobal,
     E: Write + IsTerminal,
-    ensures { IfOk result (λ wanted. wanted ≡ happy) }
+    ensures wanted { IfOk result (λ wanted. wanted ≡ happy) }
+    ensures within { IfOk result (λ wanted. (1 ≤ wanted) × (wanted ≤ most)) }
 {
     let limit = Limit {
         option: "--happy",
@@ -298,19 +300,19 @@ fn look_at<R, E>(
     rt: &R,
     place: &Place<'_>,
     cap: &VerifyCap,
-    open: &mut OpenGrid<R>,
+    standing: &mut OpenGrid<R>,
     progress: &mut Progress<'_, R, E>,
 ) -> Result<Report, Fault>
 where
     R: Files + Net + Clock + RandomSource + AllocGlobal + Clone + Drop,
     E: Write + IsTerminal,
-    requires { IsDistinct nat_eq open.old.servers }
+    requires { IsDistinct nat_eq standing.old.servers }
     ensures found { IfOk result
-        (IsCheckedAt (grid_calls R.Stream.contents R.Stream.remaining) cap.now open.old) }
+        (IsCheckedAt (grid_calls R.Stream.contents R.Stream.remaining) cap.now standing.old) }
     ensures led { IfOk result (λ _.
-        AreCheckedTo (grid_calls R.Stream.contents R.Stream.remaining) open.old open.new) }
+        AreCheckedTo (grid_calls R.Stream.contents R.Stream.remaining) standing.old standing.new) }
 {
-    let report = open.check(rt.alloc(), *cap, Verb::Repair, progress)?;
+    let report = standing.check(rt.alloc(), *cap, Verb::Repair, progress)?;
     note_report(rt, place.grid, &report, cap.total(), progress)?;
     Ok(report)
 }

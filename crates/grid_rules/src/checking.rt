@@ -65,7 +65,8 @@ fn last_line(alloc: Global, report: &Report) -> Result<String, AllocError>
     format!(in alloc; "healthy {healthy} recoverable {recoverable} happiness {happiness}\n")
 }
 
-fn word_of(holds: bool) -> &'static str
+/// `yes` or `no`.
+pub fn word_of(holds: bool) -> &'static str
     ensures { result.now ≡ word_of holds }
 {
     if holds { "yes" } else { "no" }

@@ -140,7 +140,8 @@ fn last_object(
     )
 }
 
-fn bool_json(holds: bool) -> &'static str
+/// `true` or `false`, as JSON has them.
+pub fn bool_json(holds: bool) -> &'static str
     ensures { result.now ≡ bool_json holds }
 {
     if holds { "true" } else { "false" }

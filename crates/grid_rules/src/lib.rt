@@ -15,8 +15,8 @@ mod range;
 mod scrubbing;
 mod turns;
 
-pub use checking::{report_lines, report_status};
-pub use checking_json::{missing_shares, report_json};
+pub use checking::{report_lines, report_status, word_of};
+pub use checking_json::{bool_json, missing_shares, report_json};
 pub use describing::{cap_lines, read_cap};
 pub use ending::{reached_happiness, reached_range_end, world_status};
 pub use range::{ByteRange, range_of};

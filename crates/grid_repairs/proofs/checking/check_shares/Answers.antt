@@ -12,7 +12,7 @@ pub returns-clause-found : goal.returns-clause-found
 returns-clause-found g c = checked_by _ c.args.place.now.grid.now (is_some c.args.kept.now) c.args.cap c.in_ok-report.report c.in_ok-open.open c.in_ok-open.ensures.stand c.in_ok-report.ensures.found
 
 pub returns-clause-kept : goal.returns-clause-kept
-returns-clause-kept g c = checked_more _ c.args.place.now.grid.now (is_some c.args.kept.now) c.in_ok-open.open c.find_shares.new.open c.still_speaking.result c.in_ok-open.ensures.stand c.in_ok-report.ensures.led c.still_speaking.ensures
+returns-clause-kept g c = checked_more _ c.args.place.now.grid.now (is_some c.args.kept.now) c.in_ok-open.open c.find_shares.new.standing c.still_speaking.result c.in_ok-open.ensures.stand c.in_ok-report.ensures.led c.still_speaking.ensures
 
 -- none are kept
 pub returns-in_err-open-clause-kept : goal.returns-in_err-open-clause-kept

@@ -1,5 +1,4 @@
 use Rattle.std.proofs.Common.{◌≡◌, ℕ, List, map, ap, refl, subst, sym, ◌∙◌}
-use Rattle.ueb.specs.Shape.{Contents}
 use Rattle.carried_operations.specs.declared.range.SharePlace.{SharePlace}
 use Rattle.share_source.specs.Reads.{WasRead}
 use Rattle.carried_operations.specs.Fetched.{IsReadOver, IsUnread}

@@ -1,4 +1,4 @@
-use Rattle.std.proofs.Common.{IfSome, Option, subst, sym, ap, ◌∙◌}
+use Rattle.std.proofs.Common.{IfSome, Option, subst, sym, ◌∙◌}
 use Rattle.std.specs.Prelude.{is_some}
 use Rattle.grid_servers.specs.Grids.{grid_calls}
 use Rattle.grid_repairs.specs.Checks.{Standing, WereChecked}
@@ -15,10 +15,10 @@ returns-then-report-clause-found g c = (
 )
 
 pub returns-then-report-clause-kept : goal.returns-then-report-clause-kept
-returns-then-report-clause-kept g c = checked_more _ c.args.place.now.grid.now (is_some c.args.kept.now) c.in_ok-open.open c.look_at.new.open c.still_speaking.result c.in_ok-open.ensures.stand c.in_ok-report.ensures.led c.still_speaking.ensures
+returns-then-report-clause-kept g c = checked_more _ c.args.place.now.grid.now (is_some c.args.kept.now) c.in_ok-open.open c.look_at.new.standing c.still_speaking.result c.in_ok-open.ensures.stand c.in_ok-report.ensures.led c.still_speaking.ensures
 
 pub returns-else-report-clause-kept : goal.returns-else-report-clause-kept
-returns-else-report-clause-kept g c = checked_more _ c.args.place.now.grid.now (is_some c.args.kept.now) c.in_ok-open.open c.look_at.new.open c.still_speaking.result c.in_ok-open.ensures.stand c.in_ok-report.ensures.led c.still_speaking.ensures
+returns-else-report-clause-kept g c = checked_more _ c.args.place.now.grid.now (is_some c.args.kept.now) c.in_ok-open.open c.look_at.new.standing c.still_speaking.result c.in_ok-open.ensures.stand c.in_ok-report.ensures.led c.still_speaking.ensures
 
 -- none are kept
 pub returns-in_err-open-clause-kept : goal.returns-in_err-open-clause-kept

@@ -1,4 +1,4 @@
-use Rattle.std.proofs.Common.{List, ap, subst, ◌∙◌}
+use Rattle.std.proofs.Common.{List, subst}
 use Rattle.std.specs.Prelude.{is_some}
 use Rattle.std.proofs.lemmas.Result.{IfOk-weaker}
 use Rattle.checker.specs.declared.status.ShareVerdict.{ShareVerdict}

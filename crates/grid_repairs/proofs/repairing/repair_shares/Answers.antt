@@ -1,4 +1,4 @@
-use Rattle.std.proofs.Common.{◌≡◌, ℕ, Bool, List, IfSome, nat_eq, subst, sym, ◌∙◌}
+use Rattle.std.proofs.Common.{◌≡◌, ◌≤◌, ℕ, Bool, List, IfSome, nat_eq, subst, sym, ◌∙◌}
 use Rattle.std.specs.Prelude.{is_some}
 use Rattle.std.specs.List.{IsDistinct}
 use Rattle.std.proofs.lemmas.Result.{IfOk-weaker}
@@ -7,6 +7,7 @@ use Rattle.checker.specs.declared.status.Report.{Report}
 use Rattle.grid_servers.specs.Grids.{GridCalls, grid_calls}
 use Rattle.grid_shares.specs.Standing.{WereOpened}
 use Rattle.grid_shares.specs.declared.placing.Stored.{Stored}
+use Rattle.file_upload.specs.Shares.{MayWant}
 use Rattle.grid_repairs.specs.Repairs.{IsRepairedOver}
 use Rattle.grid_repairs.proofs.StandingLemmas.{stands_distinct}
 use Rattle.grid_repairs.proofs.repairing.repair_shares.Goals as goal
@@ -35,10 +36,11 @@ returns-clause-repaired g c =
     let found = c.in_ok-found.ensures.found in
     IfOk-weaker c.repair_over.result _ _
     (λ stored over. record {
+      may = subst (MayWant c.args.cap.now) c.in_ok-happy.ensures.wanted (record { some = c.in_ok-happy.ensures.within.0; reachable = subst (λ (n : ℕ). c.in_ok-happy.happy ≤ n) (c.from.ensures ∙ c.total.ensures.value) c.in_ok-happy.ensures.within.1 });
       report = c.in_ok-found.found.report;
       by_check = found.0;
       enough = c.in_ok-found.ensures.enough;
-      over = repaired_so _ (is_some c.args.writing.now) c.in_ok-found.found.report c.args.cap.now stored _ _ _ _ _ _ _ _ c.placing_of-placing.ensures.grid c.placing_of-placing.ensures.mend c.in_ok-happy.ensures
+      over = repaired_so _ (is_some c.args.writing.now) c.in_ok-found.found.report c.args.cap.now stored _ _ _ _ _ _ _ _ c.placing_of-placing.ensures.grid c.placing_of-placing.ensures.mend c.in_ok-happy.ensures.wanted
           (c.placing_of-placing.ensures.servers ∙ c.as_slice.ensures.value ∙ found.1) over;
     })
     c.repair_over.ensures.repaired

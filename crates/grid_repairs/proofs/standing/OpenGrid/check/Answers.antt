@@ -1,5 +1,5 @@
-use Rattle.std.proofs.Common.{IfOk, Ok, refl, subst, sym, ℕ}
-use Rattle.grid_servers.specs.Grids.{FolderGridState, grid_calls}
+use Rattle.std.proofs.Common.{IfOk, refl, subst, sym, ℕ}
+use Rattle.grid_servers.specs.Grids.{grid_calls}
 use Rattle.grid_repairs.specs.Checks.{AreCheckedTo, IsCheckedAt, Standing}
 use Rattle.grid_repairs.proofs.StandingLemmas.{checked_at, led_to}
 use Rattle.grid_repairs.proofs.Told.{led_ok, told_ok}
