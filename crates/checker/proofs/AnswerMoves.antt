@@ -331,7 +331,7 @@ module _ (cap : VerifyCapValue) (es : List Request) (todo : List ℕ) (o : Offer
               let below : j < n = omega (arith, many, slice_get_within o.wanted.items j w e) in
               inl (omega (arith, spans_apart r j n ahead below, offset_is, len_is))
 
-  -- and is asked for now
+  -- and it is asked at this moment
   pub reads_more : (n : Offer) (now : ℕ) → IsAhead r (length o.wanted.items) → IsWanting (length es) o n
       → IsReading cap (es ++ span_request o.server o.share (offset_ahead r (length o.wanted.items)) (length_ahead r (length o.wanted.items)) now ∷ []) todo n r
   reads_more n now ahead more = record {

@@ -1,15 +1,16 @@
 -- How each command ends.
-use Rattle.std.proofs.Common.{◌≡◌, ℕ, List, Option, None, Some, Result, Ok, Err, IfOk, IfErr, IfSome, Vec, Global, refl, ap, sym, subst, ◌∙◌}
-use Rattle.std.specs.Prelude.{◌⊎◌, IsOkAnd, ⊤}
+use Rattle.std.proofs.Common.{true≢false, ◌≡◌, ℕ, List, Option, None, Some, Result, Ok, Err, IfOk, IfErr, IfSome, Vec, Global, refl, ap, inl, sym, subst, ◌∙◌}
+use Rattle.std.specs.Prelude.{◌⊎◌, IsErr, IsOkAnd, ⊤}
 use Rattle.std.specs.Borrow.{Bor}
 use Rattle.std.specs.Io.KnownBytes.{Appends}
+use Rattle.std.proofs.KnownBytes.{Keeps-refl}
 use Rattle.std.specs.String.{string_bytes}
 use Rattle.sources.specs.Opened.{Opened}
 use Rattle.world_script.specs.Script.{lines_of}
 use Rattle.world_script.specs.declared.ending.Ending.{Ending}
 use Rattle.grid_faults.specs.declared.fault.Fault.{Fault}
 use Rattle.grid_gets.specs.Files.{FileAct, IsFileBy, MayBeFileBy}
-use Rattle.grid_gets.specs.Gets.{IsBegunBy, IsGotBy, UnlessWriter}
+use Rattle.grid_gets.specs.Gets.{IsBegunBy, IsGotBy, UnlessWriter, refused}
 use Rattle.grid_rules.specs.Ending.{world_status}
 use Rattle.grid_lists.specs.Gets.{IsGetFiles}
 use Rattle.grid_surveys.specs.Looks.{IsLookDone, IsLookUndone, checking, repairing}
@@ -30,10 +31,55 @@ use Rattle.grid_words.specs.declared.words.RepairWords.{RepairWords}
 use Rattle.grid_words.specs.declared.words.ScrubWords.{ScrubWords}
 use Rattle.grid_words.specs.declared.words.Request.{Request}
 use Rattle.grid_words.specs.declared.words.Request.TheVariants.{Init, Put, Get, GetFiles, Check, CheckFiles, Repair, RepairFiles, Scrub, World, Describe}
+use Rattle.grid_commands.specs.CapFiles.{IsCheckAsked, IsGetAsked, IsRepairAsked}
 use Rattle.grid_commands.specs.Commands.{AreCapLines, AreFiled, AreGetFiled, ArePrinted, IsCheckFor, IsDone, IsGetBegun, IsGetFiled, IsGetFiledOf, IsGetLeft, IsGetOf, IsGotTo, IsRepairFor, IsRunBy, IsUndone, IsUnwritten, IsWorld, IsWrittenOf}
 use Rattle.grid_commands.specs.Inits.{IsInitBy}
 use Rattle.grid_commands.specs.Scrubs.{IsScrub}
 use Rattle.grid_commands.specs.Texts.{IsEndOf}
+
+-- words with another cap, which is their own where they name no file
+pub get_asked : (words asked : GetWords) (cap : Bor (List ℕ)) (text : List ℕ) → asked ≡ record words { cap = cap } → cap.now ≡ text → (words.cap_file ≡ None → text ≡ words.cap.now) → IsGetAsked words asked
+get_asked words asked cap text is same own = record {
+  others = is ∙ ap (λ (c : Bor (List ℕ)). record words { cap = c }) (sym (ap (λ (w : GetWords). w.cap) is));
+  own = λ none. ap (λ (w : GetWords). w.cap.now) is ∙ same ∙ own none;
+}
+
+pub check_asked : (words asked : CheckWords) (cap : Bor (List ℕ)) (text : List ℕ) → asked ≡ record words { cap = cap } → cap.now ≡ text → (words.cap_file ≡ None → text ≡ words.cap.now) → IsCheckAsked words asked
+check_asked words asked cap text is same own = record {
+  others = is ∙ ap (λ (c : Bor (List ℕ)). record words { cap = c }) (sym (ap (λ (w : CheckWords). w.cap) is));
+  own = λ none. ap (λ (w : CheckWords). w.cap.now) is ∙ same ∙ own none;
+}
+
+pub repair_asked : (words asked : RepairWords) (cap : Bor (List ℕ)) (text : List ℕ) → asked ≡ record words { cap = cap } → cap.now ≡ text → (words.cap_file ≡ None → text ≡ words.cap.now) → IsRepairAsked words asked
+repair_asked words asked cap text is same own = record {
+  others = is ∙ ap (λ (c : Bor (List ℕ)). record words { cap = c }) (sym (ap (λ (w : RepairWords). w.cap) is));
+  own = λ none. ap (λ (w : RepairWords). w.cap.now) is ∙ same ∙ own none;
+}
+
+-- what a get with that cap left, and did with its file
+pub get_left : {S : Type 0} (calls : GridCalls S) (words asked : GetWords) (r : Result ℕ Failure) (before after : Option (List ℕ)) → IsGetAsked words asked → IfErr r (λ failure. IsGetBegun calls asked asked.output failure before after)
+    → IfErr r (λ failure. IsGetLeft calls words failure before after)
+get_left calls words asked (Ok status) before after is left = tt
+get_left calls words asked (Err failure) before after is left = (asked, is, subst (λ (o : Option (Bor (List ℕ))). IsGetBegun calls asked o failure before after) (ap (λ (w : GetWords). w.output) is.others) left)
+
+pub get_filed : {S : Type 0} (calls : GridCalls S) (words asked : GetWords) (r : Result ℕ Failure) (old new : Option (List FileAct)) → IsGetAsked words asked → IsGetFiled calls asked asked.output r old new → IsGetFiledOf calls words r old new
+get_filed calls words asked r old new is filed = (asked, is, subst (λ (o : Option (Bor (List ℕ))). IsGetFiled calls asked o r old new) (ap (λ (w : GetWords). w.output) is.others) filed)
+
+-- where the file of a cap cannot be read, nothing is done
+pub unread_left : {S : Type 0} (calls : GridCalls S) (words : GetWords) (r : Result ℕ Failure) (before : Option (List ℕ)) → IfErr r (λ failure. IsGetLeft calls words failure before before)
+unread_left calls words (Ok status) before = tt
+unread_left calls words (Err failure) before = (words, record { others = refl; own = λ none. refl }, left words.output failure) where
+  left : (file : Option (Bor (List ℕ))) (failure : Failure) → IsGetBegun calls words file failure before before
+  left None (failures.Fault fault) = refused (Keeps-refl before)
+  left None failures.Writer = tt
+  left (Some path) failure = refl
+
+pub unread_filed : {S : Type 0} (calls : GridCalls S) (words : GetWords) (r : Result ℕ Failure) (old : Option (List FileAct)) → IsErr r → IsGetFiledOf calls words r old old
+unread_filed calls words (Ok status) old failed = absurd (true≢false (sym failed))
+unread_filed calls words (Err failure) old failed = (words, record { others = refl; own = λ none. refl }, filed words.output) where
+  filed : (file : Option (Bor (List ℕ))) → IsGetFiled calls words file (Err failure) old old
+  filed None = refl
+  filed (Some path) = inl refl
 
 -- what was written of an outcome that is so
 pub outcome_written : (IsOf : Outcome → Type 0) (came : Result Outcome Fault) (r : Result ℕ Failure) (before after : Option (List ℕ)) → IfOk came IsOf

@@ -4,7 +4,8 @@ use Rattle.grid_servers.specs.Grids.{GridCalls}
 use Rattle.sources.specs.Opened.{Opened}
 use Rattle.grid_gets.specs.Files.{FileAct}
 use Rattle.grid_words.specs.declared.words.Request.{Request}
-use Rattle.grid_words.specs.declared.words.Request.TheVariants.{Init, Put, Get, GetFiles, Check, Repair, Scrub, Serve, World, Describe}
+use Rattle.grid_words.specs.declared.words.Request.TheVariants.{Init, Put, Get, GetFiles, Check, CheckFiles, Repair, RepairFiles, Scrub, Serve}
+use Rattle.grid_words.specs.declared.words.Request.TheVariants.{World, Describe}
 use Rattle.grid_words.specs.declared.words.ServeWords.{ServeWords}
 use Rattle.grid_commands.specs.Commands.{EndsByItself, IsServedBy}
 use Rattle.grid_commands.specs.Exit.{IsServingEnd}
@@ -22,7 +23,9 @@ other_ends (Put words) other = tt
 other_ends (Get words) other = tt
 other_ends (GetFiles words) other = tt
 other_ends (Check words) other = tt
+other_ends (CheckFiles words) other = tt
 other_ends (Repair words) other = tt
+other_ends (RepairFiles words) other = tt
 other_ends (Scrub words) other = tt
 other_ends (World path) other = tt
 other_ends (Describe text) other = tt

@@ -27,7 +27,7 @@ const LINE_FEED: u8 = b'\n';
 pub(crate) fn cap_text<R>(rt: &R, word: &str, file: Option<&str>) -> Result<String, Fault>
 where
     R: Files + io::Input + AllocGlobal,
-    ensures { file ≡ None → IfOk result (λ text. string_bytes text ≡ word.now) }
+    ensures { file.entry ≡ None → IfOk result (λ text. string_bytes text ≡ word.now) }
 {
     match file {
         Some(path) => read_cap_file(rt, path),

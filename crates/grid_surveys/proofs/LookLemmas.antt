@@ -1,6 +1,6 @@
 -- Files of a catalogue that are looked at, one after the other.
-use Rattle.std.proofs.Common.{Bor, map, ◌≡◌, ◌∙◌, ℕ, List, [], ◌∷◌, ◌++◌, Bool, true, false, Option, Some, None, Result, Ok, Err, IfOk, IfErr, IfSome, refl, sym, ap, subst, arith, inl, inr}
-use Rattle.std.specs.Prelude.{fold, max}
+use Rattle.std.proofs.Common.{Bor, map, ◌≡◌, ◌∙◌, ℕ, List, [], ◌∷◌, ◌++◌, Bool, true, false, Option, Some, None, Result, Ok, Err, IfOk, refl, sym, ap, subst, arith, inl, inr}
+use Rattle.std.specs.Prelude.{max}
 use Rattle.std.specs.Io.KnownBytes.{Appends}
 use Rattle.std.specs.List.{AllByRecursion, flat_map}
 use Rattle.std.proofs.KnownBytes.{Appends-nil, Appends-trans}
@@ -21,8 +21,9 @@ use Rattle.grid_telling.specs.declared.outcome.Failure.{Failure}
 use Rattle.grid_words.specs.declared.catalogue_words.CheckFilesWords.{CheckFilesWords}
 use Rattle.grid_words.specs.declared.catalogue_words.RepairFilesWords.{RepairFilesWords}
 use Rattle.grid_lists.specs.Statuses.{unread_status}
-use Rattle.grid_surveys.specs.LookEnds.{CameTo, IsToldAs, counted_after, fate_of, status_with}
-use Rattle.grid_surveys.specs.Looks.{AreLookedAt, Gone, IsGone, IsSeen, Task, checking, counts_of, counts_text, fate_counted, fate_status, names_of, passed, refused, repairing, seen, seen_check, seen_repair, unfound_status, worst}
+use Rattle.grid_surveys.specs.LookEnds.{CameTo, IsToldAs, counted_after, status_with}
+use Rattle.grid_faults.specs.Fault.{fault_status}
+use Rattle.grid_surveys.specs.Looks.{AreLookedAt, Gone, IsLine, counted, fault_class, is_json, seen_class, seen_status, IsGone, IsSeen, Task, checking, counts_of, counts_text, fate_counted, fate_status, names_of, passed, refused, repairing, seen, seen_check, seen_repair, unfound_status, worst}
 use Rattle.grid_surveys.specs.declared.looking.Came.{Came}
 use Rattle.grid_surveys.specs.declared.seen.Counts.{Counts}
 use Rattle.grid_surveys.specs.declared.seen.Seen.{Seen}
@@ -32,6 +33,26 @@ Text = Option (List ℕ)
 
 pub max_zero : (n : ℕ) → max n 0 ≡ n
 max_zero n = omega arith
+
+-- what is told of a file that was seen, and of one that was refused
+pub told_seen : (task : Task) (r : Result Seen Fault) (s : Seen) (json : Bool) (name text given : List ℕ) (a b : Text) (came : Came) → r ≡ Ok s → json ≡ is_json task → IsLine json s name text → given ≡ text → Appends a b given → came.class ≡ seen_class s → came.status ≡ seen_status task s
+    → IsToldAs task r name a b came
+told_seen task r s json name text given a b came is same line shown written class status = subst (λ (r : Result Seen Fault). IsToldAs task r name a b came) (sym is) (record {
+  text = text;
+  is = subst (λ (j : Bool). IsLine j s name text) same line;
+  written = subst (Appends a b) shown written;
+  counted_is = λ (n : Counts). ap (counted n) class;
+  status_is = status;
+})
+
+pub told_refused : (task : Task) (r : Result Seen Fault) (fault : Fault) (name : List ℕ) (a : Text) (came : Came) → r ≡ Err fault → came.class ≡ fault_class fault → came.status ≡ fault_status fault → IsToldAs task r name a a came
+told_refused task r fault name a came is class status = subst (λ (r : Result Seen Fault). IsToldAs task r name a a came) (sym is) (record {
+  text = [];
+  is = refl;
+  written = Appends-nil a;
+  counted_is = λ (n : Counts). ap (counted n) class;
+  status_is = status;
+})
 
 -- what is chosen, by the names of a task
 pub chosen_as : (task : Task) (name given : List ℕ) (names : List (Bor (List ℕ))) (b : Bool) → map (λ (n : Bor (List ℕ)). n.now) names ≡ names_of task → given ≡ name → b ≡ chooses (map (λ (n : Bor (List ℕ)). n.now) names) given → b ≡ chooses (names_of task) name

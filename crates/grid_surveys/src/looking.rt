@@ -106,7 +106,7 @@ where
     O: Write,
     E: Write + IsTerminal,
     ensures done { IfOk result (λ status. IsLookDone
-        (grid_calls R.Stream.contents R.Stream.remaining) (task_of looking.look) status
+        (grid_calls R.Stream.contents R.Stream.remaining) (task_of looking.entry.look) status
         (O.contents out.old) (O.contents out.new)) }
     ensures undone { IfErr result
         (λ failure. IsLookUndone failure (O.contents out.old) (O.contents out.new)) }
@@ -136,7 +136,7 @@ where
     O: Write,
     E: Write + IsTerminal,
     ensures done { IfOk result (λ status. AreLookedAt
-        (grid_calls R.Stream.contents R.Stream.remaining) (task_of looking.look)
+        (grid_calls R.Stream.contents R.Stream.remaining) (task_of looking.entry.look)
         catalogue.entry.left status (O.contents out.old) (O.contents out.new)) }
     ensures undone { IfErr result IsCutOff }
 {
@@ -223,9 +223,9 @@ where
     O: Write,
     E: Write + IsTerminal,
     ensures status { IfOk result (λ status. status
-        ≡ max tally.status (unfound_status (task_of look) tally.counts)) }
+        ≡ max tally.status (unfound_status (task_of look.entry) tally.counts)) }
     ensures written { IfOk result (λ _. Appends (O.contents out.old) (O.contents out.new)
-        (counts_text (task_of look) tally.counts)) }
+        (counts_text (task_of look.entry) tally.counts)) }
     ensures undone { IfErr result IsCutOff }
 {
     let line = counts_line(alloc, look, tally.counts)?;
@@ -267,13 +267,13 @@ where
     requires writing { IfSome writing.old (λ g. WereOpened
         (grid_calls R.Stream.contents R.Stream.remaining) (grid_of looking.look) g.grid) }
     ensures came { IfOk result (CameTo (grid_calls R.Stream.contents R.Stream.remaining)
-        (task_of looking.look) line.entry.cap line.entry.name (O.contents out.old)
+        (task_of looking.entry.look) line.entry.cap line.entry.name (O.contents out.old)
         (O.contents out.new)) }
     ensures undone { IfErr result IsCutOff }
     ensures reading { IfSome reading.new (WereChecked
-        (grid_calls R.Stream.contents R.Stream.remaining) (grid_of looking.look)) }
+        (grid_calls R.Stream.contents R.Stream.remaining) (grid_of looking.entry.look)) }
     ensures writing { IfSome writing.new (λ g. WereOpened
-        (grid_calls R.Stream.contents R.Stream.remaining) (grid_of looking.look) g.grid) }
+        (grid_calls R.Stream.contents R.Stream.remaining) (grid_of looking.entry.look) g.grid) }
 {
     let Line { cap, name } = line;
     let name = name.to_vec(rt.alloc())?;
@@ -298,7 +298,7 @@ where
     R: Clock + AllocGlobal,
     O: Write,
     E: Write + IsTerminal,
-    ensures told { IfOk result (IsToldAs (task_of look) seen name.now (O.contents out.old)
+    ensures told { IfOk result (IsToldAs (task_of look.entry) seen name.now (O.contents out.old)
         (O.contents out.new)) }
     ensures undone { IfErr result IsCutOff }
 {
@@ -338,11 +338,11 @@ where
     requires writing { IfSome writing.old (λ g. WereOpened
         (grid_calls R.Stream.contents R.Stream.remaining) (grid_of looking.look) g.grid) }
     ensures seen { IfOk result (IsSeen (grid_calls R.Stream.contents R.Stream.remaining)
-        (task_of looking.look) (verify_of cap.now)) }
+        (task_of looking.entry.look) (verify_of cap.now)) }
     ensures reading { IfSome reading.new (WereChecked
-        (grid_calls R.Stream.contents R.Stream.remaining) (grid_of looking.look)) }
+        (grid_calls R.Stream.contents R.Stream.remaining) (grid_of looking.entry.look)) }
     ensures writing { IfSome writing.new (λ g. WereOpened
-        (grid_calls R.Stream.contents R.Stream.remaining) (grid_of looking.look) g.grid) }
+        (grid_calls R.Stream.contents R.Stream.remaining) (grid_of looking.entry.look) g.grid) }
 {
     match looking.look {
         Look::Check(words) => check_one(rt, words, looking.is_known, cap, reading, progress),

@@ -23,7 +23,7 @@ pub(crate) enum Look<'a> {
 impl<'a> Look<'a> {
     /// The patterns of its words.
     pub(crate) fn names(self) -> &'a [&'a str]
-        ensures { map (λ n. n.now) result.now ≡ names_of (task_of self) }
+        ensures { map (λ n. n.now) result.now ≡ names_of (task_of self.entry) }
     {
         match self {
             Look::Check(words) => words.chosen.names.as_slice(),
@@ -33,7 +33,7 @@ impl<'a> Look<'a> {
 
     /// The folder of its grid.
     pub(crate) fn grid(self) -> &'a str
-        ensures { result.now ≡ grid_of self }
+        ensures { result.now ≡ grid_of self.entry }
     {
         match self {
             Look::Check(words) => words.grid,
@@ -43,7 +43,7 @@ impl<'a> Look<'a> {
 
     /// Whether files are told to programs.
     pub(crate) fn is_json(self) -> bool
-        ensures { result ≡ is_json (task_of self) }
+        ensures { result ≡ is_json (task_of self.entry) }
     {
         match self {
             Look::Check(words) => words.json,
@@ -53,7 +53,7 @@ impl<'a> Look<'a> {
 
     // Whether each file is to be healthy.
     fn is_strict(self) -> bool
-        ensures { result ≡ is_strict (task_of self) }
+        ensures { result ≡ is_strict (task_of self.entry) }
     {
         match self {
             Look::Check(words) => words.strict,
@@ -76,7 +76,7 @@ pub enum Seen {
 impl Seen {
     /// The status of a check or a repair of this file alone.
     pub(crate) fn status(&self, look: Look<'_>) -> u8
-        ensures { result ≡ seen_status (task_of look) self.now }
+        ensures { result ≡ seen_status (task_of look.entry) self.now }
     {
         match self {
             Seen::Literal => DONE,

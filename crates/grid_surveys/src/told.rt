@@ -2,8 +2,6 @@
 
 ghost use Rattle.std.specs.Prelude.{◌≡◌, IfOk, true};
 ghost use Rattle.std.specs.String.{string_bytes};
-ghost use Rattle.grid_rules.specs.ReportJson.{bool_json};
-ghost use Rattle.grid_rules.specs.ReportLines.{word_of};
 ghost use Rattle.grid_surveys.specs.LookEnds.{task_of};
 ghost use Rattle.grid_surveys.specs.Looks.{IsLine, counts_text, named_json, report_json};
 ghost use Rattle.grid_surveys.specs.Looks.{report_words, seen_json, seen_words};
@@ -12,6 +10,7 @@ use crate::objects::json_name;
 use crate::seen::{Counts, Look, Seen};
 use catalogues::named_line;
 use checker::status::Report;
+use grid_rules::{bool_json, word_of};
 use std::alloc::{AllocError, Global};
 
 /// The line of a file, or its object.
@@ -70,12 +69,6 @@ fn report_words(alloc: Global, report: &Report) -> Result<String, AllocError>
     format!(in alloc; "healthy {healthy} recoverable {recoverable} happiness {happiness}")
 }
 
-fn word_of(holds: bool) -> &'static str
-    ensures { result.now ≡ word_of holds }
-{
-    if holds { "yes" } else { "no" }
-}
-
 // What is told of a file to programs, behind its name.
 fn seen_json(alloc: Global, seen: &Seen) -> Result<String, AllocError>
     ensures { IfOk result (λ text. string_bytes text ≡ seen_json seen.now) }
@@ -97,19 +90,13 @@ fn report_json(alloc: Global, report: &Report) -> Result<String, AllocError>
     )
 }
 
-fn bool_json(holds: bool) -> &'static str
-    ensures { result.now ≡ bool_json holds }
-{
-    if holds { "true" } else { "false" }
-}
-
 /// The last line, which tells how many files there are.
 pub(crate) fn counts_line(
     alloc: Global,
     look: Look<'_>,
     counts: Counts,
 ) -> Result<String, AllocError>
-    ensures { IfOk result (λ text. string_bytes text ≡ counts_text (task_of look) counts) }
+    ensures { IfOk result (λ text. string_bytes text ≡ counts_text (task_of look.entry) counts) }
 {
     let (files, whole, weak, lost) = (counts.files, counts.whole, counts.weak, counts.lost);
     match look {

@@ -1,4 +1,4 @@
-mod Passing
+mod PassingLaws
 pub mod Same
 pub mod CourseLaws
 pub mod FrameLaws

@@ -56,7 +56,7 @@ pub record Placing : Type 0 where
   pub m3 : List Pair
   pub leftovers : List Pair
 
--- `position` gives this for the acknowledged pairs and the servers that answered
+-- `place` gives this for the acknowledged pairs and the servers that answered
 pub record IsPlacing (g : Goal) (entries : List Request) (p : Placing) : Type 0 where
   pub m1 : List Pair
   pub m2 : List Pair

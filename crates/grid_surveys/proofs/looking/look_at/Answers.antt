@@ -1,5 +1,4 @@
 use Rattle.std.proofs.Common.{IfOk, IfSome, List, ℕ, ap, subst, sym}
-use Rattle.cap_text.specs.declared.cap.Cap.{Cap}
 use Rattle.grid_servers.specs.Grids.{grid_calls}
 use Rattle.grid_shares.specs.Standing.{WereOpened}
 use Rattle.grid_repairs.specs.Checks.{WereChecked, verify_of}

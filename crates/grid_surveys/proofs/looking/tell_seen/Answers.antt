@@ -1,23 +1,10 @@
-use Rattle.std.proofs.Common.{[], ap, refl}
-use Rattle.std.proofs.KnownBytes.{Appends-nil}
-use Rattle.grid_surveys.specs.Looks.{counted}
-use Rattle.grid_surveys.specs.declared.seen.Counts.{Counts}
+use Rattle.grid_surveys.proofs.LookLemmas.{told_refused, told_seen}
 use Rattle.grid_surveys.proofs.looking.tell_seen.Goals as goal
 
-pub returns-in-Ok-clause-told : goal.returns-in-Ok-clause-told
-returns-in-Ok-clause-told g c = record {
-  text = c.in_ok-line.line.items;
-  is = c.in_ok-line.ensures;
-  written = c.in_ok-write.ensures.written;
-  counted_is = λ (n : Counts). ap (counted n) c.class.ensures;
-  status_is = c.status.ensures;
-}
+pub returns-in_ok-write-in-Ok-clause-told : goal.returns-in_ok-write-in-Ok-clause-told
+returns-in_ok-write-in-Ok-clause-told g c =
+    told_seen _ c.args.seen c.in-Ok.seen c.is_json.result c.args.name.now c.in_ok-line-in-Ok.line.items c.deref.result.now _ _ _ c.in-Ok.is c.is_json.ensures c.in_ok-line-in-Ok.ensures c.deref.ensures.value c.in_ok-write-in-Ok.ensures.written c.class.ensures c.status.ensures
 
-pub returns-in-Err-clause-told : goal.returns-in-Err-clause-told
-returns-in-Err-clause-told g c = record {
-  text = [];
-  is = refl;
-  written = Appends-nil _;
-  counted_is = λ (n : Counts). ap (counted n) c.fault_class.ensures;
-  status_is = c.status-in-Err.ensures;
-}
+pub returns-in_ok-tell_refused-in-Err-clause-told : goal.returns-in_ok-tell_refused-in-Err-clause-told
+returns-in_ok-tell_refused-in-Err-clause-told g c =
+    told_refused _ c.args.seen c.in-Err.fault c.args.name.now _ _ c.in-Err.is c.fault_class.ensures c.status-in-Err.ensures

@@ -1,7 +1,7 @@
 use Rattle.std.proofs.Common.{◌≡◌, ◌++◌, ◌∙◌, List, ℕ, ap, sym, drop}
 use Rattle.std.proofs.lemmas.Bool.{eqb-true}
 use Rattle.std.proofs.lemmas.List.{nil_from_length, take-append-drop}
-use Rattle.local_grid.proofs.Passing.{sent_more, sent_none, sent_whole}
+use Rattle.local_grid.proofs.PassingLaws.{sent_more, sent_none, sent_whole}
 use Rattle.local_grid.proofs.passing.carry.Goals as goal
 
 pub pieces-init : goal.pieces-init

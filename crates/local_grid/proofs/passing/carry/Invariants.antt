@@ -1,5 +1,5 @@
 use Rattle.std.proofs.Common.{length}
-use Rattle.local_grid.proofs.Passing.{IsSent}
+use Rattle.local_grid.proofs.PassingLaws.{IsSent}
 use Rattle.local_grid.proofs.passing.carry.Given as goal
 
 -- of the frame all but the rest was sent
