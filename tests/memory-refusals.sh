@@ -22,11 +22,10 @@ share_files/src/changes.rt:_ => Err(DiskError::OutOfMemory),
 share_files/src/changes.rt:return Err(DiskError::OutOfMemory);
 grid_rules/src/ending.rt:DownloadStatus::Failed => Err(Fault::OutOfMemory),
 grid_faults/src/fault.rt:return Fault::OutOfMemory;
-grid_repairs/src/checking.rt:check.report(rt.alloc())?.ok_or(Fault::OutOfMemory)
 grid_commands/src/lib.rt:_ => report(alloc, err, &Fault::OutOfMemory),
 grid_repairs/src/made_shares.rt:PieceFault::SourceFault if lacks_memory => PieceFault::OutOfMemory,
 grid_repairs/src/remaking.rt:Fault::OutOfMemory
-grid_repairs/src/repairing.rt:let report = check.report(rt.alloc())?.ok_or(Fault::OutOfMemory)?;
+grid_repairs/src/standing.rt:check.report(alloc)?.ok_or(Fault::OutOfMemory)
 grid_commands/src/scrub_telling.rt:return Err(Failure::Fault(Fault::OutOfMemory));
 grid_serve/src/fault.rt:return ServeFault::Fault(Fault::OutOfMemory);
 grid_serving/src/clients.rt:self.note(node, Why::OutOfMemory);
