@@ -34,6 +34,10 @@ pub(crate) struct Told {
 pub(crate) fn played(alloc: Global) -> Option<Told> {
     let mut liars: Vec<Box<dyn Liar>> = Vec::new(alloc);
     liars.push(Box::new(alloc, Zeros::new(alloc)).ok()?).ok()?;
+    // A world has at most 256 nodes.
+    if liars.len() > 253 {
+        return None;
+    }
     let world = World::new(alloc, HONEST, liars).ok()?;
     // Two of three shares give the file back, and three servers have to keep one each.
     let params = Params::new(2, 3, 3, 131_072).ok()?;
@@ -88,10 +92,10 @@ fn told_of(alloc: Global, world: &World) -> Option<Told> {
     let (Some(Status::Happy(servers)), Some(pieces)) = (world.status(0), world.given(1)) else {
         return None;
     };
-    let bytes = pieces
-        .iter()
-        .map(|piece| piece.bytes.as_slice().len())
-        .sum();
+    let mut bytes = 0usize;
+    for piece in pieces {
+        bytes = bytes.saturating_add(piece.bytes.as_slice().len());
+    }
     let mut blamed = Vec::new(alloc);
     if let Task::Downloading(download) = &world.operations().get(1)?.task {
         for blame in download.blamed() {
