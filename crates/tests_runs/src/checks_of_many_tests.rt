@@ -76,9 +76,19 @@ fn over(
     more: &[&str],
 ) -> Result<Came, AllocError> {
     let (grid, caps) = (path(rt, "/grid")?, path(rt, "/caps")?);
-    let mut words = Vec::from_slice(rt.alloc(), &["--caps", caps.as_str()])?;
-    words.extend_from_slice(more)?;
+    let words = caps_and(rt, caps.as_str(), more)?;
     Ok(run(rt, command, names, grid.as_str(), words.as_slice()))
+}
+
+// The words that name a catalogue, and others behind them.
+fn caps_and<'a>(
+    rt: &HostRuntime,
+    caps: &'a str,
+    more: &[&'a str],
+) -> Result<Vec<&'a str>, AllocError> {
+    let mut words = Vec::from_slice(rt.alloc(), &["--caps", caps])?;
+    words.extend_from_slice(more)?;
+    Ok(words)
 }
 
 // Takes the folders of these servers away, with the shares in them.
@@ -211,55 +221,87 @@ fn no_catalogue(rt: HostRuntime) -> Result<(), Fail> {
     Ok(())
 }
 
-// A cap that stands in a file, with or without a line feed behind it, is as one that is a word; what
-// else a file has is no cap.
+// The status of a command without a catalogue, with these words.
+fn status_of(
+    rt: &HostRuntime,
+    command: &str,
+    files: &[&str],
+    more: &[&str],
+) -> Result<u8, AllocError> {
+    Ok(run(rt, command, files, path(rt, "/grid")?.as_str(), more).status)
+}
+
+// A get of the cap that stands in a file.
+fn get_from(rt: &HostRuntime, cap: &str) -> Result<Came, AllocError> {
+    let grid = path(rt, "/grid")?;
+    Ok(run(rt, "get", &[], grid.as_str(), &["--cap-file", cap]))
+}
+
+// Whether a file with this text is refused as that of a cap, and nothing is written.
+fn is_no_cap(rt: &HostRuntime, text: &[u8]) -> Result<bool, Fail> {
+    let cap = path(rt, "/cap")?;
+    fs::write(rt, cap.as_str(), text)?;
+    let refused = get_from(rt, cap.as_str())?;
+    Ok(refused.status == 3 && refused.out.is_empty())
+}
+
+// A cap that stands in a file, with or without a line feed behind it, is as one that is a word.
 #[test]
 fn caps_in_files(rt: HostRuntime) -> Result<(), Fail> {
     assert!(rt; begins(&rt));
     assert!(rt; fill(&rt)?);
     let (grid, cap) = (path(&rt, "/grid")?, path(&rt, "/cap")?);
-    let words = ["--cap-file", cap.as_str()];
     fs::write(&rt, cap.as_str(), COUNTED_CAP)?;
-    let got = run(&rt, "get", &[], grid.as_str(), &words);
+    let got = get_from(&rt, cap.as_str())?;
     assert!(rt; got.status == 0 && got.out.as_slice() == counted(&rt, 56)?.as_slice());
     for command in ["check", "repair"] {
         let said = run(&rt, command, &[VERIFY_CAP], grid.as_str(), &[]);
-        fs::write(
+        let text = format!(in rt.alloc(); "{VERIFY_CAP}\n")?;
+        fs::write(&rt, cap.as_str(), text.as_str())?;
+        let read = run(
             &rt,
-            cap.as_str(),
-            format!(in rt.alloc(); "{VERIFY_CAP}\n")?.as_str(),
-        )?;
-        let read = run(&rt, command, &[], grid.as_str(), &words);
+            command,
+            &[],
+            grid.as_str(),
+            &["--cap-file", cap.as_str()],
+        );
         assert!(rt; read.status == 0 && read.out.as_slice() == said.out.as_slice());
     }
-    let long = format!(in rt.alloc(); "{ONE_CAP}{:300}", "")?;
-    let two = format!(in rt.alloc(); "{ONE_CAP}\n\n")?;
-    for text in [
-        two.as_bytes(),
-        long.as_bytes(),
-        b"",
-        b"\n",
-        b"URI:LIT:n5xgk\xff",
-    ] {
-        fs::write(&rt, cap.as_str(), text)?;
-        let refused = run(&rt, "get", &[], grid.as_str(), &words);
-        assert!(rt; refused.status == 3 && refused.out.is_empty());
-    }
+    assert!(rt; removes_all(&rt));
+    Ok(())
+}
+
+// What else a file has is no cap; and a cap is said once, and without what belongs to others.
+#[test]
+fn what_is_no_cap(rt: HostRuntime) -> Result<(), Fail> {
+    assert!(rt; begins(&rt));
+    let (grid, cap) = (path(&rt, "/grid")?, path(&rt, "/cap")?);
+    fs::create_dir_all(&rt, grid.as_str())?;
+    assert!(rt;
+        is_no_cap(
+            &rt,
+            format!(in rt.alloc(); "{ONE_CAP}{:300}", "")?.as_bytes()
+        )?
+    );
+    assert!(rt; is_no_cap(&rt, format!(in rt.alloc(); "{ONE_CAP}\n\n")?.as_bytes())?);
+    assert!(rt; is_no_cap(&rt, b"")? && is_no_cap(&rt, b"\n")?);
+    assert!(rt; is_no_cap(&rt, b"URI:LIT:n5xgk\xff")?);
     fs::remove_file(&rt, cap.as_str())?;
-    let gone = run(&rt, "check", &[], grid.as_str(), &words);
+    let gone = run(
+        &rt,
+        "check",
+        &[],
+        grid.as_str(),
+        &["--cap-file", cap.as_str()],
+    );
     let told = format!(in rt.alloc(); "grid: 90 FileFault {cap}")?;
     assert!(rt; gone.status == 7 && gone.tells(told.as_bytes()));
-    let rows: [(&str, &[&str], &[&str]); 6] = [
-        ("get", &[ONE_CAP], &words),
-        ("check", &[ONE_CAP], &words),
-        ("repair", &[], &["--cap-file", "cap", "--caps", "caps"]),
-        ("check", &[ONE_CAP, "name"], &[]),
-        ("repair", &[], &[]),
-        ("check", &[], &["--json"]),
-    ];
-    for (command, files, more) in rows {
-        assert!(rt; run(&rt, command, files, grid.as_str(), more).status == 2);
-    }
+    assert!(rt; status_of(&rt, "get", &[ONE_CAP], &["--cap-file", "cap"])? == 2);
+    assert!(rt; status_of(&rt, "check", &[ONE_CAP], &["--cap-file", "cap"])? == 2);
+    assert!(rt; status_of(&rt, "repair", &[], &["--cap-file", "cap", "--caps", "caps"])? == 2);
+    assert!(rt; status_of(&rt, "check", &[ONE_CAP, "name"], &[])? == 2);
+    assert!(rt; status_of(&rt, "repair", &[], &[])? == 2);
+    assert!(rt; status_of(&rt, "check", &[], &["--json"])? == 2);
     assert!(rt; removes_all(&rt));
     Ok(())
 }

@@ -51,34 +51,53 @@ fn list(rt: &HostRuntime, names: &[&str]) -> Result<(), Fail> {
     Ok(())
 }
 
-// Files that were put come back below a folder, over servers that stay open from one to the next;
-// none is written in place of another unless that is asked for.
+// Puts files of zeros and of ones, and one under an odd name; and writes the catalogue of them.
+fn store_three(rt: &HostRuntime) -> Result<bool, Fail> {
+    let (zeros, ones) = (path(rt, "/all zeros")?, path(rt, "/ones")?);
+    let (odd, grid) = (path(rt, "/o\\n\ne")?, path(rt, "/grid")?);
+    fs::write(rt, zeros.as_str(), [0; 56])?;
+    fs::write(rt, ones.as_str(), [1; 56])?;
+    fs::write(rt, odd.as_str(), "one")?;
+    let files = [zeros.as_str(), odd.as_str(), ones.as_str()];
+    let came = run(rt, "put", &files, grid.as_str(), &ONES);
+    fs::write(rt, path(rt, "/caps")?.as_str(), came.out.as_slice())?;
+    Ok(came.status == 0)
+}
+
+// Whether a file of this process's folder came back with these bytes.
+fn has_own(rt: &HostRuntime, rest: &str, bytes: &[u8]) -> Result<bool, Fail> {
+    has(rt, path(rt, rest)?.as_str(), bytes)
+}
+
+// Files that were put come back below a folder, over servers that stay open from one to the next.
 #[test]
 fn files_come_back(rt: HostRuntime) -> Result<(), Fail> {
     assert!(rt; begins(&rt));
-    let (zeros, ones) = (path(&rt, "/all zeros")?, path(&rt, "/ones")?);
-    let (odd, grid) = (path(&rt, "/o\\n\ne")?, path(&rt, "/grid")?);
-    fs::write(&rt, zeros.as_str(), [0; 56])?;
-    fs::write(&rt, ones.as_str(), [1; 56])?;
-    fs::write(&rt, odd.as_str(), "one")?;
-    let files = [zeros.as_str(), odd.as_str(), ones.as_str()];
-    let came = run(&rt, "put", &files, grid.as_str(), &ONES);
-    assert!(rt; came.status == 0);
-    fs::write(&rt, path(&rt, "/caps")?.as_str(), came.out.as_slice())?;
+    assert!(rt; store_three(&rt)?);
     let got = get(&rt, &[], &[])?;
     assert!(rt; got.status == 0 && got.out.is_empty() && got.told.is_empty());
-    assert!(rt; has(&rt, zeros.as_str(), &[0; 56])? && has(&rt, ones.as_str(), &[1; 56])?);
-    assert!(rt; has(&rt, odd.as_str(), b"one")?);
+    assert!(rt; has_own(&rt, "/all zeros", &[0; 56])? && has_own(&rt, "/ones", &[1; 56])?);
+    assert!(rt; has_own(&rt, "/o\\n\ne", b"one")?);
+    assert!(rt; removes_all(&rt));
+    Ok(())
+}
+
+// None is written in place of another unless that is asked for.
+#[test]
+fn no_file_is_replaced_unasked(rt: HostRuntime) -> Result<(), Fail> {
+    assert!(rt; begins(&rt));
+    assert!(rt; store_three(&rt)?);
+    let ones = path(&rt, "/ones")?;
+    assert!(rt; get(&rt, &[ones.as_str()], &[])?.status == 0);
     let into = format!(in rt.alloc(); "{}{ones}", path(&rt, "/into")?)?;
     fs::write(&rt, into.as_str(), "another")?;
+    let told = format!(in rt.alloc(); "grid: 90 FileFault {into} ({ones})")?;
     let refused = get(&rt, &[], &[])?;
-    let there = format!(in rt.alloc(); "grid: 90 FileFault {into} ({ones})")?;
-    assert!(rt; refused.status == 7 && refused.tells(there.as_bytes()));
+    assert!(rt; refused.status == 7 && refused.tells(told.as_bytes()));
     assert!(rt; has(&rt, ones.as_str(), b"another")?);
     let over = get(&rt, &[ones.as_str()], &["--overwrite"])?;
     assert!(rt; over.status == 0 && over.told.is_empty());
-    assert!(rt; has(&rt, ones.as_str(), &[1; 56])?);
-    assert!(rt; removes_all(&rt));
+    assert!(rt; has(&rt, ones.as_str(), &[1; 56])? && removes_all(&rt));
     Ok(())
 }
 

@@ -74,120 +74,142 @@ fn line(rt: &HostRuntime, cap: &str) -> Result<String, AllocError> {
     format!(in rt.alloc(); "{cap}  {}\n", path(rt, "/one")?)
 }
 
+// Whether a put of these files, with options behind it, writes these lines, and tells this.
+fn gives(
+    rt: &HostRuntime,
+    (files, options): (&str, &str),
+    lines: &str,
+    told: &str,
+) -> Result<bool, Fail> {
+    let ended = put(rt, files, options)?;
+    Ok(ended.status == 0 && has_lines(&ended, lines) && ended.err.rest() == told.as_bytes())
+}
+
+// Whether a put of the file `one` writes its line with this cap, and tells nothing.
+fn gives_cap(rt: &HostRuntime, cap: &str) -> Result<bool, Fail> {
+    let (one, lines) = (path(rt, "/one")?, line(rt, cap)?);
+    gives(rt, (one.as_str(), ""), lines.as_str(), "")
+}
+
 // Files that have not changed keep their lines, whatever is in them: words and those of lists, with
 // one word alone too, and under odd names. The last line of a name counts.
 #[test]
 fn lines_are_kept(rt: HostRuntime) -> Result<(), Fail> {
     assert!(rt; begins(&rt));
-    let (one, odd, names) = (
-        path(&rt, "/one")?,
-        path(&rt, "/o\\n\ne")?,
-        path(&rt, "/names")?,
-    );
+    let (one, odd) = (path(&rt, "/one")?, path(&rt, "/o\\n\ne")?);
     fs::write(&rt, one.as_str(), "one")?;
     fs::write(&rt, odd.as_str(), "one")?;
     let told = path(&rt, "/o\\\\n\\ne")?;
     let lines = format!(in rt.alloc(); "{TWO_CAP}  {one}\n\\{TWO_CAP}  {told}\n")?;
     let other = format!(in rt.alloc(); "{ONE_CAP}  {one}\n{lines}")?;
     list(&rt, now(&rt)?.saturating_add(600), USUAL, other.as_str())?;
-    let alone = put(&rt, one.as_str(), "")?;
-    assert!(rt; alone.status == 0 && has_lines(&alone, line(&rt, TWO_CAP)?.as_str()));
-    assert!(rt; alone.err.rest().is_empty());
     let files = format!(in rt.alloc(); "{one} {odd}")?;
-    let both = put(&rt, files.as_str(), "")?;
-    assert!(rt; both.status == 0 && has_lines(&both, lines.as_str()));
-    fs::write(&rt, names.as_str(), one.as_str())?;
-    let options = format!(in rt.alloc(); " --files-from {names}")?;
-    let listed = put(&rt, odd.as_str(), options.as_str())?;
-    assert!(rt; listed.status == 0 && listed.err.rest().is_empty());
-    let lines = format!(in rt.alloc(); "\\{TWO_CAP}  {told}\n{TWO_CAP}  {one}\n")?;
-    assert!(rt; has_lines(&listed, lines.as_str()));
+    let both = gives(&rt, (files.as_str(), ""), lines.as_str(), "")?;
+    assert!(rt; both && gives_cap(&rt, TWO_CAP)? && keeps_listed(&rt, one.as_str(), odd.as_str())?);
     assert!(rt; removes_all(&rt));
     Ok(())
 }
 
+// Whether the line of a file is kept that a list names, behind that of one that is a word.
+fn keeps_listed(rt: &HostRuntime, one: &str, odd: &str) -> Result<bool, Fail> {
+    let (names, told) = (path(rt, "/names")?, path(rt, "/o\\\\n\\ne")?);
+    fs::write(rt, names.as_str(), one)?;
+    let options = format!(in rt.alloc(); " --files-from {names}")?;
+    let lines = format!(in rt.alloc(); "\\{TWO_CAP}  {told}\n{TWO_CAP}  {one}\n")?;
+    gives(rt, (odd, options.as_str()), lines.as_str(), "")
+}
+
+// Whether a put since a catalogue that was begun then, with such numbers and a line of this cap for
+// the file `one`, writes its line with that cap, and tells this.
+fn turns(
+    rt: &HostRuntime,
+    (begun, numbers): (u64, &str),
+    (cap, wanted): (&str, &str),
+    told: &str,
+) -> Result<bool, Fail> {
+    list(rt, begun, numbers, line(rt, cap)?.as_str())?;
+    let (one, lines) = (path(rt, "/one")?, line(rt, wanted)?);
+    gives(rt, (one.as_str(), ""), lines.as_str(), told)
+}
+
 // A file is read anew where it changed later than two seconds before the catalogue was begun, or
-// where that has other numbers, another secret, a later time than now, or no line of its size.
+// where that has a later time than now, or no line of its size.
 #[test]
 fn others_are_read(rt: HostRuntime) -> Result<(), Fail> {
     assert!(rt; begins(&rt));
-    let one = path(&rt, "/one")?;
-    fs::write(&rt, one.as_str(), "one")?;
+    fs::write(&rt, path(&rt, "/one")?.as_str(), "one")?;
     let now = now(&rt)?;
     let later = now.saturating_add(600);
-    let rows = [
-        (later, USUAL, TWO_CAP, TWO_CAP, ""),
-        (now.saturating_add(1), USUAL, TWO_CAP, ONE_CAP, ""),
-        (now.saturating_sub(60), USUAL, TWO_CAP, ONE_CAP, ""),
-        (later.saturating_add(HOUR), USUAL, TWO_CAP, ONE_CAP, ANEW),
-        (later, USUAL, SEVEN_CAP, ONE_CAP, ""),
-        (later, USUAL, VERIFY_CAP, ONE_CAP, ""),
-        (
-            later,
-            "k 2 n 10 segment 131072 under haif3ovaz4vjer7wm3n5nqj47a",
-            TWO_CAP,
-            ONE_CAP,
-            ANEW,
-        ),
-        (
-            later,
-            "k 3 n 9 segment 131072 under haif3ovaz4vjer7wm3n5nqj47a",
-            TWO_CAP,
-            ONE_CAP,
-            ANEW,
-        ),
-        (
-            later,
-            "k 3 n 10 segment 131071 under haif3ovaz4vjer7wm3n5nqj47a",
-            TWO_CAP,
-            ONE_CAP,
-            ANEW,
-        ),
-        (
-            later,
-            "k 3 n 10 segment 131072 under aaaaaaaaaaaaaaaaaaaaaaaaaa",
-            TWO_CAP,
-            ONE_CAP,
-            ANEW,
-        ),
-    ];
-    for (begun, numbers, cap, wanted, told) in rows {
-        list(&rt, begun, numbers, line(&rt, cap)?.as_str())?;
-        let ended = put(&rt, one.as_str(), "")?;
-        assert!(rt; ended.status == 0 && has_lines(&ended, line(&rt, wanted)?.as_str()));
-        assert!(rt; ended.err.rest() == told.as_bytes());
+    let soon = now.saturating_add(1);
+    let early = now.saturating_sub(60);
+    let far = later.saturating_add(HOUR);
+    assert!(rt; turns(&rt, (later, USUAL), (TWO_CAP, TWO_CAP), "")?);
+    assert!(rt; turns(&rt, (soon, USUAL), (TWO_CAP, ONE_CAP), "")?);
+    assert!(rt; turns(&rt, (early, USUAL), (TWO_CAP, ONE_CAP), "")?);
+    assert!(rt; turns(&rt, (far, USUAL), (TWO_CAP, ONE_CAP), ANEW)?);
+    assert!(rt; turns(&rt, (later, USUAL), (SEVEN_CAP, ONE_CAP), "")?);
+    assert!(rt; turns(&rt, (later, USUAL), (VERIFY_CAP, ONE_CAP), "")?);
+    assert!(rt; removes_all(&rt));
+    Ok(())
+}
+
+// So it is where the catalogue was begun with other numbers, or another secret.
+#[test]
+fn other_numbers_are_read(rt: HostRuntime) -> Result<(), Fail> {
+    assert!(rt; begins(&rt));
+    fs::write(&rt, path(&rt, "/one")?.as_str(), "one")?;
+    let later = now(&rt)?.saturating_add(600);
+    for numbers in [
+        "k 2 n 10 segment 131072 under haif3ovaz4vjer7wm3n5nqj47a",
+        "k 3 n 9 segment 131072 under haif3ovaz4vjer7wm3n5nqj47a",
+        "k 3 n 10 segment 131071 under haif3ovaz4vjer7wm3n5nqj47a",
+        "k 3 n 10 segment 131072 under aaaaaaaaaaaaaaaaaaaaaaaaaa",
+    ] {
+        assert!(rt; turns(&rt, (later, numbers), (TWO_CAP, ONE_CAP), ANEW)?);
     }
     assert!(rt; removes_all(&rt));
     Ok(())
 }
 
-// The last of a name's lines counts, also where it keeps none; a file whose bytes are said to be
-// younger than the catalogue is read anew, and so is one behind a link.
+// The last of a name's lines counts, also where it keeps none; and a file behind a link is read
+// anew.
 #[test]
-fn odd_files_are_read(rt: HostRuntime) -> Result<(), Fail> {
+fn links_are_read(rt: HostRuntime) -> Result<(), Fail> {
     assert!(rt; begins(&rt));
     let (one, two) = (path(&rt, "/one")?, path(&rt, "/two")?);
     fs::write(&rt, one.as_str(), "one")?;
     let later = now(&rt)?.saturating_add(600);
     let lines = format!(in rt.alloc(); "{TWO_CAP}  {one}\n{SEVEN_CAP}  {one}\n")?;
     list(&rt, later, USUAL, lines.as_str())?;
-    let ended = put(&rt, one.as_str(), "")?;
-    assert!(rt; ended.status == 0 && has_lines(&ended, line(&rt, ONE_CAP)?.as_str()));
+    assert!(rt; gives_cap(&rt, ONE_CAP)?);
     fs::rename(&rt, one.as_str(), two.as_str())?;
     symlink(&rt, two.as_str(), one.as_str())?;
-    list(&rt, later, USUAL, line(&rt, TWO_CAP)?.as_str())?;
-    let linked = put(&rt, one.as_str(), "")?;
-    assert!(rt; linked.status == 0 && has_lines(&linked, line(&rt, ONE_CAP)?.as_str()));
-    fs::remove_file(&rt, one.as_str())?;
-    fs::write(&rt, one.as_str(), "one")?;
-    let file = File::options().write(true).open(&rt, one.as_str())?;
-    let time = SystemTime::UNIX_EPOCH.checked_add(Duration::from_secs(later));
+    assert!(rt; turns(&rt, (later, USUAL), (TWO_CAP, ONE_CAP), "")?);
+    assert!(rt; removes_all(&rt));
+    Ok(())
+}
+
+// Says that the file `one` was written so many seconds after 1970.
+fn set_written(rt: &HostRuntime, seconds: u64) -> Result<(), Fail> {
+    let time = SystemTime::UNIX_EPOCH.checked_add(Duration::from_secs(seconds));
+    let file = File::options()
+        .write(true)
+        .open(rt, path(rt, "/one")?.as_str())?;
     file.set_modified(time.unwrap_or(SystemTime::UNIX_EPOCH))?;
-    let young = put(&rt, one.as_str(), "")?;
-    assert!(rt; young.status == 0 && has_lines(&young, line(&rt, ONE_CAP)?.as_str()));
-    file.set_modified(SystemTime::UNIX_EPOCH)?;
-    let old = put(&rt, one.as_str(), "")?;
-    assert!(rt; old.status == 0 && has_lines(&old, line(&rt, TWO_CAP)?.as_str()));
+    Ok(())
+}
+
+// A file whose bytes are said to be younger than the catalogue is read anew.
+#[test]
+fn young_files_are_read(rt: HostRuntime) -> Result<(), Fail> {
+    assert!(rt; begins(&rt));
+    fs::write(&rt, path(&rt, "/one")?.as_str(), "one")?;
+    let later = now(&rt)?.saturating_add(600);
+    list(&rt, later, USUAL, line(&rt, TWO_CAP)?.as_str())?;
+    set_written(&rt, later)?;
+    assert!(rt; gives_cap(&rt, ONE_CAP)?);
+    set_written(&rt, 0)?;
+    assert!(rt; gives_cap(&rt, TWO_CAP)?);
     assert!(rt; removes_all(&rt));
     Ok(())
 }
@@ -205,57 +227,70 @@ fn cut_catalogues_go_on(rt: HostRuntime) -> Result<(), Fail> {
     let first = put(&rt, files.as_str(), "")?;
     assert!(rt; first.status == 0 && first.err.rest().is_empty());
     fs::remove_dir_all(&rt, grid.as_str())?;
-    let caps = path(&rt, "/caps")?;
-    let kept = first.out.len().saturating_sub(1);
-    fs::write(&rt, caps.as_str(), first.out.get(..kept).unwrap_or(&[]))?;
-    let again = put(&rt, files.as_str(), "")?;
-    assert!(rt; again.status == 0 && !fs::exists(&rt, grid.as_str())?);
+    let out = first.out.as_slice();
+    let kept = out.len().saturating_sub(1);
+    fs::write(
+        &rt,
+        path(&rt, "/caps")?.as_str(),
+        out.get(..kept).unwrap_or(&[]),
+    )?;
     let told = "line 3 of the catalogue is none, and what follows it is not looked at\n";
-    assert!(rt; again.err.rest() == told.as_bytes());
-    let end = first
-        .out
-        .iter()
-        .position(|byte| *byte == b'\n')
-        .unwrap_or(0);
-    let lines = first.out.get(end.saturating_add(1)..).unwrap_or(&[]);
-    assert!(rt; has_lines(&again, str::from_utf8(lines).unwrap_or("")));
+    assert!(rt; gives(&rt, (files.as_str(), ""), lines_of(out), told)?);
+    assert!(rt; !fs::exists(&rt, grid.as_str())? && removes_all(&rt));
+    Ok(())
+}
+
+// The lines behind the first one.
+fn lines_of(out: &[u8]) -> &str {
+    let end = out.iter().position(|byte| *byte == b'\n').unwrap_or(0);
+    str::from_utf8(out.get(end.saturating_add(1)..).unwrap_or(&[])).unwrap_or("")
+}
+
+// What is no catalogue is refused before anything is written.
+#[test]
+fn no_catalogue_to_go_on_from(rt: HostRuntime) -> Result<(), Fail> {
+    assert!(rt; begins(&rt));
+    let one = path(&rt, "/one")?;
+    fs::write(&rt, one.as_str(), "one")?;
+    let missing = put(&rt, one.as_str(), "")?;
+    assert!(rt; missing.status == 7 && missing.out.is_empty());
+    fs::write(
+        &rt,
+        path(&rt, "/caps")?.as_str(),
+        line(&rt, TWO_CAP)?.as_str(),
+    )?;
+    let none = put(&rt, one.as_str(), "")?;
+    assert!(rt; none.is(3, b"", "grid: 110 NotACatalogue\n"));
     assert!(rt; removes_all(&rt));
     Ok(())
 }
 
-// What is no catalogue is refused before anything is written, and so are two of the list, the
-// catalogue and a file that are to be standard input.
-#[test]
-fn no_catalogue_to_go_on_from(rt: HostRuntime) -> Result<(), Fail> {
-    assert!(rt; begins(&rt));
-    let (one, caps) = (path(&rt, "/one")?, path(&rt, "/caps")?);
-    fs::write(&rt, one.as_str(), "one")?;
-    let missing = put(&rt, one.as_str(), "")?;
-    assert!(rt; missing.status == 7 && missing.out.is_empty());
-    fs::write(&rt, caps.as_str(), line(&rt, TWO_CAP)?.as_str())?;
-    let none = put(&rt, one.as_str(), "")?;
-    assert!(rt; none.is(3, b"", "grid: 110 NotACatalogue\n"));
-    let rows = [
-        (
-            "- --since -",
-            "standard input is the catalogue, and cannot be a file too\n",
-        ),
-        (
-            "--files-from - --since -",
-            "standard input is the list, and cannot be the catalogue too\n",
-        ),
-        (
-            "- --files0-from -",
-            "standard input is the list, and cannot be a file too\n",
-        ),
-    ];
+// Whether a put with these words is refused before anything is written, and tells this.
+fn is_refused(rt: &HostRuntime, words: &str, told: &str) -> Result<bool, Fail> {
     let plan = Plan::new(Odd::Nothing);
-    for (words, told) in rows {
-        let line = format!(in rt.alloc(); "grid put --grid {} {words}", path(&rt, "/grid")?)?;
-        let ended = run(&OddHost { rt, plan: &plan }, line.as_str(), false)?;
-        assert!(rt; ended.status == 3 && ended.out.is_empty());
-        assert!(rt; ended.err.rest().starts_with(told.as_bytes()));
-    }
+    let line = format!(in rt.alloc(); "grid put --grid {} {words}", path(rt, "/grid")?)?;
+    let ended = run(
+        &OddHost {
+            rt: *rt,
+            plan: &plan,
+        },
+        line.as_str(),
+        false,
+    )?;
+    let tells = ended.err.rest().starts_with(told.as_bytes());
+    Ok(ended.status == 3 && ended.out.is_empty() && tells)
+}
+
+// Two of the list, the catalogue and a file cannot be standard input.
+#[test]
+fn standard_input_is_one(rt: HostRuntime) -> Result<(), Fail> {
+    assert!(rt; begins(&rt));
+    let told = "standard input is the catalogue, and cannot be a file too\n";
+    assert!(rt; is_refused(&rt, "- --since -", told)?);
+    let told = "standard input is the list, and cannot be the catalogue too\n";
+    assert!(rt; is_refused(&rt, "--files-from - --since -", told)?);
+    let told = "standard input is the list, and cannot be a file too\n";
+    assert!(rt; is_refused(&rt, "- --files0-from -", told)?);
     assert!(rt; removes_all(&rt));
     Ok(())
 }

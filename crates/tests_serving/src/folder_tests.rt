@@ -92,6 +92,43 @@ fn answer(
     Err(Fail::from("no answer"))
 }
 
+// A folder that is served, and a client of it.
+#[derive(Drop)]
+struct Talk {
+    served: Served,
+    guest: Guest,
+}
+
+impl Talk {
+    fn begin(rt: &HostRuntime, serve: &Serve<'_>, address: &str) -> Result<Talk, Fail> {
+        let mut served = opened(rt, serve)?;
+        let guest = guest(rt, &mut served, address)?;
+        Ok(Talk { served, guest })
+    }
+
+    fn ask(&mut self, rt: &HostRuntime, body: Body) -> Result<Body, Fail> {
+        answer(rt, &mut self.served, &mut self.guest, body)
+    }
+
+    // Whether there is room for a share of so many bytes.
+    fn has_room(&mut self, rt: &HostRuntime, share: u8, size: u64) -> Result<bool, Fail> {
+        match self.ask(rt, allocate(share, size)?)? {
+            Body::Granted => Ok(true),
+            Body::Full => Ok(false),
+            _ => Err(Fail::from("another answer")),
+        }
+    }
+
+    // Whether a share of ten bytes is taken, written and closed.
+    fn stores(&mut self, rt: &HostRuntime, share: u8) -> Result<bool, Fail> {
+        let granted = self.has_room(rt, share, 10)?;
+        let wrote = self.ask(rt, write(rt.alloc(), share, 0, 7, 10)?)?;
+        let closed = self.ask(rt, Body::Close(id(share)))?;
+        let wrote = matches!(wrote, Body::Wrote(10));
+        Ok(granted && wrote && matches!(closed, Body::Closed(_)))
+    }
+}
+
 // The lengths of the files in a folder.
 fn lengths_in(rt: &HostRuntime, folder: &str) -> Result<Vec<u64>, Fail> {
     let mut lengths = Vec::new(rt.alloc());
@@ -101,31 +138,30 @@ fn lengths_in(rt: &HostRuntime, folder: &str) -> Result<Vec<u64>, Fail> {
     Ok(lengths)
 }
 
-// A share that is put stands in the folder, and no second process serves it meanwhile.
+// A share that is put stands in the folder.
+#[test]
+fn a_folder_keeps_shares(rt: HostRuntime) -> Result<(), Fail> {
+    let (folder, address) = place(&rt, "keeps")?;
+    let serve = how(folder.as_str(), address.as_str());
+    let mut talk = Talk::begin(&rt, &serve, address.as_str())?;
+    let stored = talk.stores(&rt, 0);
+    drop(talk);
+    assert!(rt; stored?);
+    assert!(rt; lengths_in(&rt, folder.as_str())?.as_slice() == [10].as_slice());
+    clear(&rt, folder.as_str())
+}
+
+// Neither a folder nor an address is served twice. A socket that is left does not keep the next one
+// out.
 #[test]
 fn a_folder_is_served_by_one(rt: HostRuntime) -> Result<(), Fail> {
     let (folder, address) = place(&rt, "one")?;
+    let (other, elsewhere) = place(&rt, "other")?;
     let serve = how(folder.as_str(), address.as_str());
-    let mut served = opened(&rt, &serve)?;
-    let mut first = guest(&rt, &mut served, address.as_str())?;
-    let granted = answer(&rt, &mut served, &mut first, allocate(0, 10)?)?;
-    let wrote = answer(
-        &rt,
-        &mut served,
-        &mut first,
-        write(rt.alloc(), 0, 0, 7, 10)?,
-    )?;
-    let closed = answer(&rt, &mut served, &mut first, Body::Close(id(0)))?;
-    assert!(rt; matches!(granted, Body::Granted));
-    assert!(rt; matches!(wrote, Body::Wrote(10)) && matches!(closed, Body::Closed(_)));
-    assert!(rt; lengths_in(&rt, folder.as_str())?.as_slice() == [10].as_slice());
-    // neither the folder nor the address are served twice
-    let elsewhere = format!(in rt.alloc(); "{address}2")?;
-    assert!(rt; refusal(&rt, &how(folder.as_str(), elsewhere.as_str())) == Some(105));
-    let (other, _) = place(&rt, "other")?;
-    assert!(rt; refusal(&rt, &how(other.as_str(), address.as_str())) == Some(105));
+    let served = opened(&rt, &serve)?;
+    assert!(rt; refusal_at(&rt, folder.as_str(), elsewhere.as_str()) == Some(105));
+    assert!(rt; refusal_at(&rt, other.as_str(), address.as_str()) == Some(105));
     drop(served);
-    // its socket is left, and does not keep the next one out
     assert!(rt; refusal(&rt, &serve).is_none());
     clear(&rt, other.as_str())?;
     clear(&rt, folder.as_str())
@@ -229,6 +265,18 @@ fn a_folder_gets_its_mark(rt: HostRuntime) -> Result<(), Fail> {
     clear(&rt, folder)
 }
 
+// Whether there is room for 25 bytes of shares. One that is given up takes none.
+fn keeps_room(rt: &HostRuntime, talk: &mut Talk) -> Result<bool, Fail> {
+    let is_too_long = talk.has_room(rt, 0, 26)?;
+    let stored = talk.stores(rt, 0)? && talk.stores(rt, 1)?;
+    let is_last = talk.has_room(rt, 2, 5)?;
+    talk.ask(rt, write(rt.alloc(), 2, 0, 7, 5)?)?;
+    let is_more = talk.has_room(rt, 3, 1)?;
+    talk.ask(rt, Body::Abort(id(2)))?;
+    let is_over = talk.has_room(rt, 3, 6)?;
+    Ok(!is_too_long && stored && is_last && !is_more && !is_over && talk.has_room(rt, 3, 5)?)
+}
+
 // A server takes no more bytes of new shares than it has room for.
 #[test]
 fn room_is_kept(rt: HostRuntime) -> Result<(), Fail> {
@@ -237,32 +285,10 @@ fn room_is_kept(rt: HostRuntime) -> Result<(), Fail> {
         room: Some(25),
         ..how(folder.as_str(), address.as_str())
     };
-    let mut served = opened(&rt, &serve)?;
-    let mut first = guest(&rt, &mut served, address.as_str())?;
-    let full = answer(&rt, &mut served, &mut first, allocate(0, 26)?)?;
-    assert!(rt; matches!(full, Body::Full));
-    for share in 0..2 {
-        let granted = answer(&rt, &mut served, &mut first, allocate(share, 10)?)?;
-        assert!(rt; matches!(granted, Body::Granted));
-        answer(
-            &rt,
-            &mut served,
-            &mut first,
-            write(rt.alloc(), share, 0, 7, 10)?,
-        )?;
-        let closed = answer(&rt, &mut served, &mut first, Body::Close(id(share)))?;
-        assert!(rt; matches!(closed, Body::Closed(_)));
-    }
-    // one that is given up takes no room
-    answer(&rt, &mut served, &mut first, allocate(2, 5)?)?;
-    answer(&rt, &mut served, &mut first, write(rt.alloc(), 2, 0, 7, 5)?)?;
-    let full = answer(&rt, &mut served, &mut first, allocate(3, 1)?)?;
-    assert!(rt; matches!(full, Body::Full));
-    answer(&rt, &mut served, &mut first, Body::Abort(id(2)))?;
-    let full = answer(&rt, &mut served, &mut first, allocate(3, 6)?)?;
-    let granted = answer(&rt, &mut served, &mut first, allocate(3, 5)?)?;
-    assert!(rt; matches!(full, Body::Full) && matches!(granted, Body::Granted));
-    drop(served);
+    let mut talk = Talk::begin(&rt, &serve, address.as_str())?;
+    let keeps = keeps_room(&rt, &mut talk);
+    drop(talk);
+    assert!(rt; keeps?);
     clear(&rt, folder.as_str())
 }
 
