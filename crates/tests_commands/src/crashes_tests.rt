@@ -1,7 +1,7 @@
 //! The program's commands run until all stops at a call, at each in turn, and each state that a
 //! crash may leave of the folders of their grid is looked at.
 
-use crate::folders::Folders;
+use crate::crashed_folders::Folders;
 use crate::stopping_files::StoppingFiles;
 use grid_commands::{DiskFiles, Environment, Locks, grid};
 use std::alloc::AllocError;

@@ -1,7 +1,7 @@
 //! The host's files, of which those in some folders stand in memory too. What changes these stops
 //! at a call, and nothing is changed from then on.
 
-use crate::folders::Folders;
+use crate::crashed_folders::Folders;
 use grid_commands::Locks;
 use std::alloc::{Allocator, Global};
 use std::cell::{RefCell, RefMut};
