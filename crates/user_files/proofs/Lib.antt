@@ -1,3 +1,4 @@
 mod Comparing
 mod Copying
 mod Retrying
+mod Slashes

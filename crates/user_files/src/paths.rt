@@ -1,7 +1,11 @@
 //! The parts of a path.
 
+ghost use Rattle.user_files.specs.Paths.{IsFolderBefore, IsLastName};
+
 /// The name behind the last slash of a path.
-pub fn last_name(path: &str) -> &str {
+pub fn last_name(path: &str) -> &str
+    ensures { IsLastName path.now result.now }
+{
     match path.rsplit_once('/') {
         Some((_, name)) => name,
         None => path,
@@ -9,7 +13,9 @@ pub fn last_name(path: &str) -> &str {
 }
 
 /// The folder before the last slash of a path, or the one that a path of one name is read from.
-pub fn folder_before(path: &str) -> &str {
+pub fn folder_before(path: &str) -> &str
+    ensures { IsFolderBefore path.now result.now }
+{
     match path.rsplit_once('/') {
         Some((folder, _)) if folder.is_empty() => "/",
         Some((folder, _)) => folder,
