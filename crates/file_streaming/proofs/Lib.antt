@@ -1,5 +1,6 @@
 pub mod PaddedTexts
 pub mod RemadeLaws
+pub mod RemadeOwn
 pub mod RemakePass
 pub mod RemadeEnd
 pub mod RemadeKept

@@ -2,16 +2,22 @@
 use Rattle.std.specs.Prelude.{◌≡◌, ◌≢◌, ◌⊎◌, ℕ, ◌<◌, None, List, [], length, map, take, drop}
 use Rattle.std.specs.Prelude.{slice_index_or}
 use Rattle.std.specs.List.{range_with_len}
+use Rattle.tagged_hash.specs.Clash.{HasNoClash}
 use Rattle.tagged_hash.specs.TaggedHash.{share_digest}
+use Rattle.merkle.specs.Inputs.{AreAmong}
 use Rattle.merkle.specs.Tree.{tree_root}
-use Rattle.cap_text.specs.Cap.{VerifyCapValue}
-use Rattle.ueb.specs.Shape.{Contents, rounded_up}
-use Rattle.share_layout.specs.Geometry.{Geometry, with_padding}
+use Rattle.cap_text.specs.Cap.{VerifyCapValue, verify_cap_of}
+use Rattle.ueb.specs.Shape.{Contents, IsShape, rounded_up}
+use Rattle.share_layout.specs.Geometry.{Geometry, geometry_of, with_padding}
 use Rattle.share_verify.specs.CapBlock.{IsUebFor, geometry_by}
+use Rattle.share_verify.specs.Inputs.{share_inputs}
 use Rattle.share_verify.specs.Pieces.{block_hashes}
 use Rattle.proved_parts.specs.FileOf.{segment_hashes}
 use Rattle.file_encoding.specs.Blocks.{padded_blocks}
-use Rattle.file_encoding.specs.Padded.{padded_leaves, padded_shares, plain_segments}
+use Rattle.file_encoding.specs.Encoding.{Parameters, encoding_of}
+use Rattle.file_encoding.specs.Inputs.{encoding_inputs}
+use Rattle.file_encoding.specs.Padded.{padded_leaves, padded_sections, padded_shares}
+use Rattle.file_encoding.specs.Padded.{plain_segments}
 use Rattle.file_encoding.specs.RemadeLaws.{ArePassing}
 use Rattle.sources.specs.Change.{DiffersFromFile}
 use Rattle.sources.specs.Source.{IsPass}
@@ -36,6 +42,19 @@ TextsPass = (cap : VerifyCapValue) (extension_block : List ℕ) (u : Contents) (
     → IsTextOf cap extension_block u text
     → ArePassing cap (padded_shares (geometry_by u) text extension_block)
 
+-- The cap is the one of a file's encoding. And no two hash inputs clash among some, which hold what
+-- the encoding hashes and what is hashed where the shares of a text are checked.
+pub record AreOfFile (file secret : List ℕ) (p : Parameters) (cap : VerifyCapValue)
+    (extension_block : List ℕ) (u : Contents) (text : List ℕ) : Type 0 where
+  pub shape : IsShape p.needed p.total (length file)
+      (geometry_of (length file) p.needed p.total p.max_segment).segment_size
+  pub is_cap : cap ≡ verify_cap_of (encoding_of file secret p).cap
+  pub inputs : List (List ℕ)
+  pub no_clash : HasNoClash inputs
+  pub encoded : AreAmong inputs (encoding_inputs file secret p)
+  pub checked : (i : ℕ) → i < u.total_shares → AreAmong inputs
+      (share_inputs u i (padded_sections (geometry_by u) text extension_block i))
+
 -- ---- what is kept of it
 
 -- the verify cap, and what is kept for its shares
@@ -58,7 +77,8 @@ remade_by g cap extension_block text = record {
 }
 
 -- The source was read once, and brought a padded ciphertext of the cap's file, of which this is
--- kept.
+-- kept. Its shares pass every check for the cap, and where that is the one of a file's encoding,
+-- and nothing clashes, they are the encoding's own.
 pub record IsRemadeFrom {S : Type 0} (gives : S → ℕ → List ℕ → S → Type 0) (old : S)
     (cap : VerifyCapValue) (extension_block : List ℕ) (u : Contents) (remade : RemadeFile)
     (new : S) : Type 0 where
@@ -66,6 +86,10 @@ pub record IsRemadeFrom {S : Type 0} (gives : S → ℕ → List ℕ → S → T
   pub pass : IsPass gives (rounded_up u.size u.needed_shares) old text new
   pub of : IsTextOf cap extension_block u text
   pub is : remade ≡ remade_by (geometry_by u) cap extension_block text
+  pub passes : ArePassing cap (padded_shares (geometry_by u) text extension_block)
+  pub own : (file secret : List ℕ) (p : Parameters)
+      → AreOfFile file secret p cap extension_block u text
+      → padded_shares (geometry_by u) text extension_block ≡ (encoding_of file secret p).shares
 
 -- The source was read once, and brought a text with another root over its segments, or over its
 -- shares, than the extension block tells.

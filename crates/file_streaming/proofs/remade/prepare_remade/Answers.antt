@@ -15,7 +15,10 @@ use Rattle.file_streaming.specs.Remaking.{IsRemaking}
 use Rattle.share_gathering.specs.declared.finishing.Finished.{Finished}
 use Rattle.share_gathering.specs.declared.buffers.Buffers.{Buffers}
 use Rattle.file_streaming.specs.declared.remaking.Remaking.{Remaking}
+use Rattle.file_streaming.specs.Remade.{IsTextOf}
 use Rattle.file_streaming.proofs.RemadeKept.{is_kept, kept_by, kept_is}
+use Rattle.file_streaming.proofs.RemadeLaws.{texts_pass}
+use Rattle.file_streaming.proofs.RemadeOwn.{all_own}
 use Rattle.file_streaming.proofs.RemakePass.{told-again}
 use Rattle.share_gathering.proofs.Sections.{texts_of}
 use Rattle.file_streaming.proofs.remade.prepare_remade.Goals as goal
@@ -88,12 +91,16 @@ returns-clause-remade g c =
     let finished = c.in_ok-behind.ensures.finished read.text is in
     let block : List ℕ = c.args.extension_block.items in
     let by = kept_by u valid read.text block long c.requires.ueb.grammar.short f finished in
+    let of : IsTextOf c.args.cap.now block u read.text =
+    record { ueb = c.requires.ueb; size = long; ciphertext_root = finished.ciphertext_root; share_root = finished.share_root } in
     record {
       text = read.text;
       pass = subst (λ (h : Geometry). IsPass g.S.Source.gives h.size c.args.source.now read.text c.remake.new.source) same read.pass;
-      of = record { ueb = c.requires.ueb; size = long; ciphertext_root = finished.ciphertext_root; share_root = finished.share_root };
+      of = of;
       is = λ i. record {
         cap = c.args.cap.now;
         kept = (ap by same ∙ kept_is u valid read.text block long c.requires.ueb.grammar.short f finished c.args.cap.now) i;
       };
+      passes = texts_pass c.args.cap.now block u read.text of;
+      own = λ file secret p are. all_own file secret p c.args.cap.now block u read.text of are;
     }
