@@ -1,17 +1,14 @@
 //! How a store is opened over a disk.
 
-ghost use Rattle.std.specs.Prelude.{◌≡◌, ℕ, List, map, Contains, IfOk};
+ghost use Rattle.std.specs.Prelude.{◌≡◌, map, IfOk};
 ghost use Rattle.std.specs.String.{string_bytes};
-ghost use Rattle.disks.specs.Names.{Name, IsRelied};
-ghost use Rattle.disks.specs.Folder.{IsDurable, StandsFor};
 ghost use Rattle.folder_keeping.specs.Steps.{IsOpened};
 
 use crate::store::KeptFolder;
 use disks::disk::Disk;
 use share_folders::disk::Durability;
-use share_folders::files::as_stored;
 use share_folders::kept::DiskStore;
-use share_folders::listing::take_names;
+use share_folders::listing::{Listing, list_folder};
 use share_folders::names::OwnToken;
 use share_store::error::StoreError;
 use std::alloc::Global;
@@ -40,30 +37,11 @@ pub fn open<D: Disk + Drop>(
     ensures durability { IfOk result (λ opening. opening.store.durability ≡ durability) }
     ensures failures { IfOk result (λ opening. opening.store.failures ≡ 0) }
 {
-    let names = list_names(alloc, &mut disk)?;
-    let closed = take_names(alloc, &mut disk, durability, names.as_slice())?;
+    let listing = list_folder(alloc, &mut disk, durability)?;
+    let Listing { names, closed } = listing;
+    let store = DiskStore::new(alloc, disk, own, closed, durability);
     Ok(Opening {
-        store: KeptFolder {
-            store: DiskStore::new(alloc, disk, own, closed, durability),
-            failures: 0,
-        },
+        store: KeptFolder { store, failures: 0 },
         names,
     })
-}
-
-// The names in a folder. Each that is durable is among them, and is so still; and so is each that
-// stands for bytes on the disk: where they are relied on.
-fn list_names<D: Disk>(alloc: Global, disk: &mut D) -> Result<Vec<String>, StoreError>
-    ensures so_far { D.honest disk.new → D.honest disk.old }
-    ensures found { D.honest disk.new → IfOk result (λ names. (name : Name) (bytes : List ℕ)
-        → IsRelied D.relied name bytes → IsDurable (D.folder disk.old) name bytes
-        → Contains (map string_bytes names.items) name
-        × IsDurable (D.folder disk.new) name bytes) }
-    ensures stands { D.honest disk.new → IfOk result (λ names. (name : Name) (bytes : List ℕ)
-        → IsRelied D.relied name bytes
-        → StandsFor (D.folder disk.old) bytes ((D.folder disk.old).found name)
-        → Contains (map string_bytes names.items) name
-        × StandsFor (D.folder disk.new) bytes ((D.folder disk.new).found name)) }
-{
-    as_stored(disk.list(alloc))
 }

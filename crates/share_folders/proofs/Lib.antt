@@ -8,4 +8,5 @@ pub mod Holding
 pub mod Taking
 pub mod Told
 pub mod FolderSteps
+pub mod Listings
 pub mod Settling

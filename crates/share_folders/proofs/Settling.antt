@@ -7,7 +7,7 @@ use Rattle.disks.specs.Names.{Name, Relied, IsRelied}
 use Rattle.disks.specs.Folder.{Folder, IsDurable, StandsFor}
 use Rattle.disks.specs.Laws.{StaysHeld}
 use Rattle.share_store.specs.Shelf.{ShareKey}
-use Rattle.share_folders.specs.Listed.{AreSettled, HaveNoClosed}
+use Rattle.share_folders.specs.Listed.{AreSettled, HaveNoClosed, StayStanding}
 use Rattle.share_folders.specs.Names.{IsNamed, closed_name}
 use Rattle.share_folders.proofs.Lasting.{closed_lasts}
 
@@ -31,3 +31,7 @@ pub none_more : (names : List Name) (name : Name) → HaveNoClosed names → ((k
     → HaveNoClosed (names ++ name ∷ [])
 none_more names name none other key digest named there =
     ⊎_elim (λ before. none key digest named before) (λ same. other key digest named same) (Contains-push_cases names name (closed_name key digest) there)
+
+pub settled_before : {relied : Relied} (names : List Name) (s m t : Folder) → StayStanding relied s m → AreSettled relied names m t → AreSettled relied names s t
+settled_before {relied} names s m t standing settled key digest bytes named there relies stands =
+    settled key digest bytes named there relies (standing (closed_name key digest) bytes (closed_lasts key digest named.2.len, relies) stands)

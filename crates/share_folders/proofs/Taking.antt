@@ -1,8 +1,8 @@
 -- What a store takes note of when it is opened.
 use Rattle.std.proofs.Common.{◌≡◌, ℕ, ◌+◌, ◌<◌, true, false, List, [], ◌∷◌, ◌++◌, length, take, drop, map, get_or, refl, sym, ap, ◌∙◌, subst, ⊎_elim, arith}
 use Rattle.std.specs.Prelude.{Option, Some, None, Contains, decimal, Result, Ok, Err, OnOk}
-use Rattle.std.proofs.lemmas.List.{same_from_push, take_more, map_push}
-use Rattle.std.proofs.lemmas.List.Elements.{Contains-append_left, Contains-push, Contains-push_cases}
+use Rattle.std.proofs.lemmas.List.{get_or-map, length-map, same_from_push, take_more, map_push}
+use Rattle.std.proofs.lemmas.List.Elements.{Contains-append_left, Contains-get_or, Contains-push, Contains-push_cases}
 use Rattle.std.proofs.lemmas.Fmt.{decimal_injective}
 use Rattle.std.proofs.lemmas.Cmp.{tied_itself}
 use Rattle.std.specs.Ordering.{is_eq}
@@ -139,3 +139,9 @@ on_taken (Err e) name key digest old new is named anew again either others = tt
 pub names_more : {S : Type 0} (bytes : S → Name) (names : List S) (i : ℕ) (s : S) → i < length names
     → map bytes (take (i + 1) names) ≡ map bytes (take i names) ++ bytes (get_or names i s) ∷ []
 names_more bytes names i s within = ap (map bytes) (take_more names i s within) ∙ map_push bytes (take i names) (get_or names i s)
+
+-- a name that stands at a place
+pub named_at : {S : Type 0} (bytes : S → Name) (names : List S) (i : ℕ) (s : S) (name : Name) → i < length names → bytes (get_or names i s) ≡ name → Contains (map bytes names) name
+named_at bytes names i s name within is =
+    subst (Contains (map bytes names)) (get_or-map bytes names i s (bytes s) within ∙ is)
+    (Contains-get_or (map bytes names) i (bytes s) (omega (arith, within, length-map names bytes)))

@@ -11,16 +11,20 @@ use Rattle.share_store.specs.declared.error.StoreError.{StoreError}
 use Rattle.share_store.specs.declared.error.StoreError.TheVariants.{OutOfMemory, StoreFault}
 use Rattle.share_store.specs.Shelf.{ShareKey, key_of, order, same_key, at, held_by}
 use Rattle.share_store.specs.Calls.{Calls}
+use Rattle.share_folders.specs.declared.disk.Durability.{Durability}
+use Rattle.share_folders.specs.declared.disk.Durability.TheVariants.{Unsynced}
 use Rattle.share_folders.specs.declared.listing.Purpose.{Purpose}
 use Rattle.share_folders.specs.declared.listing.Purpose.TheVariants.{Reading, Writing}
 use Rattle.share_folders.specs.Table.{AreSeen, HasUnasked, StayBeside, has_index, is_known}
 use Rattle.share_folders.specs.declared.files.OpenShare.{OpenShare}
 
--- the folder's path, what open shares' files are named by where shares are taken, the closed
--- shares, how many bytes were written to each open one, and the faults so far
+-- the folder's path, what open shares' files are named by where shares are taken, whether a share
+-- outlasts a power failure once it is closed, the closed shares, how many bytes were written to
+-- each open one, and the faults so far
 pub record FolderState : Type 0 where
   pub folder : List ℕ
   pub own : Option (List ℕ)
+  pub durability : Durability
   pub closed : List (ShareKey × KeptShare)
   pub opened : List (ShareKey × ℕ)
   pub failures : ℕ
@@ -61,6 +65,11 @@ abbrev pub takes_shares : Purpose → Bool → Bool
 takes_shares Reading readonly = false
 takes_shares (Writing durability) readonly = not readonly
 
+-- Does what is written outlast a power failure? For reading nothing is put on the disk.
+abbrev pub durability_of : Purpose → Durability
+durability_of Reading = Unsynced
+durability_of (Writing durability) = durability
+
 -- the faults after a call
 abbrev pub counted : {A : Type 0} → Result A StoreError → ℕ → ℕ
 counted (Ok a) n = n
@@ -69,14 +78,7 @@ counted (Err StoreFault) n = min (n + 1) (2 ^ 64 - 1)
 
 -- the same store with one more fault
 abbrev pub faulted : FolderState → FolderState
-faulted s =
-    record {
-      folder = s.folder;
-      own = s.own;
-      closed = s.closed;
-      opened = s.opened;
-      failures = min (s.failures + 1) (2 ^ 64 - 1);
-    }
+faulted s = record s { failures = min (s.failures + 1) (2 ^ 64 - 1) }
 
 -- the same store, but for closed shares that were asked for, and so looked at
 pub record LooksAt (asked : ShareKey → Bool) (s t : FolderState) : Type 0 where
@@ -84,6 +86,7 @@ pub record LooksAt (asked : ShareKey → Bool) (s t : FolderState) : Type 0 wher
   pub others : StayBeside asked s.closed t.closed
   pub folder : t.folder ≡ s.folder
   pub own : t.own ≡ s.own
+  pub durability : t.durability ≡ s.durability
   pub opened : t.opened ≡ s.opened
   pub failures : t.failures ≡ s.failures
 
@@ -91,8 +94,9 @@ pub record LooksAt (asked : ShareKey → Bool) (s t : FolderState) : Type 0 wher
 abbrev pub FolderWrites : FolderState → ShareId → ℕ → List ℕ → Result Unit StoreError
     → FolderState → Type 0
 FolderWrites s id offset bytes r t =
-    (t.folder ≡ s.folder) × (t.own ≡ s.own) × (t.closed ≡ s.closed)
-    × (t.failures ≡ counted r s.failures) × OthersStay id s.opened t.opened × OnOk r (IsSome s.own)
+    (t.folder ≡ s.folder) × (t.own ≡ s.own) × (t.durability ≡ s.durability)
+    × (t.closed ≡ s.closed) × (t.failures ≡ counted r s.failures)
+    × OthersStay id s.opened t.opened × OnOk r (IsSome s.own)
     × OnOk r (length_at (key_of id) t.opened
     ≡ (if offset == 0 then 0 else length_at (key_of id) s.opened) + length bytes)
 
@@ -101,8 +105,8 @@ abbrev pub FolderCloses : FolderState → ShareId → List ℕ → Result Unit S
 FolderCloses s id digest (Ok u) t =
     (t.closed ≡ insert_entry order s.closed (key_of id)
     (record { length = Some (length_at (key_of id) s.opened); digest = digest }))
-    × IsSome s.own × (t.folder ≡ s.folder) × (t.own ≡ s.own) × (t.failures ≡ s.failures)
-    × OthersStay id s.opened t.opened
+    × IsSome s.own × (t.folder ≡ s.folder) × (t.own ≡ s.own) × (t.durability ≡ s.durability)
+    × (t.failures ≡ s.failures) × OthersStay id s.opened t.opened
 FolderCloses s id digest (Err OutOfMemory) t = t ≡ s
 FolderCloses s id digest (Err StoreFault) t = t ≡ faulted s
 
@@ -130,18 +134,12 @@ FolderLists s index (Err StoreFault) t =
 -- An open share is open no longer.
 abbrev pub FolderLetsGo : FolderState → ShareId → FolderState → Type 0
 FolderLetsGo s id t =
-    (t.folder ≡ s.folder) × (t.own ≡ s.own) × (t.closed ≡ s.closed) × (t.failures ≡ s.failures)
-    × OthersStay id s.opened t.opened × (length_at (key_of id) t.opened ≡ 0)
+    (t.folder ≡ s.folder) × (t.own ≡ s.own) × (t.durability ≡ s.durability)
+    × (t.closed ≡ s.closed) × (t.failures ≡ s.failures) × OthersStay id s.opened t.opened
+    × (length_at (key_of id) t.opened ≡ 0)
 
 abbrev pub FolderRestarts : FolderState → FolderState → Type 0
-FolderRestarts s t =
-    t ≡ record {
-      folder = s.folder;
-      own = s.own;
-      closed = s.closed;
-      opened = [];
-      failures = s.failures;
-    }
+FolderRestarts s t = t ≡ record s { opened = [] }
 
 -- A folder's room is its disk's, so no used bytes are reckoned.
 abbrev pub folder_calls : Calls FolderState

@@ -1,10 +1,20 @@
 -- What an opened store finds by the names in its folder.
 use Rattle.std.specs.Prelude.{◌≡◌, ◌⊎◌, List, ℕ, Option, Some, None, Contains, true, ⊤}
-use Rattle.disks.specs.Names.{Name, Relied}
-use Rattle.disks.specs.Folder.{Folder, IsDurable, StandsFor}
+use Rattle.disks.specs.Names.{Name, Relied, IsRelied}
+use Rattle.disks.specs.Folder.{Folder, HasBytes, IsDurable, StandsFor}
 use Rattle.share_store.specs.Shelf.{ShareKey, at}
 use Rattle.share_folders.specs.declared.table.KeptShare.{KeptShare}
 use Rattle.share_folders.specs.Names.{IsNamed, closed_name}
+
+-- Each name that stands for bytes, and is relied on with them, is among these.
+abbrev pub AreListed : Relied → List Name → Folder → Type 0
+AreListed relied names s = (name : Name) (bytes : List ℕ) → IsRelied relied name bytes
+    → HasBytes s bytes (s.found name) → Contains names name
+
+-- What stands for bytes on the disk, and is relied on with them, stands for them still.
+abbrev pub StayStanding : Relied → Folder → Folder → Type 0
+StayStanding relied s t = (name : Name) (bytes : List ℕ) → IsRelied relied name bytes
+    → StandsFor s bytes (s.found name) → StandsFor t bytes (t.found name)
 
 -- No other closed name of a share is among these.
 abbrev pub IsAlone : List Name → ShareKey → List ℕ → Type 0

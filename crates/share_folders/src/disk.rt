@@ -84,8 +84,8 @@ fn ends_in_dots(path: &str) -> bool {
     last == "." || last == ".."
 }
 
-/// Synced, puts the name of a folder that stands on the disk.
-pub(crate) fn sync_name<R: Files + AllocGlobal>(
+// Synced, puts the name of a folder that stands on the disk.
+fn sync_name<R: Files + AllocGlobal>(
     rt: &R,
     folder: &str,
     durability: Durability,

@@ -1,22 +1,24 @@
 //! A store over the files of a folder.
 
-ghost use Rattle.std.specs.Prelude.{◌≡◌, ◌-◌, ◌<◌, ◌≤◌, ◌^◌, ◌⊎◌, [], IfOk, IsErrOf, IsNone};
+ghost use Rattle.std.specs.Prelude.{◌≡◌, ◌-◌, ◌<◌, ◌≤◌, ◌^◌, ◌⊎◌, [], IfOk, IsErrOf, IsNone, List};
 ghost use Rattle.std.specs.Prelude.{is_none};
 ghost use Rattle.std.specs.String.{string_bytes};
+ghost use Rattle.disks.specs.Names.{Name};
 ghost use Rattle.share_store.specs.declared.error.StoreError.{StoreError};
 ghost use Rattle.share_folders.specs.declared.listing.Purpose.{Purpose};
-ghost use Rattle.share_folders.specs.Folder.{FolderState, counted, folder_calls};
+ghost use Rattle.share_folders.specs.Folder.{FolderState, counted, durability_of, folder_calls};
+ghost use Rattle.share_folders.specs.Listed.{AreTaken};
 
 pub use crate::disk::Durability;
+use crate::disk::make_folder;
 use crate::kept::DiskStore;
 pub use crate::listing::Purpose;
-use crate::listing::{Listing, list_folder, list_standing, own_token};
+use crate::listing::{Listing, is_readonly, list_folder, own_token};
 use disks::system::SystemDisk;
 use share_store::error::StoreError;
 use share_store::shelf::key_of;
 use share_store::store::Store;
 use std::alloc::Global;
-use std::collections::BTreeMap;
 use std::marker::Model;
 use std::random::RandomSource;
 use std::rt::Files;
@@ -52,6 +54,7 @@ impl<R: Files + AllocGlobal + Clone + Drop> Model for FolderStore<R> {
     ghost view = { λ m. record {
       folder = string_bytes m.store.disk.folder;
       own = m.store.own;
+      durability = m.store.durability;
       closed = m.store.closed.entries;
       opened = lengths_of m.store.opened.entries;
       failures = m.failures;
@@ -70,10 +73,11 @@ impl<R: Files + RandomSource + AllocGlobal + Clone + Drop> FolderStore<R> {
         ensures begins { IfOk result (λ s. (s.folder ≡ folder.now) × (s.opened ≡ [])
             × (s.failures ≡ 0)) }
         ensures reading { IfOk result (λ s. purpose ≡ Purpose.Reading → IsNone s.own) }
+        ensures durability { IfOk result (λ s. s.durability ≡ durability_of purpose) }
+        ensures taken { IfOk result (λ s. (names : List Name) × AreTaken names s.closed) }
     {
-        let mut disk = disk_of(rt, folder)?;
-        let listing = list_folder(&mut disk, purpose.durability())?;
-        FolderStore::over(disk, purpose, listing)
+        make_folder(rt, folder, purpose.durability())?;
+        FolderStore::open_standing(rt, folder, purpose)
     }
 
     /// The same of a folder that is there. Its name is its maker's to put on the disk, so that this
@@ -86,9 +90,11 @@ impl<R: Files + RandomSource + AllocGlobal + Clone + Drop> FolderStore<R> {
         ensures begins { IfOk result (λ s. (s.folder ≡ folder.now) × (s.opened ≡ [])
             × (s.failures ≡ 0)) }
         ensures reading { IfOk result (λ s. purpose ≡ Purpose.Reading → IsNone s.own) }
+        ensures durability { IfOk result (λ s. s.durability ≡ durability_of purpose) }
+        ensures taken { IfOk result (λ s. (names : List Name) × AreTaken names s.closed) }
     {
         let mut disk = disk_of(rt, folder)?;
-        let listing = list_standing(&mut disk, purpose.durability())?;
+        let listing = list_folder(rt.alloc(), &mut disk, purpose.durability())?;
         FolderStore::over(disk, purpose, listing)
     }
 
@@ -101,20 +107,15 @@ impl<R: Files + RandomSource + AllocGlobal + Clone + Drop> FolderStore<R> {
         ensures begins { IfOk result (λ s. (s.folder ≡ string_bytes disk.folder) × (s.opened ≡ [])
             × (s.failures ≡ 0)) }
         ensures reading { IfOk result (λ s. purpose ≡ Purpose.Reading → IsNone s.own) }
+        ensures durability { IfOk result (λ s. s.durability ≡ durability_of purpose) }
+        ensures closed { IfOk result (λ s. s.closed ≡ listing.closed.entries) }
     {
         let alloc = disk.rt.alloc();
-        let Listing { closed, readonly } = listing;
+        let Listing { names, closed } = listing;
+        let readonly = is_readonly(&disk, names.as_slice())?;
         let own = own_token(&disk.rt, purpose, readonly)?;
         Ok(FolderStore {
-            store: DiskStore {
-                alloc,
-                disk,
-                own,
-                closed,
-                opened: BTreeMap::new(alloc),
-                durability: purpose.durability(),
-                recent: None,
-            },
+            store: DiskStore::new(alloc, disk, own, closed, purpose.durability()),
             failures: 0,
         })
     }
@@ -145,11 +146,7 @@ impl<R: Files + AllocGlobal + Clone + Drop> FolderStore<R> {
     // Hands a call's outcome on, and counts it where it is a fault.
     fn count<T: Drop>(&mut self, outcome: Result<T, StoreError>) -> Result<T, StoreError>
         ensures same { result ≡ outcome }
-        ensures counts { self.new ≡ record {
-          folder = self.old.folder;
-          own = self.old.own;
-          closed = self.old.closed;
-          opened = self.old.opened;
+        ensures counts { self.new ≡ record self.old {
           failures = counted outcome self.old.failures;
         } }
         ensures cause { IsErrOf result StoreError.StoreFault

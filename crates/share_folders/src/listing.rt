@@ -1,24 +1,24 @@
 //! What a server's folder holds when its store is opened.
 
-ghost use Rattle.std.specs.Prelude.{◌≡◌, ◌∷◌, ◌++◌, [], ℕ, List, Some, None, false, is_some, map};
-ghost use Rattle.std.specs.Prelude.{IfOk, OnOk};
+ghost use Rattle.std.specs.Prelude.{◌≡◌, ◌∷◌, ◌++◌, [], ℕ, List, Some, None, Contains, codes, true};
+ghost use Rattle.std.specs.Prelude.{IfOk, OnOk, false, is_some, map};
 ghost use Rattle.std.specs.Bool.{OnFalse};
 ghost use Rattle.std.specs.String.{string_bytes};
 ghost use Rattle.disks.specs.Names.{Name};
 ghost use Rattle.disks.specs.Laws.{StaysHeld};
 ghost use Rattle.share_store.specs.Shelf.{ShareKey, at, same_key};
-ghost use Rattle.share_folders.specs.Folder.{takes_shares};
+ghost use Rattle.share_folders.specs.Folder.{durability_of, takes_shares};
 ghost use Rattle.share_folders.specs.declared.disk.Durability.{Durability};
-ghost use Rattle.share_folders.specs.Listed.{AreSettled, AreTaken, HaveNoClosed, IsEither};
+ghost use Rattle.share_folders.specs.Listed.{AreListed, AreSettled, AreTaken, HaveNoClosed};
+ghost use Rattle.share_folders.specs.Listed.{IsEither, StayStanding};
 ghost use Rattle.share_folders.specs.Names.{IsNamed, closed_name};
 
-use crate::disk::{Durability, make_folder, sync_name};
+use crate::disk::Durability;
 use crate::files::{as_stored, regular_length};
 use crate::lengths::look_at;
 use crate::names::{ClosedName, OwnToken, draw_token};
 use crate::table::{KeptShare, keep_lower};
 use disks::disk::Disk;
-use disks::error::DiskError;
 use disks::opening::sync_names;
 use disks::system::SystemDisk;
 use share_store::error::StoreError;
@@ -45,7 +45,9 @@ pub enum Purpose {
 
 impl Purpose {
     /// Whether what is written outlasts a power failure. For reading nothing is put on the disk.
-    pub(crate) fn durability(self) -> Durability {
+    pub(crate) fn durability(self) -> Durability
+        ensures { result ≡ durability_of self }
+    {
         match self {
             Purpose::Reading => Durability::Unsynced,
             Purpose::Writing(durability) => durability,
@@ -53,75 +55,74 @@ impl Purpose {
     }
 }
 
-/// The closed shares of a folder, by the names of its files, and whether it has a file `readonly`.
+/// The names in a folder, and its closed shares by them.
 #[derive(Drop)]
-pub(crate) struct Listing {
-    pub(crate) closed: BTreeMap<ShareKey, KeptShare>,
-    pub(crate) readonly: bool,
+pub struct Listing {
+    pub names: Vec<String>,
+    pub closed: BTreeMap<ShareKey, KeptShare>,
 }
 
-/// What a folder holds, which is made where it is not there. For synced writing the folder's name
-/// is on the disk then, and so are the names of the closed shares.
-pub(crate) fn list_folder<R: Files + AllocGlobal + Clone + Drop>(
-    disk: &mut SystemDisk<R>,
+/// What a folder holds that is there. Synced, the names of closed shares are put on the disk: they
+/// were left by a program that may have ended before it had put them there. However it ends, what
+/// was durable is so still.
+///
+/// `StoreFault` where the folder cannot be read, or such a name not be put on the disk, and where
+/// two files have names of one share and it cannot be told whether they are regular ones.
+#[tactic(auto, using(crate::proofs::Closings::held_on))]
+pub fn list_folder<D: Disk>(
+    alloc: Global,
+    disk: &mut D,
     durability: Durability,
 ) -> Result<Listing, StoreError>
-    ensures { string_bytes disk.new.folder ≡ string_bytes disk.old.folder }
+    ensures listed { D.honest disk.new → IfOk result (λ listing.
+        AreListed D.relied (map string_bytes listing.names.items) (D.folder disk.old)) }
+    ensures taken { IfOk result (λ listing.
+        AreTaken (map string_bytes listing.names.items) listing.closed.entries) }
+    ensures place { D.place disk.new ≡ D.place disk.old }
+    ensures so_far { D.honest disk.new → D.honest disk.old }
+    ensures held { D.honest disk.new → StaysHeld D.relied (D.folder disk.old) (D.folder disk.new) }
+    ensures settled { D.honest disk.new → durability ≡ Durability.Synced → IfOk result (λ listing.
+        AreSettled D.relied (map string_bytes listing.names.items) (D.folder disk.old)
+        (D.folder disk.new)) }
 {
-    let names = list_or_make(disk, durability)?;
-    list_names(disk, durability, names.as_slice())
+    let names = list_names(alloc, disk)?;
+    let closed = take_names(alloc, disk, durability, names.as_slice())?;
+    Ok(Listing { names, closed })
 }
 
-/// What a folder holds that is there. For synced writing the names of the closed shares are on the
-/// disk then, and the folder's own is as it was.
-pub(crate) fn list_standing<R: Files + AllocGlobal + Clone + Drop>(
-    disk: &mut SystemDisk<R>,
-    durability: Durability,
-) -> Result<Listing, StoreError>
-    ensures { string_bytes disk.new.folder ≡ string_bytes disk.old.folder }
+// The names in a folder.
+fn list_names<D: Disk>(alloc: Global, disk: &mut D) -> Result<Vec<String>, StoreError>
+    ensures listed { D.honest disk.new → IfOk result (λ names.
+        AreListed D.relied (map string_bytes names.items) (D.folder disk.old)) }
+    ensures place { D.place disk.new ≡ D.place disk.old }
+    ensures so_far { D.honest disk.new → D.honest disk.old }
+    ensures held { D.honest disk.new → StaysHeld D.relied (D.folder disk.old) (D.folder disk.new) }
+    ensures standing { D.honest disk.new
+        → StayStanding D.relied (D.folder disk.old) (D.folder disk.new) }
 {
-    let alloc = disk.rt.alloc();
-    let names = as_stored(disk.list(alloc))?;
-    list_names(disk, durability, names.as_slice())
+    as_stored(disk.list(alloc))
 }
 
-// The names in a folder, which is made where it is not there. Synced, its name is on the disk.
-fn list_or_make<R: Files + AllocGlobal + Clone + Drop>(
-    disk: &mut SystemDisk<R>,
-    durability: Durability,
-) -> Result<Vec<String>, StoreError>
-    ensures { string_bytes disk.new.folder ≡ string_bytes disk.old.folder }
-{
-    let alloc = disk.rt.alloc();
-    match disk.list(alloc) {
-        Err(DiskError::NotFound) => {
-            make_folder(&disk.rt, disk.folder.as_str(), durability)?;
-            as_stored(disk.list(alloc))
-        }
-        outcome => {
-            let names = as_stored(outcome)?;
-            sync_name(&disk.rt, disk.folder.as_str(), durability)?;
-            Ok(names)
-        }
-    }
-}
-
-// What a folder with these names holds.
-fn list_names<R: Files + AllocGlobal + Clone + Drop>(
-    disk: &mut SystemDisk<R>,
-    durability: Durability,
+/// Whether a folder with these names has a file `readonly`.
+pub(crate) fn is_readonly<R: Files + AllocGlobal + Clone + Drop>(
+    disk: &SystemDisk<R>,
     names: &[String],
-) -> Result<Listing, StoreError>
-    ensures { string_bytes disk.new.folder ≡ string_bytes disk.old.folder }
+) -> Result<bool, StoreError>
+    ensures { IfOk result (λ readonly. readonly ≡ true
+        → Contains (map string_bytes names.now) (codes "readonly")) }
 {
-    let alloc = disk.rt.alloc();
-    let readonly = has_readonly(names) && is_readonly(disk)?;
-    let closed = take_names(alloc, disk, durability, names)?;
-    Ok(Listing { closed, readonly })
+    if !has_readonly(names) {
+        return Ok(false);
+    }
+    let folder = disk.folder.as_str();
+    let path = format!(in disk.rt.alloc(); "{folder}/{READONLY}")?;
+    is_file(fs::metadata(&disk.rt, path.as_str()))
 }
 
 // Whether the name of that file is among these.
-fn has_readonly(names: &[String]) -> bool {
+fn has_readonly(names: &[String]) -> bool
+    ensures { result ≡ true → Contains (map string_bytes names.now) (codes "readonly") }
+{
     for name in names {
         if name.as_str() == READONLY {
             return true;
@@ -130,19 +131,9 @@ fn has_readonly(names: &[String]) -> bool {
     false
 }
 
-// Whether a file stands under it.
-fn is_readonly<R: Files + AllocGlobal + Clone + Drop>(
-    disk: &SystemDisk<R>,
-) -> Result<bool, StoreError> {
-    let folder = disk.folder.as_str();
-    let path = format!(in disk.rt.alloc(); "{folder}/{READONLY}")?;
-    is_file(fs::metadata(&disk.rt, path.as_str()))
-}
-
-/// The closed shares of a folder with these names. Synced, their names are put on the disk: they
-/// were left by a program that may have ended before it had put them there.
+// The closed shares of a folder with these names. Synced, their names are put on the disk.
 #[tactic(auto, using(crate::proofs::Closings::held_on))]
-pub fn take_names<D: Disk>(
+fn take_names<D: Disk>(
     alloc: Global,
     disk: &mut D,
     durability: Durability,
