@@ -19,7 +19,7 @@ use Rattle.carried_operations.specs.Written.{IsCarried, capped}
 use Rattle.grid_rules.specs.Range.{IsWithin, asked_range}
 use Rattle.grid_rules.specs.declared.range.ByteRange.{ByteRange}
 use Rattle.grid_servers.specs.Grids.{FolderGridState, GridCalls}
-use Rattle.grid_servers.specs.Opened.{AreOpened}
+use Rattle.grid_servers.specs.Opened.{AreOpenedToRead}
 use Rattle.grid_telling.specs.declared.outcome.Failure.{Failure}
 use Rattle.grid_telling.specs.declared.outcome.Failure.TheVariants as failures
 use Rattle.grid_words.specs.declared.words.GetWords.{GetWords}
@@ -96,10 +96,10 @@ pub record Standing (G : Type 0) : Type 0 where
 abbrev pub begun_at : {G : Type 0} → Standing G → ℕ → Point G
 begun_at s offset = record { offset = offset; session = s.session; grid = s.grid }
 
--- They were just opened, each over its own folder or elsewhere, and are distinct.
+-- They were just opened for reading, each over its own folder or elsewhere, and are distinct.
 pub record AreNew {S : Type 0} (grid : List ℕ) (s : Standing (FolderGridState S)) : Type 0 where
   pub distinct : IsDistinct nat_eq s.servers
-  pub opened : AreOpened grid s.grid
+  pub opened : AreOpenedToRead grid s.grid
   pub first : s.session ≡ 1
 
 -- Downloads of a cap's file led from these to those.

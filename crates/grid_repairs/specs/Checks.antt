@@ -16,7 +16,7 @@ use Rattle.local_grid.specs.Outside.{OutsideCalls}
 use Rattle.grid_rules.specs.ReportJson.{report_json}
 use Rattle.grid_rules.specs.ReportLines.{report_lines, report_status}
 use Rattle.grid_servers.specs.Grids.{FolderGridState, GridCalls}
-use Rattle.grid_servers.specs.Opened.{AreOpened}
+use Rattle.grid_servers.specs.Opened.{AreOpenedToRead}
 use Rattle.grid_words.specs.declared.words.CheckWords.{CheckWords}
 use Rattle.grid_shares.specs.declared.Outcome.{Outcome}
 
@@ -29,12 +29,12 @@ pub record Standing (G : Type 0) : Type 0 where
   pub grid : G
   pub session : ℕ
 
--- They were just opened, each over its own folder or elsewhere; there are some, and they are
--- distinct.
+-- They were just opened for reading, each over its own folder or elsewhere; there are some, and
+-- they are distinct.
 pub record AreNew {S : Type 0} (grid : List ℕ) (s : Standing (FolderGridState S)) : Type 0 where
   pub some : 0 < length s.servers
   pub distinct : IsDistinct nat_eq s.servers
-  pub opened : AreOpened grid s.grid
+  pub opened : AreOpenedToRead grid s.grid
   pub first : s.session ≡ 1
 
 -- A check of a cap's file was begun over servers that stand so, in their session, and carried to

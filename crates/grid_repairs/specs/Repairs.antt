@@ -16,7 +16,7 @@ use Rattle.checker.specs.Report.{good_pairs}
 use Rattle.checker.specs.declared.status.Report.{Report}
 use Rattle.checker.specs.declared.status.ShareVerdict.{ShareVerdict}
 use Rattle.grid_servers.specs.Grids.{FolderGridState, GridCalls}
-use Rattle.grid_servers.specs.Opened.{AreOpened}
+use Rattle.grid_servers.specs.Opened.{AreOpenedToRead}
 use Rattle.grid_words.specs.declared.words.RepairWords.{RepairWords}
 use Rattle.grid_repairs.specs.Checks.{IsCheckedBy, literal_text, verify_of}
 use Rattle.grid_shares.specs.Placing.{ArePlaced}
@@ -25,10 +25,10 @@ use Rattle.grid_repairs.specs.Remaking.{AreMadeAnew, lacks_memory, remade_calls}
 use Rattle.grid_shares.specs.declared.Outcome.{Outcome}
 use Rattle.grid_shares.specs.declared.placing.Stored.{Stored}
 
--- The servers of a grid were opened at which these shares of a cap's file stand.
+-- The servers of a grid were opened for reading at which these shares of a cap's file stand.
 pub record AreOpenedFor {S : Type 0} (grid : List ℕ) (cap : VerifyCapValue)
     (places : List SharePlace) (bytes : FetchedState (FolderGridState S)) : Type 0 where
-  pub opened : AreOpened grid bytes.outside
+  pub opened : AreOpenedToRead grid bytes.outside
   pub index : bytes.index ≡ cap.storage_index
   pub places_are : bytes.places ≡ places
   pub first : bytes.session ≡ 1

@@ -13,11 +13,13 @@ HasWanted None mark = ⊤
 HasWanted (Some wanted) None = ⊥
 HasWanted (Some wanted) (Some mark) = IsAlike wanted mark
 
--- The server stands over the folder, with no bucket open. It has the room that is said, or as much
--- as servers have, and nothing of it is used.
+-- The server stands over the folder, with no bucket open, and what it takes outlasts a power
+-- failure as is said. It has the room that is said, or as much as servers have, and nothing of it
+-- is used.
 pub record IsOpenedFor (serve : Serve) (server : ServerState (CountedState FolderState)) : Type 0
   where
     pub folder : server.store.store.folder ≡ serve.folder.now
+    pub durability : server.store.store.durability ≡ serve.durability
     pub empty : server.buckets ≡ []
     pub room : server.capacity ≡ min (unwrap_or serve.room (2 ^ 42)) (2 ^ 42)
     pub unused : server.store.used ≡ 0

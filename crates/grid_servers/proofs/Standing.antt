@@ -3,6 +3,7 @@ use Rattle.std.proofs.Common.{◌≡◌, ℕ, zero, suc, ◌<◌, List, [], ◌�
 use Rattle.std.proofs.lemmas.Bool.{eqb-true, eqb-false}
 use Rattle.std.proofs.lemmas.List.{get_or-set_same, get_or-set_other}
 use Rattle.share_folders.specs.Folder.{FolderState}
+use Rattle.share_folders.specs.declared.listing.Purpose.{Purpose}
 use Rattle.grid_marks.specs.Marks.{IsGrids}
 use Rattle.grid_marks.specs.declared.mark.Mark.{Mark}
 use Rattle.local_grid.specs.Nodes.{NodeState}
@@ -40,14 +41,14 @@ set_each P xs m x within here others n = at (eqb n m) refl where
 
 -- ---- servers of this process
 
-pub none_stand : {L : Type 0} (grid : List ℕ) (known : Option Mark) (nodes : List (Option (NodeState FolderState L))) → nodes ≡ [] → AllStand grid known nodes
-none_stand grid known nodes e = subst (AllStand grid known) (sym e) (λ n. tt)
+pub none_stand : {L : Type 0} (grid : List ℕ) (known : Option Mark) (purpose : Purpose) (nodes : List (Option (NodeState FolderState L))) → nodes ≡ [] → AllStand grid known purpose nodes
+none_stand grid known purpose nodes e = subst (AllStand grid known purpose) (sym e) (λ n. tt)
 
-pub still_stand : {L : Type 0} (grid : List ℕ) (known : Option Mark) (old new : List (Option (NodeState FolderState L))) → ((n : ℕ) → get_or new n None ≡ get_or old n None) → AllStand grid known old → AllStand grid known new
-still_stand grid known old new same stand = λ n. subst (StandsAt grid known n) (sym (same n)) (stand n)
+pub still_stand : {L : Type 0} (grid : List ℕ) (known : Option Mark) (purpose : Purpose) (old new : List (Option (NodeState FolderState L))) → ((n : ℕ) → get_or new n None ≡ get_or old n None) → AllStand grid known purpose old → AllStand grid known purpose new
+still_stand grid known purpose old new same stand = λ n. subst (StandsAt grid known purpose n) (sym (same n)) (stand n)
 
-pub set_stand : {L : Type 0} (grid : List ℕ) (known : Option Mark) (nodes : List (Option (NodeState FolderState L))) (m : ℕ) (node : Option (NodeState FolderState L)) → m < length nodes → StandsAt grid known m node → AllStand grid known nodes → AllStand grid known (set nodes m node)
-set_stand grid known nodes m node within here stand = set_each (StandsAt grid known) nodes m node within here stand
+pub set_stand : {L : Type 0} (grid : List ℕ) (known : Option Mark) (purpose : Purpose) (nodes : List (Option (NodeState FolderState L))) (m : ℕ) (node : Option (NodeState FolderState L)) → m < length nodes → StandsAt grid known purpose m node → AllStand grid known purpose nodes → AllStand grid known purpose (set nodes m node)
+set_stand grid known purpose nodes m node within here stand = set_each (StandsAt grid known purpose) nodes m node within here stand
 
 -- ---- servers elsewhere
 
@@ -67,6 +68,6 @@ set_apart {N} {M} here old padded m one same within free apart =
 
 -- ---- both
 
-pub opened : {S : Type 0} (grid : List ℕ) (known : Option Mark) (nodes : List (Option (NodeState FolderState (GridLink (SocketPair S))))) (remotes : List (Option (RemoteState (Nonblocking Socket)))) (g : FolderGridState S)
-    → g ≡ record { here = record { nodes = nodes; clock = 0 }; remotes = remotes } → IfSome known IsGrids → AllStand grid known nodes → AllElsewhere known remotes → AreApart nodes remotes → AreOpened grid g
-opened grid known nodes remotes g e marked own elsewhere apart = subst (AreOpened grid) (sym e) (record { known = known; marked = marked; own = own; elsewhere = elsewhere; apart = apart; second = refl })
+pub opened : {S : Type 0} (grid : List ℕ) (known : Option Mark) (purpose : Purpose) (nodes : List (Option (NodeState FolderState (GridLink (SocketPair S))))) (remotes : List (Option (RemoteState (Nonblocking Socket)))) (g : FolderGridState S)
+    → g ≡ record { here = record { nodes = nodes; clock = 0 }; remotes = remotes } → IfSome known IsGrids → AllStand grid known purpose nodes → AllElsewhere known remotes → AreApart nodes remotes → AreOpened grid purpose g
+opened grid known purpose nodes remotes g e marked own elsewhere apart = subst (AreOpened grid purpose) (sym e) (record { known = known; marked = marked; own = own; elsewhere = elsewhere; apart = apart; second = refl })

@@ -2,6 +2,7 @@
 
 ghost use Rattle.std.specs.Prelude.{◌≡◌, ◌<◌, ℕ, [], None, get_or, length, IfOk, IfSome, OnOk};
 ghost use Rattle.std.specs.Prelude.{IsTrue, Some};
+ghost use Rattle.share_folders.specs.Folder.{durability_of};
 ghost use Rattle.share_folders.specs.Names.{in_folder};
 ghost use Rattle.grid_faults.specs.Servers.{server_name};
 ghost use Rattle.grid_servers.specs.Opened.{AllStand, AreOpened, IsNumberOf, StandsAt};
@@ -55,7 +56,7 @@ pub fn open_servers<R>(
 ) -> Result<FolderGrid<R>, Fault>
 where
     R: Files + Net + Clock + RandomSource + AllocGlobal + Clone + Drop,
-    ensures { IfOk result (AreOpened grid.now) }
+    ensures { IfOk result (AreOpened grid.now purpose) }
 {
     let opening = Opening {
         grid,
@@ -85,7 +86,8 @@ fn open_here<R>(
 ) -> Result<Vec<Option<ServerNode<R>>>, Fault>
 where
     R: Files + Net + RandomSource + AllocGlobal + Clone + Drop,
-    ensures { IfOk result (λ nodes. AllStand opening.now.grid.now opening.now.known nodes.items) }
+    ensures { IfOk result (λ nodes. AllStand opening.now.grid.now opening.now.known
+        opening.now.purpose nodes.items) }
 {
     let links = open_links(rt, servers.len(), over_sockets)?;
     name_folders(rt, opening, servers)?;
@@ -155,7 +157,8 @@ fn open_nodes<R>(
 ) -> Result<Vec<Option<ServerNode<R>>>, Fault>
 where
     R: Files + Net + RandomSource + AllocGlobal + Clone + Drop,
-    ensures { IfOk result (λ nodes. AllStand opening.now.grid.now opening.now.known nodes.items) }
+    ensures { IfOk result (λ nodes. AllStand opening.now.grid.now opening.now.known
+        opening.now.purpose nodes.items) }
 {
     let mut nodes = Vec::new(rt.alloc());
     for (server, link) in servers.iter().zip(links) {
@@ -175,8 +178,10 @@ fn add_node<R>(
 ) -> Result<(), Fault>
 where
     R: Files + Net + RandomSource + AllocGlobal + Clone + Drop,
-    requires { AllStand opening.now.grid.now opening.now.known nodes.old.items }
-    ensures { OnOk result (AllStand opening.now.grid.now opening.now.known nodes.new.items) }
+    requires { AllStand opening.now.grid.now opening.now.known opening.now.purpose
+        nodes.old.items }
+    ensures { OnOk result (AllStand opening.now.grid.now opening.now.known opening.now.purpose
+        nodes.new.items) }
 {
     make_room(nodes, server)?;
     if let Some(opened) = open_server(rt, opening, server)? {
@@ -196,9 +201,12 @@ fn set_node<R>(
 where
     R: Files + Net + RandomSource + AllocGlobal + Clone + Drop,
     requires room { server < length nodes.old.items }
-    requires here { StandsAt opening.now.grid.now opening.now.known server (Some node) }
-    requires others { AllStand opening.now.grid.now opening.now.known nodes.old.items }
-    ensures { AllStand opening.now.grid.now opening.now.known nodes.new.items }
+    requires here { StandsAt opening.now.grid.now opening.now.known opening.now.purpose server
+        (Some node) }
+    requires others { AllStand opening.now.grid.now opening.now.known opening.now.purpose
+        nodes.old.items }
+    ensures { AllStand opening.now.grid.now opening.now.known opening.now.purpose
+        nodes.new.items }
 {
     nodes[usize::from(server)] = Some(node);
 }
@@ -229,8 +237,9 @@ fn open_server<R>(
 where
     R: Files + RandomSource + AllocGlobal + Clone + Drop,
     ensures { IfOk result (λ opened. IfSome opened (λ s. (s.store.folder
-        ≡ in_folder opening.now.grid.now (server_name server)) × (s.buckets ≡ [])
-        × IsNumberOf opening.now.known server)) }
+        ≡ in_folder opening.now.grid.now (server_name server))
+        × (s.store.durability ≡ durability_of opening.now.purpose)
+        × (s.buckets ≡ []) × IsNumberOf opening.now.known server)) }
 {
     if !is_own(rt, opening, server)? {
         return Ok(None);

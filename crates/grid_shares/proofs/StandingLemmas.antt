@@ -7,7 +7,7 @@ use Rattle.local_grid.specs.Outside.{OutsideCalls}
 use Rattle.local_grid.specs.OutsideTurns.{LoopState, Turns}
 use Rattle.local_grid.specs.OutsideTurns as turns
 use Rattle.grid_servers.specs.Grids.{FolderGridState, GridCalls}
-use Rattle.grid_servers.specs.Opened.{AreOpened}
+use Rattle.grid_servers.specs.Opened.{AreWritable}
 use Rattle.grid_shares.specs.Standing.{GoesOn, Standing, WereOpened}
 
 module _ {G : Type 0} (calls : OutsideCalls G) where
@@ -29,7 +29,7 @@ module _ {G : Type 0} (calls : OutsideCalls G) where
 
 module _ {S : Type 0} (calls : GridCalls S) where
   -- just opened
-  pub opened_now : (grid : List ℕ) (g : FolderGridState S) → AreOpened grid g → WereOpened calls grid g
+  pub opened_now : (grid : List ℕ) (g : FolderGridState S) → AreWritable grid g → WereOpened calls grid g
   opened_now grid g is = record { first = g; opened = is; states = []; course = refl }
 
   -- the same grid

@@ -9,7 +9,7 @@ use Rattle.carried_operations.specs.declared.range.SharePlace.{SharePlace}
 use Rattle.carried_operations.specs.Stored.{IsStored}
 use Rattle.grid_faults.specs.Servers.{server_of}
 use Rattle.grid_servers.specs.Grids.{FolderGridState, GridCalls}
-use Rattle.grid_servers.specs.Opened.{AreOpened, at_once}
+use Rattle.grid_servers.specs.Opened.{AreWritable, at_once}
 use Rattle.grid_servers.specs.Servers.{servers_without}
 use Rattle.grid_shares.specs.declared.placing.Stored.{Stored}
 use Rattle.grid_shares.specs.Standing.{WereOpened}
@@ -43,7 +43,7 @@ pub record ArePlaced {P S : Type 0} (operation : OperationCalls (Uploading P))
   pub none : stored.is_cleared ≡ (length stuck == 0)
   pub before : FolderGridState S
   pub opened : WereOpened calls grid before
-  pub anew : (kept && still) ≡ false → AreOpened grid before
+  pub anew : (kept && still) ≡ false → AreWritable grid before
   pub session : ℕ
   pub uploaded : AreUploaded operation calls before session (servers_without servers stuck) made
       stored.happiness

@@ -7,7 +7,7 @@ use Rattle.local_grid.specs.Turns.{Asks, Course, GridState, passed}
 use Rattle.local_grid.specs.Outside.{OutsideCalls}
 use Rattle.local_grid.specs.declared.outside.Happening.{Happening}
 use Rattle.grid_servers.specs.Grids.{FolderGridState, GridCalls}
-use Rattle.grid_servers.specs.Opened.{AreOpened}
+use Rattle.grid_servers.specs.Opened.{AreWritable}
 
 -- the servers, and the session of the next upload
 pub record Standing (G : Type 0) : Type 0 where
@@ -21,13 +21,13 @@ GoesOn calls old new = ((server : ℕ) × (m : Message) × (answer : Option Mess
     × calls.handed old server m answer new)
     ⊎ ((happening : Happening) × calls.happened old happening new)
 
--- The servers of a grid were opened, each over its own folder or elsewhere, and since then nothing
--- came to them but messages that were handed to them, one after another, and what happened in
--- between: messages of theirs, and seconds.
+-- The servers of a grid were opened for writing, each over its own folder or elsewhere, and since
+-- then nothing came to them but messages that were handed to them, one after another, and what
+-- happened in between: messages of theirs, and seconds.
 pub record WereOpened {S : Type 0} (calls : GridCalls S) (grid : List ℕ)
     (now : FolderGridState S) : Type 0 where
   pub first : FolderGridState S
-  pub opened : AreOpened grid first
+  pub opened : AreWritable grid first
   pub states : List (FolderGridState S)
   pub course : Course (GoesOn calls) first states now
 

@@ -9,7 +9,7 @@ ghost use Rattle.upload_core.specs.Moves.{Begins};
 ghost use Rattle.upload_core.specs.State.{with_ahead};
 ghost use Rattle.grid_servers.specs.Grids.{grid_calls};
 ghost use Rattle.upload_core.specs.Calls.{upload_calls};
-ghost use Rattle.grid_servers.specs.Opened.{AreOpened, at_once};
+ghost use Rattle.grid_servers.specs.Opened.{AreOpenedToWrite, at_once};
 ghost use Rattle.grid_shares.specs.Placing.{ArePlaced, AreUploaded};
 ghost use Rattle.grid_shares.specs.Puts.{stored_status};
 ghost use Rattle.grid_shares.specs.Standing.{WereOpened};
@@ -160,7 +160,7 @@ where
     ensures opened { IfOk result (λ g. WereOpened (grid_calls R.Stream.contents R.Stream.remaining)
         placing.now.grid.now g.grid) }
     ensures anew { (is_some held && clearance.is_still) ≡ false
-        → IfOk result (λ g. AreOpened placing.now.grid.now g.grid) }
+        → IfOk result (λ g. AreOpenedToWrite placing.now.grid.now placing.now.durability g.grid) }
 {
     match still_fitting(held, &clearance) {
         Some(standing) => Ok(standing),

@@ -1,7 +1,7 @@
 //! The servers of a grid that stay open from one upload to the next.
 
 ghost use Rattle.std.specs.Prelude.{◌≡◌, IfOk, IfSome, true};
-ghost use Rattle.grid_servers.specs.Opened.{AreOpened};
+ghost use Rattle.grid_servers.specs.Opened.{AreOpenedToWrite};
 
 use crate::mending::Clearance;
 use crate::placing::Placing;
@@ -49,7 +49,8 @@ where
         servers: &[NodeId],
         clear: Vec<NodeId>,
     ) -> Result<OpenGrid<R>, Fault>
-        ensures { IfOk result (λ g. AreOpened placing.now.grid.now g.grid) }
+        ensures { IfOk result (λ g. AreOpenedToWrite placing.now.grid.now placing.now.durability
+            g.grid) }
     {
         let purpose = Purpose::Writing(placing.durability);
         let nodes = open_servers(rt, placing.grid, servers, purpose, placing.net)?;

@@ -15,4 +15,4 @@ pub returns-in-Some-clause-anew : goal.returns-in-Some-clause-anew
 returns-in-Some-clause-anew g c = λ touched. absurd (true≢false (sym (and_from _ _ (ap is_some c.in-Some.ensures.held) c.in-Some.ensures.still) ∙ touched))
 
 pub returns-in-None-clause-opened : goal.returns-in-None-clause-opened
-returns-in-None-clause-opened g c = IfOk-weaker c.open.result _ _ (λ s is. opened_now _ c.args.placing.now.grid.now s.grid is) c.open.ensures
+returns-in-None-clause-opened g c = IfOk-weaker c.open.result _ _ (λ s is. opened_now _ c.args.placing.now.grid.now s.grid (c.args.placing.now.durability, is)) c.open.ensures
