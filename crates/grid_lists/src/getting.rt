@@ -1,7 +1,7 @@
 //! `grid get` of the files of a catalogue.
 
-ghost use Rattle.std.specs.Prelude.{◌≡◌, ◌==◌, ◌⊎◌, ◌&&◌, ◌||◌, IfErr, IfOk, IfSome, OnErr, OnOk};
-ghost use Rattle.std.specs.Prelude.{if◌then◌else◌, is_some, length, not, unwrap_or};
+ghost use Rattle.std.specs.Prelude.{◌≡◌, ◌==◌, ◌⊎◌, ◌<◌, ◌&&◌, ◌||◌, IfErr, IfOk, IfSome, IsOk};
+ghost use Rattle.std.specs.Prelude.{OnErr, OnOk, if◌then◌else◌, is_some, length, not, unwrap_or};
 ghost use Rattle.grid_faults.specs.declared.fault.Fault.TheVariants.{OutOfMemory};
 ghost use Rattle.grid_gets.specs.Gets.{WereRead};
 ghost use Rattle.grid_lists.specs.GetEnds.{CameOf, CameOfChosen, IsWritten, MayBeWritten};
@@ -77,6 +77,7 @@ where
 pub fn find_grid<R>(rt: &R, grid: &str, is_known: bool) -> Result<(), Fault>
 where
     R: Files + AllocGlobal + Clone + Drop,
+    ensures named { IsOk result → 0 < length grid.now }
 {
     is_grid(rt, grid)?;
     if is_known {

@@ -1,6 +1,6 @@
 //! The names of a list of files.
 
-ghost use Rattle.std.specs.Prelude.{◌≡◌, ◌==◌, IfOk, map};
+ghost use Rattle.std.specs.Prelude.{◌≡◌, ◌≤◌, ◌*◌, ◌^◌, ◌==◌, IfOk, length, map};
 ghost use Rattle.std.specs.List.{slice_split};
 ghost use Rattle.grid_lists.specs.Names.{names_in};
 
@@ -42,6 +42,7 @@ where
 pub fn read_text<R>(rt: &R, path: &str, temporary: &str) -> Result<Vec<u8>, Fault>
 where
     R: Files + io::Input + RandomSource + AllocGlobal,
+    ensures few { IfOk result (λ text. length text.items ≤ 64 * 2 ^ 20) }
 {
     match open_input(rt, path, temporary, MOST_LIST)? {
         Input::Held(text) => Ok(text),
