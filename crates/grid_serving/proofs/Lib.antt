@@ -1,3 +1,4 @@
 pub mod Steps
 pub mod InTurn
 pub mod Owners
+pub mod Looping

@@ -23,6 +23,7 @@ use Rattle.connections.specs.Wires.{WireCalls}
 use Rattle.connections.specs.declared.fault.ConnectionFault.{ConnectionFault}
 use Rattle.grid_serving.specs.declared.client.TurnFault.{TurnFault}
 use Rattle.grid_serving.specs.declared.client.TurnFault.TheVariants as why
+use Rattle.grid_serving.specs.Places.{ClientState}
 use Rattle.grid_serving.specs.Owners.{AreTheirs, IsThere, StayTheirs}
 use Rattle.grid_serving.specs.Turns as turns
 use Rattle.grid_serving.specs.Turns.{BreaksOff, FailsInTurn, IsCutOff, IsUnanswered, LeaveInTurn, LeavesAt, ServesAll, ServesAt, ServesInTurn, Serving, TurnsTo}
@@ -255,50 +256,52 @@ another client b other same =
 
 module _ {W S : Type 0} (wires : WireCalls W) (calls : Calls S) where
   -- A client is gone, and so are its buckets.
-  theirs_without : (clients : List (Option (ConnectionState W))) (node : ℕ) (s after : ServerState S) → LetsGoOfEnded calls (without_client node s) after → AreTheirs clients s.buckets → AreTheirs (slice_set clients node None) after.buckets
+  theirs_without : (clients : List (Option (ClientState W))) (node : ℕ) (s after : ServerState S) → LetsGoOfEnded calls (without_client node s) after → AreTheirs clients s.buckets → AreTheirs (slice_set clients node None) after.buckets
   theirs_without clients node s after goes theirs =
       each_same (At (slice_set clients node None)) (without_client node s).buckets after.buckets goes.buckets
       (each_left (At clients) (At (slice_set clients node None)) (is_of_another node) s.buckets (λ b other there. there_still clients node b.client None (another node b other) there) theirs)
 
-  theirs_cut_off : (clients : List (Option (ConnectionState W))) (node now : ℕ) (fault : TurnFault) (old : ConnectionState W) (before after : ServerState S) → slice_get clients node ≡ Some (Some old) → IsCutOff wires calls node now fault old before after
+  theirs_cut_off : (clients : List (Option (ClientState W))) (node now : ℕ) (fault : TurnFault) (old : ClientState W) (before after : ServerState S) → slice_get clients node ≡ Some (Some old) → IsCutOff wires calls node now fault old before after
       → AreTheirs clients before.buckets → AreTheirs (slice_set clients node None) after.buckets
   theirs_cut_off clients node now fault old before after at cut theirs =
       theirs_without clients node cut.mid after cut.lets_go
-      (each_broken wires calls (At clients) node now fault old before cut.mid cut.turn (subst IsThere (sym at) tt) theirs)
+      (each_broken wires calls (At clients) node now fault old.connection before cut.mid cut.turn (subst IsThere (sym at) tt) theirs)
 
-  theirs_turn : (clients : List (Option (ConnectionState W))) (node now : ℕ) (was next : Option (ConnectionState W)) (before after : ServerState S) → slice_get clients node ≡ Some was → TurnsTo wires calls node now was before next after
+  theirs_turn : (clients : List (Option (ClientState W))) (node now : ℕ) (was next : Option (ClientState W)) (before after : ServerState S) → slice_get clients node ≡ Some was → TurnsTo wires calls node now was before next after
       → AreTheirs clients before.buckets → AreTheirs (slice_set clients node next) after.buckets
   theirs_turn clients node now None next before after at turn theirs =
-      subst (λ (o : Option (ConnectionState W)). AreTheirs (slice_set clients node o) after.buckets) (sym turn.0)
+      subst (λ (o : Option (ClientState W)). AreTheirs (slice_set clients node o) after.buckets) (sym turn.0)
       (subst (λ (s : ServerState S). AreTheirs (slice_set clients node None) s.buckets) (sym turn.1)
       (each_weaker (At clients) (At (slice_set clients node None)) before.buckets (λ n there. there_unset clients node n at there) theirs))
   theirs_turn clients node now (Some old) (Some new) before after at turn theirs =
       each_same (At (slice_set clients node (Some new))) turn.0.buckets after.buckets turn.2.buckets
       (each_weaker (At clients) (At (slice_set clients node (Some new))) turn.0.buckets (λ n there. there_set clients node n (Some old) new at there)
-      (each_turn wires calls (At clients) node now old new before turn.0 turn.1 (subst IsThere (sym at) tt) theirs))
+      (each_turn wires calls (At clients) node now old.connection new.connection before turn.0 turn.1.serving (subst IsThere (sym at) tt) theirs))
   theirs_turn clients node now (Some old) None before after at turn theirs = theirs_cut_off clients node now (why.Ended turn.0) old before after at turn.1 theirs
 
-  theirs_at : (node now : ℕ) (old new : List (Option (ConnectionState W))) (before after : ServerState S) → ServesAt wires calls node now old before new after → AreTheirs old before.buckets → AreTheirs new after.buckets
+  theirs_at : (node now : ℕ) (old new : List (Option (ClientState W))) (before after : ServerState S) → ServesAt wires calls node now old before new after → AreTheirs old before.buckets → AreTheirs new after.buckets
   theirs_at node now old new before after one theirs =
-      subst (λ (cs : List (Option (ConnectionState W))). AreTheirs cs after.buckets) (sym one.others) (theirs_turn old node now one.was one.next before after one.here one.turn theirs)
+      subst (λ (cs : List (Option (ClientState W))). AreTheirs cs after.buckets) (sym one.others) (theirs_turn old node now one.was one.next before after one.here one.turn theirs)
 
-  theirs_served : (nodes : List ℕ) (now : ℕ) (old new : List (Option (ConnectionState W))) (before after : ServerState S) → ServesInTurn wires calls nodes now old before new after → AreTheirs old before.buckets → AreTheirs new after.buckets
+  theirs_served : (nodes : List ℕ) (now : ℕ) (old new : List (Option (ClientState W))) (before after : ServerState S) → ServesInTurn wires calls nodes now old before new after → AreTheirs old before.buckets → AreTheirs new after.buckets
   theirs_served [] now old new before after same theirs =
-      subst (λ (cs : List (Option (ConnectionState W))). AreTheirs cs after.buckets) (sym same.0) (subst (λ (s : ServerState S). AreTheirs old s.buckets) (sym same.1) theirs)
+      subst (λ (cs : List (Option (ClientState W))). AreTheirs cs after.buckets) (sym same.0) (subst (λ (s : ServerState S). AreTheirs old s.buckets) (sym same.1) theirs)
   theirs_served (node ∷ nodes) now old new before after all theirs =
       theirs_served nodes now all.0 new all.1.0 after all.1.2 (theirs_at node now old all.0 before all.1.0 all.1.1 theirs)
 
-  theirs_failed : (now : ℕ) (old new : List (Option (ConnectionState W))) (before after : ServerState S) → FailsInTurn wires calls now old before new after → AreTheirs old before.buckets → AreTheirs new after.buckets
-  theirs_failed now old new before after f theirs =
-      subst (λ (cs : List (Option (ConnectionState W))). AreTheirs cs after.buckets) (sym f.fails.others)
-      (theirs_cut_off f.next f.node now why.OutOfMemory f.fails.was f.mid after f.fails.here f.fails.turn (theirs_served f.nodes now old f.next before f.mid f.served theirs))
+  theirs_failed : (nodes : List ℕ) (now : ℕ) (old new : List (Option (ClientState W))) (before after : ServerState S) → FailsInTurn wires calls nodes now old before new after → AreTheirs old before.buckets → AreTheirs new after.buckets
+  theirs_failed [] now old new before after f theirs = absurd f
+  theirs_failed (node ∷ nodes) now old new before after (inl one) theirs =
+      subst (λ (cs : List (Option (ClientState W))). AreTheirs cs after.buckets) (sym one.others) (theirs_cut_off old node now why.OutOfMemory one.was before after one.here one.turn theirs)
+  theirs_failed (node ∷ nodes) now old new before after (inr then) theirs =
+      theirs_failed nodes now then.0 new then.1.0 after then.1.2 (theirs_at node now old then.0 before then.1.0 then.1.1 theirs)
 
-  theirs_left : (nodes : List ℕ) (old new : List (Option (ConnectionState W))) (before after : ServerState S) → LeaveInTurn calls nodes old before new after → AreTheirs old before.buckets → AreTheirs new after.buckets
+  theirs_left : (nodes : List ℕ) (old new : List (Option (ClientState W))) (before after : ServerState S) → LeaveInTurn calls nodes old before new after → AreTheirs old before.buckets → AreTheirs new after.buckets
   theirs_left [] old new before after same theirs =
-      subst (λ (cs : List (Option (ConnectionState W))). AreTheirs cs after.buckets) (sym same.0) (subst (λ (s : ServerState S). AreTheirs old s.buckets) (sym same.1) theirs)
+      subst (λ (cs : List (Option (ClientState W))). AreTheirs cs after.buckets) (sym same.0) (subst (λ (s : ServerState S). AreTheirs old s.buckets) (sym same.1) theirs)
   theirs_left (node ∷ nodes) old new before after all theirs =
       theirs_left nodes all.0 new all.1.0 after all.1.2
-      (subst (λ (cs : List (Option (ConnectionState W))). AreTheirs cs all.1.0.buckets) (sym all.1.1.others) (theirs_without old node before all.1.0 all.1.1.server theirs))
+      (subst (λ (cs : List (Option (ClientState W))). AreTheirs cs all.1.0.buckets) (sym all.1.1.others) (theirs_without old node before all.1.0 all.1.1.server theirs))
 
   pub stay_theirs : StayTheirs wires calls
   stay_theirs = record {

@@ -1,6 +1,6 @@
 -- The turns of clients: whom the server answers, and to whom the answers go.
-use Rattle.std.specs.Prelude.{◌≡◌, ◌⊎◌, ⊤, ℕ, List, [], ◌∷◌, Option, Some, None, Ok, Err}
-use Rattle.std.specs.Prelude.{slice_get, slice_set}
+use Rattle.std.specs.Prelude.{◌≡◌, ◌⊎◌, ⊤, ℕ, Bool, true, false, List, [], ◌∷◌, Option, Some}
+use Rattle.std.specs.Prelude.{None, Ok, Err, if◌then◌else◌, option_map, slice_get, slice_set}
 use Rattle.wire.specs.declared.message.Message.{Message}
 use Rattle.share_store.specs.Calls.{Calls}
 use Rattle.server_core.specs.declared.error.ServerFault.TheVariants.{OutOfMemory, StoreFault}
@@ -9,7 +9,9 @@ use Rattle.server_core.specs.ServerState.{without_client}
 use Rattle.connections.specs.declared.fault.ConnectionFault.{ConnectionFault}
 use Rattle.connections.specs.Wires.{WireCalls}
 use Rattle.connections.specs.Connections.{ConnectionState, Gives}
-use Rattle.connections.specs.Courses.{Course, Event, given, queued}
+use Rattle.connections.specs.Courses.{Course, Event, bytes_come, bytes_go, given, is_given}
+use Rattle.connections.specs.Courses.{is_queued, queued}
+use Rattle.grid_serving.specs.Places.{ClientState, holds_at, is_greeting, woken}
 use Rattle.grid_serving.specs.declared.client.TurnFault.{TurnFault}
 use Rattle.grid_serving.specs.declared.client.TurnFault.TheVariants as why
 
@@ -51,6 +53,28 @@ pub record Serving {W S : Type 0} (wires : WireCalls W) (calls : Calls S) (node 
   pub serves : ServesAll calls node now before (given events) outcomes after
   pub answers : queued events ≡ answers_of outcomes
 
+-- a byte came or went
+abbrev pub is_moved : List Event → Bool
+is_moved [] = false
+is_moved (bytes_come [] ∷ events) = is_moved events
+is_moved (bytes_come (byte ∷ bytes) ∷ events) = true
+is_moved (bytes_go [] ∷ events) = is_moved events
+is_moved (bytes_go (byte ∷ bytes) ∷ events) = true
+is_moved (is_given m ∷ events) = is_moved events
+is_moved (is_queued m ∷ events) = is_moved events
+
+-- the second at which bytes came or went last
+abbrev pub moved_after : ℕ → List Event → ℕ → ℕ
+moved_after now events before = if is_moved events then now else before
+
+-- The turn of a client, where it does not break off.
+pub record HasTurn {W S : Type 0} (wires : WireCalls W) (calls : Calls S) (node now : ℕ)
+    (old : ClientState W) (before : ServerState S) (new : ClientState W)
+    (after : ServerState S) : Type 0 where
+  pub serving : Serving wires calls node now old.connection before new.connection after
+  pub came : new.came ≡ old.came
+  pub moved : new.moved ≡ moved_after now serving.events old.moved
+
 -- What came of the last message, where a turn breaks off: for want of memory alone the program
 -- ends.
 abbrev pub IsLast : TurnFault → Outcome → Type 0
@@ -89,86 +113,105 @@ pub record BreaksOff {W S : Type 0} (wires : WireCalls W) (calls : Calls S) (nod
 -- The turn of a client breaks off. It is gone, and its buckets end. Then the store lets go of
 -- shares that have none.
 pub record IsCutOff {W S : Type 0} (wires : WireCalls W) (calls : Calls S) (node now : ℕ)
-    (fault : TurnFault) (old : ConnectionState W) (before : ServerState S)
+    (fault : TurnFault) (old : ClientState W) (before : ServerState S)
     (after : ServerState S) : Type 0 where
   pub mid : ServerState S
-  pub turn : BreaksOff wires calls node now fault old before mid
+  pub turn : BreaksOff wires calls node now fault old.connection before mid
   pub lets_go : LetsGoOfEnded calls (without_client node mid) after
 
 -- What becomes of the client at a place, and of the server, in its turn. Where its connection ends
 -- it is gone.
-abbrev pub TurnsTo : {W S : Type 0} → WireCalls W → Calls S → ℕ → ℕ
-    → Option (ConnectionState W) → ServerState S → Option (ConnectionState W) → ServerState S
-    → Type 0
+abbrev pub TurnsTo : {W S : Type 0} → WireCalls W → Calls S → ℕ → ℕ → Option (ClientState W)
+    → ServerState S → Option (ClientState W) → ServerState S → Type 0
 TurnsTo wires calls node now None before new after = (new ≡ None) × (after ≡ before)
 TurnsTo {S = S} wires calls node now (Some old) before (Some new) after =
-    (mid : ServerState S) × Serving wires calls node now old before new mid
+    (mid : ServerState S) × HasTurn wires calls node now old before new mid
     × LetsGoOfEnded calls mid after
 TurnsTo wires calls node now (Some old) before None after =
     (fault : ConnectionFault) × IsCutOff wires calls node now (why.Ended fault) old before after
 
 -- The client at a place is cut off by a fault, and nobody is there.
 abbrev pub IsCutOffAt : {W S : Type 0} → WireCalls W → Calls S → ℕ → ℕ → TurnFault
-    → Option (ConnectionState W) → ServerState S → Option (ConnectionState W) → ServerState S
-    → Type 0
+    → Option (ClientState W) → ServerState S → Option (ClientState W) → ServerState S → Type 0
 IsCutOffAt wires calls node now fault (Some old) before None after =
     IsCutOff wires calls node now fault old before after
 IsCutOffAt wires calls node now fault was before next after = ⊥
 
 -- The client at a place has its turn. Those at the others are as they were.
 pub record ServesAt {W S : Type 0} (wires : WireCalls W) (calls : Calls S) (node now : ℕ)
-    (old : List (Option (ConnectionState W))) (before : ServerState S)
-    (new : List (Option (ConnectionState W))) (after : ServerState S) : Type 0 where
-  pub was : Option (ConnectionState W)
+    (old : List (Option (ClientState W))) (before : ServerState S)
+    (new : List (Option (ClientState W))) (after : ServerState S) : Type 0 where
+  pub was : Option (ClientState W)
   pub here : slice_get old node ≡ Some was
-  pub next : Option (ConnectionState W)
+  pub next : Option (ClientState W)
   pub turn : TurnsTo wires calls node now was before next after
   pub others : new ≡ slice_set old node next
 
 -- The server had not enough memory for a message of the client at a place.
 pub record FailsAt {W S : Type 0} (wires : WireCalls W) (calls : Calls S) (node now : ℕ)
-    (old : List (Option (ConnectionState W))) (before : ServerState S)
-    (new : List (Option (ConnectionState W))) (after : ServerState S) : Type 0 where
-  pub was : ConnectionState W
+    (old : List (Option (ClientState W))) (before : ServerState S)
+    (new : List (Option (ClientState W))) (after : ServerState S) : Type 0 where
+  pub was : ClientState W
   pub here : slice_get old node ≡ Some (Some was)
   pub turn : IsCutOff wires calls node now why.OutOfMemory was before after
   pub others : new ≡ slice_set old node None
 
 -- These clients have their turns, one after the other.
 abbrev pub ServesInTurn : {W S : Type 0} → WireCalls W → Calls S → List ℕ → ℕ
-    → List (Option (ConnectionState W)) → ServerState S → List (Option (ConnectionState W))
+    → List (Option (ClientState W)) → ServerState S → List (Option (ClientState W))
     → ServerState S → Type 0
 ServesInTurn wires calls [] now old before new after = (new ≡ old) × (after ≡ before)
 ServesInTurn {W} {S} wires calls (node ∷ nodes) now old before new after =
-    (next : List (Option (ConnectionState W))) × ((mid : ServerState S)
+    (next : List (Option (ClientState W))) × ((mid : ServerState S)
     × ServesAt wires calls node now old before next mid
     × ServesInTurn wires calls nodes now next mid new after)
 
--- These clients have their turns, until there is not enough memory for a message of one.
-pub record FailsInTurn {W S : Type 0} (wires : WireCalls W) (calls : Calls S) (now : ℕ)
-    (old : List (Option (ConnectionState W))) (before : ServerState S)
-    (new : List (Option (ConnectionState W))) (after : ServerState S) : Type 0 where
-  pub nodes : List ℕ
-  pub next : List (Option (ConnectionState W))
-  pub mid : ServerState S
-  pub served : ServesInTurn wires calls nodes now old before next mid
-  pub node : ℕ
-  pub fails : FailsAt wires calls node now next mid new after
+-- They have their turns, until there is not enough memory for a message of one.
+abbrev pub FailsInTurn : {W S : Type 0} → WireCalls W → Calls S → List ℕ → ℕ
+    → List (Option (ClientState W)) → ServerState S → List (Option (ClientState W))
+    → ServerState S → Type 0
+FailsInTurn wires calls [] now old before new after = ⊥
+FailsInTurn {W} {S} wires calls (node ∷ nodes) now old before new after =
+    FailsAt wires calls node now old before new after
+    ⊎ ((next : List (Option (ClientState W))) × ((mid : ServerState S)
+    × ServesAt wires calls node now old before next mid
+    × FailsInTurn wires calls nodes now next mid new after))
 
 -- The client at a place is gone, and its buckets end.
 pub record LeavesAt {W S : Type 0} (calls : Calls S) (node : ℕ)
-    (old : List (Option (ConnectionState W))) (before : ServerState S)
-    (new : List (Option (ConnectionState W))) (after : ServerState S) : Type 0 where
+    (old : List (Option (ClientState W))) (before : ServerState S)
+    (new : List (Option (ClientState W))) (after : ServerState S) : Type 0 where
   pub others : new ≡ slice_set old node None
   pub server : LetsGoOfEnded calls (without_client node before) after
 
 -- These clients are gone, one after the other.
-abbrev pub LeaveInTurn : {W S : Type 0} → Calls S → List ℕ → List (Option (ConnectionState W))
-    → ServerState S → List (Option (ConnectionState W)) → ServerState S → Type 0
+abbrev pub LeaveInTurn : {W S : Type 0} → Calls S → List ℕ → List (Option (ClientState W))
+    → ServerState S → List (Option (ClientState W)) → ServerState S → Type 0
 LeaveInTurn calls [] old before new after = (new ≡ old) × (after ≡ before)
 LeaveInTurn {W} {S} calls (node ∷ nodes) old before new after =
-    (next : List (Option (ConnectionState W))) × ((mid : ServerState S)
+    (next : List (Option (ClientState W))) × ((mid : ServerState S)
     × LeavesAt calls node old before next mid × LeaveInTurn calls nodes next mid new after)
+
+-- Room is made where somebody has not greeted: one of those is gone.
+abbrev pub MakesRoom : {W S : Type 0} → Calls S → List (Option (ClientState W)) → ServerState S
+    → List (Option (ClientState W)) → ServerState S → Type 0
+MakesRoom calls old before new after =
+    ((new ≡ old) × (after ≡ before))
+    ⊎ ((node : ℕ) × (holds_at is_greeting old node ≡ true)
+    × LeavesAt calls node old before new after)
+
+-- There may be something to do for the client at a place, if one is there.
+pub record WakesAt {W : Type 0} (node : ℕ) (old new : List (Option (ClientState W))) : Type 0 where
+  pub was : Option (ClientState W)
+  pub here : slice_get old node ≡ Some was
+  pub others : new ≡ slice_set old node (option_map woken was)
+
+-- So it is with these clients, one after the other.
+abbrev pub WakeInTurn : {W : Type 0} → List ℕ → List (Option (ClientState W))
+    → List (Option (ClientState W)) → Type 0
+WakeInTurn [] old new = new ≡ old
+WakeInTurn {W} (node ∷ nodes) old new =
+    (next : List (Option (ClientState W))) × WakesAt node old next × WakeInTurn nodes next new
 
 -- ---- words of private clauses
 
@@ -178,6 +221,13 @@ pub record Moves {W : Type 0} (wires : WireCalls W) (old new : ConnectionState W
   pub course : Course wires old events new
   pub none_given : given events ≡ []
   pub none_queued : queued events ≡ []
+
+-- So it is at a client. When it came stays, and bytes that came or went did so now.
+pub record MovesNow {W : Type 0} (wires : WireCalls W) (now : ℕ) (old new : ClientState W)
+    : Type 0 where
+  pub moves : Moves wires old.connection new.connection
+  pub came : new.came ≡ old.came
+  pub moved : new.moved ≡ moved_after now moves.events old.moved
 
 -- a message was served, and has no answer
 pub record IsServed {S : Type 0} (calls : Calls S) (node now : ℕ) (fault : TurnFault)
@@ -196,4 +246,5 @@ pub record Answers {W S : Type 0} (wires : WireCalls W) (calls : Calls S) (node 
   pub events : List Event
   pub course : Course wires old events new
   pub none_given : given events ≡ []
+  pub none_moved : is_moved events ≡ false
   pub answers : queued events ≡ answers_of (outcome ∷ [])

@@ -1,9 +1,8 @@
 //! A client of a server: its connection, and how long it has been still.
 
-ghost use Rattle.std.specs.Prelude.{◌≡◌, ◌↔◌, ◌<◌, IfErr, IfOk, IsTrue, OnOk, length};
-ghost use Rattle.connections.specs.Connections.{begun};
-ghost use Rattle.connections.specs.declared.connection.Side.{Side};
-ghost use Rattle.grid_serving.specs.Turns.{Answers, BreaksOff, IsServed, Moves, Serving};
+ghost use Rattle.std.specs.Prelude.{◌≡◌, IfErr, IfOk, OnOk};
+ghost use Rattle.grid_serving.specs.Places.{is_greeting, is_late, new_client};
+ghost use Rattle.grid_serving.specs.Turns.{Answers, BreaksOff, HasTurn, IsServed, MovesNow};
 
 use crate::desk::Desk;
 use crate::limits::{GREETING_LIMIT, STEPS, STILL_LIMIT, WAITING_LIMIT};
@@ -47,17 +46,22 @@ pub struct Client<W: Wire> {
 }
 
 impl<W: Wire> Model for Client<W> {
-    ghost use Rattle.connections.specs.Connections.{ConnectionState};
+    ghost use Rattle.grid_serving.specs.Places.{ClientState};
 
-    ghost Value = { ConnectionState W };
+    ghost Value = { ClientState W };
 
-    ghost view = { λ c. c.connection };
+    ghost view = { λ c. record {
+      connection = c.connection;
+      came = c.came;
+      moved = c.moved;
+      is_ready = c.is_ready;
+    } };
 }
 
 impl<W: Wire + Drop> Client<W> {
     /// A client that has just come: the server's greeting waits for it.
     pub fn new(desk: &Desk, wire: W, now: u64) -> Result<Client<W>, AllocError>
-        ensures { IfOk result (λ c. c ≡ begun wire Side.Server desk.now.own) }
+        ensures { IfOk result (λ c. c ≡ new_client wire desk.now.own now) }
     {
         Ok(Client {
             connection: Connection::begin(desk.alloc, wire, Side::Server, &desk.own)?,
@@ -68,26 +72,30 @@ impl<W: Wire + Drop> Client<W> {
     }
 
     /// Whether there may be something to do.
-    pub fn is_ready(&self) -> bool {
+    pub fn is_ready(&self) -> bool
+        ensures { result ≡ self.now.is_ready }
+    {
         self.is_ready
     }
 
     /// There may be something to do, or there is nothing until that is told.
     pub fn set_ready(&mut self, is_ready: bool)
-        ensures { self.new ≡ self.old }
+        ensures { self.new ≡ record self.old { is_ready = is_ready } }
     {
         self.is_ready = is_ready;
     }
 
     /// Whether its greeting is still to come.
     pub fn is_greeting(&self) -> bool
-        ensures { IsTrue result ↔ (length self.now.greeting < 64) }
+        ensures { result ≡ is_greeting self.now }
     {
         self.connection.greeting().len() < 64
     }
 
     /// Whether it has been still for too long, or its greeting takes too long.
-    pub fn is_late(&self, now: u64) -> bool {
+    pub fn is_late(&self, now: u64) -> bool
+        ensures { result ≡ is_late now self.now }
+    {
         if self.is_greeting() && now.saturating_sub(self.came) >= GREETING_LIMIT {
             return true;
         }
@@ -104,9 +112,10 @@ impl<W: Wire + Drop> Client<W> {
         now: u64,
     ) -> Result<(), TurnFault>
         ensures ok { OnOk result
-            (Serving W.calls S.calls node now self.old server.old self.new server.new) }
-        ensures err { IfErr result (λ fault.
-            BreaksOff W.calls S.calls node now fault self.old server.old server.new) }
+            (HasTurn W.calls S.calls node now self.old server.old self.new server.new) }
+        ensures err { IfErr result (λ fault. BreaksOff W.calls S.calls node now fault
+            self.old.connection server.old server.new) }
+        ensures desk { desk.new.own ≡ desk.old.own }
     {
         for _ in 0..STEPS {
             let is_more = self.step(server, desk, node, now)?;
@@ -128,9 +137,10 @@ impl<W: Wire + Drop> Client<W> {
         now: u64,
     ) -> Result<bool, TurnFault>
         ensures ok { OnOk result
-            (Serving W.calls S.calls node now self.old server.old self.new server.new) }
-        ensures err { IfErr result (λ fault.
-            BreaksOff W.calls S.calls node now fault self.old server.old server.new) }
+            (HasTurn W.calls S.calls node now self.old server.old self.new server.new) }
+        ensures err { IfErr result (λ fault. BreaksOff W.calls S.calls node now fault
+            self.old.connection server.old server.new) }
+        ensures desk { desk.new.own ≡ desk.old.own }
     {
         if self.connection.is_full() {
             return Ok(self.send(now)?);
@@ -157,10 +167,12 @@ impl<W: Wire + Drop> Client<W> {
         message: &Message,
         now: u64,
     ) -> Result<(), TurnFault>
-        ensures ok { OnOk result (Answers W.calls S.calls node now message.now self.old server.old
-            self.new server.new) }
+        ensures ok { OnOk result (Answers W.calls S.calls node now message.now self.old.connection
+            server.old self.new.connection server.new) }
+        ensures others { self.new ≡ record self.old { connection = self.new.connection } }
         ensures err { IfErr result (λ fault.
             IsServed S.calls node now fault message.now server.old server.new) }
+        ensures desk { desk.new.own ≡ desk.old.own }
     {
         match server.on_message(node, message, now) {
             Ok(Some(answer)) => match self.connection.queue(&answer, &mut desk.frame) {
@@ -174,12 +186,14 @@ impl<W: Wire + Drop> Client<W> {
 
     // Sends what waits, as far as it goes in one call. Whether there may be more to send at once.
     fn send(&mut self, now: u64) -> Result<bool, ConnectionFault>
-        ensures { OnOk result (Moves W.calls self.old self.new) }
+        ensures { OnOk result (MovesNow W.calls now self.old self.new) }
     {
-        if self.connection.send()? == Sent::Nothing {
-            return Ok(false);
+        match self.connection.send()? {
+            Sent::Nothing => Ok(false),
+            Sent::Bytes => {
+                self.moved = now;
+                Ok(true)
+            }
         }
-        self.moved = now;
-        Ok(true)
     }
 }

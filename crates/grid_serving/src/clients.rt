@@ -1,10 +1,12 @@
 //! The clients of a server, each at a place of its own.
 
-ghost use Rattle.std.specs.Prelude.{◌≡◌, ◌<◌, ℕ, List, None, IfErr, IfOk, IfSome, Some};
-ghost use Rattle.std.specs.Prelude.{OnErr, OnOk, replicate, slice_get, slice_set};
+ghost use Rattle.std.specs.Prelude.{◌≡◌, ◌<◌, None, IfErr, IfOk, IfSome, OnErr, OnOk, Some};
+ghost use Rattle.std.specs.Prelude.{option_map, replicate, slice_get, slice_set, true};
 ghost use Rattle.server_core.specs.ServerState.{LetsGoOfEnded, without_client};
+ghost use Rattle.grid_serving.specs.Places.{holds_at, is_awake, is_greeting, is_late};
+ghost use Rattle.grid_serving.specs.Places.{only_if, places_of, woken};
 ghost use Rattle.grid_serving.specs.Turns.{FailsAt, FailsInTurn, IsCutOffAt, LeaveInTurn, LeavesAt};
-ghost use Rattle.grid_serving.specs.Turns.{ServesAt, ServesInTurn, TurnsTo};
+ghost use Rattle.grid_serving.specs.Turns.{MakesRoom, ServesAt, ServesInTurn, TurnsTo, WakesAt};
 
 use crate::client::{Client, TurnFault};
 use crate::desk::Desk;
@@ -49,9 +51,9 @@ pub struct Clients<W: Wire> {
 
 impl<W: Wire> Model for Clients<W> {
     ghost use Rattle.std.specs.Prelude.{◌≡◌, List, Option, length};
-    ghost use Rattle.connections.specs.Connections.{ConnectionState};
+    ghost use Rattle.grid_serving.specs.Places.{ClientState};
 
-    ghost Value = { List (Option (ConnectionState W)) };
+    ghost Value = { List (Option (ClientState W)) };
 
     ghost view = { λ c. c.places.items };
 
@@ -102,7 +104,7 @@ impl<W: Wire + Drop> Clients<W> {
     /// There may be something to do for the client at a place, if one is there.
     pub fn wake(&mut self, node: NodeId)
         requires { node < 256 }
-        ensures { self.new ≡ self.old }
+        ensures { WakesAt node self.old self.new }
     {
         wake_at(&mut self.places[usize::from(node)]);
     }
@@ -117,11 +119,13 @@ impl<W: Wire + Drop> Clients<W> {
         desk: &mut Desk,
         now: u64,
     ) -> Result<bool, AllocError>
-        ensures ok { OnOk result ((nodes : List ℕ)
-            × ServesInTurn W.calls S.calls nodes now self.old server.old self.new server.new) }
-        ensures err { OnErr result
-            (FailsInTurn W.calls S.calls now self.old server.old self.new server.new) }
+        ensures ok { OnOk result (ServesInTurn W.calls S.calls
+            (places_of is_awake self.old) now self.old server.old self.new server.new) }
+        ensures err { OnErr result (FailsInTurn W.calls S.calls
+            (places_of is_awake self.old) now self.old server.old self.new server.new) }
+        ensures desk { desk.new.own ≡ desk.old.own }
     {
+        let _ = &self.places;
         let mut is_more = false;
         for node in 0..MOST_CLIENTS {
             is_more |= self.serve_if_ready(server, desk, node, now)?;
@@ -139,10 +143,13 @@ impl<W: Wire + Drop> Clients<W> {
         now: u64,
     ) -> Result<bool, AllocError>
         requires { node < 256 }
-        ensures ok { OnOk result ((nodes : List ℕ)
-            × ServesInTurn W.calls S.calls nodes now self.old server.old self.new server.new) }
-        ensures err { OnErr result
-            (FailsAt W.calls S.calls node now self.old server.old self.new server.new) }
+        ensures ok { OnOk result (ServesInTurn W.calls S.calls
+            (only_if (holds_at is_awake self.old node) node) now self.old server.old
+            self.new server.new) }
+        ensures err { OnErr result (FailsInTurn W.calls S.calls
+            (only_if (holds_at is_awake self.old node) node) now self.old server.old
+            self.new server.new) }
+        ensures desk { desk.new.own ≡ desk.old.own }
     {
         if !self.is_ready(node) {
             return Ok(false);
@@ -154,6 +161,7 @@ impl<W: Wire + Drop> Clients<W> {
     // Whether there may be something to do for a client at this place.
     fn is_ready(&self, node: NodeId) -> bool
         requires { node < 256 }
+        ensures { result ≡ holds_at is_awake self.now node }
     {
         match &self.places[usize::from(node)] {
             Some(client) => client.is_ready(),
@@ -174,6 +182,7 @@ impl<W: Wire + Drop> Clients<W> {
             (ServesAt W.calls S.calls node now self.old server.old self.new server.new) }
         ensures err { OnErr result
             (FailsAt W.calls S.calls node now self.old server.old self.new server.new) }
+        ensures desk { desk.new.own ≡ desk.old.own }
     {
         let place = &mut self.places[usize::from(node)];
         match serve_at(place, server, desk, node, now) {
@@ -191,9 +200,10 @@ impl<W: Wire + Drop> Clients<W> {
 
     /// Clients that were still for too long are gone.
     pub fn end_late<S: Store>(&mut self, server: &mut Server<S>, now: u64)
-        ensures { (nodes : List ℕ) × LeaveInTurn S.calls nodes self.old server.old self.new
-            server.new }
+        ensures { LeaveInTurn S.calls (places_of (is_late now) self.old) self.old server.old
+            self.new server.new }
     {
+        let _ = &self.places;
         for node in 0..MOST_CLIENTS {
             self.end_if_late(server, node, now);
         }
@@ -202,8 +212,8 @@ impl<W: Wire + Drop> Clients<W> {
     // The client at a place is gone, where it was still for too long.
     fn end_if_late<S: Store>(&mut self, server: &mut Server<S>, node: NodeId, now: u64)
         requires { node < 256 }
-        ensures { (nodes : List ℕ) × LeaveInTurn S.calls nodes self.old server.old self.new
-            server.new }
+        ensures { LeaveInTurn S.calls (only_if (holds_at (is_late now) self.old node) node)
+            self.old server.old self.new server.new }
     {
         if self.is_late(node, now) {
             self.end(server, node, Why::Late);
@@ -213,6 +223,7 @@ impl<W: Wire + Drop> Clients<W> {
     // Whether a client at this place was still for too long.
     fn is_late(&self, node: NodeId, now: u64) -> bool
         requires { node < 256 }
+        ensures { result ≡ holds_at (is_late now) self.now node }
     {
         match &self.places[usize::from(node)] {
             Some(client) => client.is_late(now),
@@ -223,8 +234,7 @@ impl<W: Wire + Drop> Clients<W> {
     /// Ends the next client, in turn, that has not greeted, if there is one: whoever connects and
     /// says nothing keeps nobody out.
     pub fn make_room<S: Store>(&mut self, server: &mut Server<S>)
-        ensures { (nodes : List ℕ) × LeaveInTurn S.calls nodes self.old server.old self.new
-            server.new }
+        ensures { MakesRoom S.calls self.old server.old self.new server.new }
     {
         if let Some(node) = self.next_greeting() {
             self.turned = node;
@@ -234,7 +244,8 @@ impl<W: Wire + Drop> Clients<W> {
 
     // The place of the next client, in turn, that has not greeted.
     fn next_greeting(&self) -> Option<NodeId>
-        ensures { IfSome result (λ node. node < 256) }
+        ensures within { IfSome result (λ node. node < 256) }
+        ensures greets { IfSome result (λ node. holds_at is_greeting self.now node ≡ true) }
     {
         for step in 1..=MOST_CLIENTS {
             let node = self.turned.wrapping_add(step) % MOST_CLIENTS;
@@ -248,6 +259,7 @@ impl<W: Wire + Drop> Clients<W> {
     // Whether the greeting of a client at this place is still to come.
     fn is_greeting(&self, node: NodeId) -> bool
         requires { node < 256 }
+        ensures { result ≡ holds_at is_greeting self.now node }
     {
         match &self.places[usize::from(node)] {
             Some(client) => client.is_greeting(),
@@ -286,7 +298,7 @@ fn no_clients<W: Wire + Drop>(alloc: Global) -> Result<Vec<Option<Client<W>>>, A
 
 // There may be something to do for the client at a place.
 fn wake_at<W: Wire + Drop>(place: &mut Option<Client<W>>)
-    ensures { place.new ≡ place.old }
+    ensures { place.new ≡ option_map woken place.old }
 {
     if let Some(client) = place {
         client.set_ready(true);
@@ -314,6 +326,7 @@ fn serve_at<W: Wire + Drop, S: Store>(
         (TurnsTo W.calls S.calls node now place.old server.old place.new server.new) }
     ensures err { IfErr result (λ fault. IsCutOffAt W.calls S.calls node now fault place.old
         server.old place.new server.new) }
+    ensures desk { desk.new.own ≡ desk.old.own }
 {
     let Some(mut client) = place.take() else {
         return Ok(());
