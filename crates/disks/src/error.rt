@@ -2,6 +2,7 @@
 
 ghost use Rattle.std.specs.Prelude.{◌≡◌, ◌↔◌, ◌⊎◌, IsTrue};
 ghost use Rattle.std.specs.declared.io.ErrorKind.TheVariants.{PermissionDenied, Unsupported};
+ghost use Rattle.disks.specs.Faults.{IsReason, IsWithoutLinks};
 
 use std::alloc::{AllocError, AllocFailed};
 use std::io;
@@ -28,7 +29,9 @@ const EXISTS: i32 = 17;
 
 impl DiskError {
     /// Whether a link failed so because the disk has none.
-    pub fn is_without_links(&self) -> bool {
+    pub fn is_without_links(&self) -> bool
+        ensures { IsTrue result ↔ IsWithoutLinks self.now }
+    {
         match self {
             DiskError::System(error) => is_without_links(error.kind()),
             _ => false,
@@ -36,7 +39,9 @@ impl DiskError {
     }
 
     /// What the system says of this.
-    pub fn reason(self) -> io::Error {
+    pub fn reason(self) -> io::Error
+        ensures { IsReason self result }
+    {
         match self {
             DiskError::OutOfMemory => io::Error::from(io::ErrorKind::OutOfMemory),
             DiskError::AlreadyExists => io::Error::from_raw_os_error(EXISTS),
