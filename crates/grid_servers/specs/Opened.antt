@@ -1,6 +1,6 @@
 -- The servers of a grid that were opened.
-use Rattle.std.specs.Prelude.{◌≡◌, ◌<◌, ℕ, List, [], ◌∷◌, false, Option, Some, None, get_or, ⊤}
-use Rattle.std.specs.Prelude.{IfSome, IsSome, option_map}
+use Rattle.std.specs.Prelude.{◌≡◌, ◌<◌, ℕ, List, [], ◌∷◌, Bool, false, true, Option, Some, None}
+use Rattle.std.specs.Prelude.{IfSome, IsSome, get_or, option_map, ⊤}
 use Rattle.share_folders.specs.Folder.{FolderState, durability_of}
 use Rattle.share_folders.specs.Names.{in_folder}
 use Rattle.share_folders.specs.declared.disk.Durability.{Durability}
@@ -11,7 +11,7 @@ use Rattle.grid_marks.specs.declared.mark.Mark.{Mark}
 use Rattle.grid_marks.specs.Marks.{IsGrids, server_mark}
 use Rattle.connections.specs.Greetings.{greeting_of}
 use Rattle.local_grid.specs.Nodes.{NodeState}
-use Rattle.served_grid.specs.Remotes.{RemoteState, unasked}
+use Rattle.served_grid.specs.Remotes.{RemoteState, is_away, unasked}
 use Rattle.grid_servers.specs.Grids.{FolderGridState}
 
 -- a grid that knows its servers has one of this number; any other grid may have it
@@ -56,6 +56,14 @@ AllElsewhere known remotes =
 abbrev pub AreApart : {N M : Type 0} → List (Option N) → List (Option M) → Type 0
 AreApart here elsewhere = (number : ℕ)
     → IsSome (get_or elsewhere number None) → get_or here number None ≡ None
+
+-- nothing comes from what stands here and elsewhere at a number: there is nothing, or it is silent,
+-- or it is elsewhere and no connection stands, though one was tried
+abbrev pub is_silent_at : {L W : Type 0} → Option (NodeState FolderState L)
+    → Option (RemoteState W) → Bool
+is_silent_at (Some node) remote = node.silent
+is_silent_at None (Some remote) = is_away remote
+is_silent_at None None = true
 
 -- how many pieces of a share may be on their way at once to each of these servers: one where none
 -- of them is elsewhere

@@ -1,12 +1,12 @@
 //! The servers of a grid as they are opened: each over its own folder, or elsewhere.
 
 ghost use Rattle.std.specs.Prelude.{◌≡◌, ◌<◌, ℕ, [], None, get_or, length, IfOk, IfSome, OnOk};
-ghost use Rattle.std.specs.Prelude.{IsTrue, Some};
+ghost use Rattle.std.specs.Prelude.{IsTrue, Some, option_copied};
 ghost use Rattle.share_folders.specs.Folder.{durability_of};
 ghost use Rattle.share_folders.specs.Names.{in_folder};
 ghost use Rattle.grid_faults.specs.Servers.{server_name};
 ghost use Rattle.grid_servers.specs.Opened.{AllStand, AreOpened, IsNumberOf, StandsAt};
-ghost use Rattle.grid_servers.specs.Opened.{at_once};
+ghost use Rattle.grid_servers.specs.Opened.{at_once, is_silent_at};
 
 use crate::elsewhere::{Elsewhere, find_elsewhere};
 use crate::links::{ServerLink, of_sockets, open_links};
@@ -279,16 +279,24 @@ where
 pub fn is_silent<R>(grid: &FolderGrid<R>, server: NodeId) -> bool
 where
     R: Files + Net + Clock + AllocGlobal + Clone + Drop,
+    ensures { result ≡ is_silent_at (get_or grid.now.here.nodes server None)
+        (get_or grid.now.remotes server None) }
 {
     let position = usize::from(server);
-    match (
-        grid.here().nodes().get(position),
-        grid.remotes().get(position),
-    ) {
-        (Some(Some(node)), _) => node.is_silent(),
-        (_, Some(Some(remote))) => remote.is_away(),
-        _ => true,
+    let here = standing_at(grid.here().nodes(), position);
+    let elsewhere = standing_at(grid.remotes(), position);
+    match (here, elsewhere) {
+        (Some(node), _) => node.is_silent(),
+        (None, Some(remote)) => remote.is_away(),
+        (None, None) => true,
     }
+}
+
+// What stands at a position, if there is anything.
+fn standing_at<T>(places: &[Option<T>], position: usize) -> Option<&T>
+    ensures { option_copied result ≡ get_or places.now position None }
+{
+    places.get(position)?.as_ref()
 }
 
 /// How many pieces of a share may be on their way at once between a command and each of these
