@@ -2,5 +2,5 @@
 pub mod Counted
 pub mod Faults
 pub mod News
--- Words of private clauses.
 pub mod Plans
+pub mod Served

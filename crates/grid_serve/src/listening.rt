@@ -2,6 +2,7 @@
 
 ghost use Rattle.std.specs.Prelude.{◌≡◌, false, IfOk};
 ghost use Rattle.connections.specs.Addresses.{IsAddressText, IsLocal};
+ghost use Rattle.grid_serving.specs.Loops.{begun_loop};
 
 use crate::fault::ServeFault;
 use connections::{Address, AddressError, Greeting, Socket};
@@ -165,6 +166,7 @@ pub(crate) fn listen<R, S>(
 where
     R: Files + Net + Clock + AllocGlobal,
     S: Store + Drop,
+    ensures { IfOk result (λ s. s ≡ begun_loop s.listener server own.now) }
 {
     match Serving::start(rt, server, own, address) {
         Ok(serving) => Ok(serving),

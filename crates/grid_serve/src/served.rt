@@ -1,10 +1,14 @@
 //! A folder that is served.
 
-ghost use Rattle.std.specs.Prelude.{◌≡◌, false, IfOk, IfSome};
+ghost use Rattle.std.specs.Prelude.{◌≡◌, ◌∷◌, ◌⊎◌, [], false, IfNone, IfOk, IfSome};
+ghost use Rattle.std.specs.Prelude.{OnErr, OnOk};
 ghost use Rattle.connections.specs.Addresses.{IsAddressText, IsLocal};
 ghost use Rattle.connections.specs.Greetings.{greeting_of};
 ghost use Rattle.grid_marks.specs.Marks.{IsServers};
-ghost use Rattle.grid_serve.specs.Plans.{HasWanted};
+ghost use Rattle.grid_serving.specs.Loops.{Fails, Turns, begun_loop};
+ghost use Rattle.grid_serve.specs.Plans.{HasMark, HasWanted, IsOpenedFor, IsSaid};
+ghost use Rattle.grid_serve.specs.Served.{GivesOut, GoesOnToTheEnd, IsBegunFor, WasServed};
+ghost use Rattle.grid_serve.specs.Served.{socket_calls, store_calls};
 
 use crate::counted::CountedStore;
 use crate::fault::ServeFault;
@@ -19,6 +23,7 @@ use grid_serving::{News, Serving};
 use share_folders::folder::FolderStore;
 use std::alloc::Global;
 use std::io::Write;
+use std::marker::Model;
 use std::net::Net;
 use std::random::RandomSource;
 use std::rt::{Clock, Files};
@@ -38,6 +43,14 @@ pub struct ServedFolder<R: Files + Locks + AllocGlobal + Clone + Drop> {
     // locks that are held as long as the folder is served
     folder: R::Lock,
     socket: Option<R::Lock>,
+}
+
+impl<R: Files + Locks + AllocGlobal + Clone + Drop> Model for ServedFolder<R> {
+    ghost use Rattle.grid_serve.specs.Served.{ServedState};
+
+    ghost Value = { ServedState };
+
+    ghost view = { λ s. s.serving };
 }
 
 // The loop of the server of a folder.
@@ -63,7 +76,9 @@ where
     /// `BadMark` and `OtherMark`; and a fault of the file of a Unix socket, and `InUse` where a
     /// process has that. Up to there the file of the socket's lock was made, and a socket removed
     /// at which nobody listens any more. Then the store is opened, and the folder marked.
-    pub fn open(rt: &R, serve: &Serve<'_>) -> Result<ServedFolder<R>, ServeFault> {
+    pub fn open(rt: &R, serve: &Serve<'_>) -> Result<ServedFolder<R>, ServeFault>
+        ensures { IfOk result (IsBegunFor serve.now) }
+    {
         let plan = make_plan(rt, serve)?;
         let serving = begin(rt, serve, &plan)?;
         Ok(ServedFolder {
@@ -75,13 +90,18 @@ where
     }
 
     /// What it listens with.
-    pub fn listener(&self) -> &Listener {
+    pub fn listener(&self) -> &Listener
+        ensures { result.now ≡ self.now.listener }
+    {
         self.serving.listener()
     }
 
     /// Waits so long at most for what is ready, and does it. A fault where the system's sockets
     /// fail, and where there was not enough memory: the program is to end then.
-    pub fn turn(&mut self, rt: &R, most: Duration) -> Result<(), ServeFault> {
+    pub fn turn(&mut self, rt: &R, most: Duration) -> Result<(), ServeFault>
+        ensures ok { OnOk result (Turns socket_calls store_calls self.old self.new) }
+        ensures err { OnErr result (Fails socket_calls store_calls self.old self.new) }
+    {
         match self.serving.turn(rt, most) {
             Ok(()) => Ok(()),
             Err(error) => Err(ServeFault::of_sockets(rt.alloc(), self.text.as_str(), error)),
@@ -89,7 +109,11 @@ where
     }
 
     /// What happened to a client and was not told yet, in its order.
-    pub fn next_news(&mut self) -> Option<News> {
+    pub fn next_news(&mut self) -> Option<News>
+        ensures some { IfSome result
+            (λ one. self.old ≡ record self.new { news = one ∷ self.new.news }) }
+        ensures none { IfNone result ((self.old.news ≡ []) × (self.new ≡ self.old)) }
+    {
         self.serving.next_news()
     }
 }
@@ -98,9 +122,13 @@ where
 fn begin<R>(rt: &R, serve: &Serve<'_>, plan: &Plan<R>) -> Result<FolderServing<R>, ServeFault>
 where
     R: Files + Net + RandomSource + Clock + Locks + AllocGlobal + Clone + Drop,
+    ensures opened { IfOk result (λ serving. IsOpenedFor serve.now serving.server) }
+    ensures begun { IfOk result
+        (λ serving. serving ≡ begun_loop serving.listener serving.server plan.now.own) }
 {
     let server = open_server(rt, serve, plan.mark)?;
-    listen(rt, server, &plan.own, &plan.address, plan.text.as_str())
+    let serving = listen(rt, server, &plan.own, &plan.address, plan.text.as_str())?;
+    Ok(serving)
 }
 
 // What is decided before the folder is changed.
@@ -110,6 +138,7 @@ where
     ensures address { IfOk result (λ plan. IsAddressText serve.now.listen.now plan.address) }
     ensures local { IfOk result (λ plan. serve.now.anyone ≡ false → IsLocal plan.address) }
     ensures mark { IfOk result (λ plan. IfSome plan.mark IsServers) }
+    ensures said { IfOk result (λ plan. HasMark serve.now plan.mark) }
     ensures greeting { IfOk result (λ plan. plan.own ≡ greeting_of plan.mark) }
 {
     let address = read_address(rt.alloc(), serve.listen, serve.anyone)?;
@@ -120,7 +149,8 @@ where
 
 // The mark that the folder is to have, where that is said.
 fn wanted_mark(alloc: Global, serve: &Serve<'_>) -> Result<Option<Mark>, ServeFault>
-    ensures { IfOk result (λ wanted. IfSome wanted IsServers) }
+    ensures servers { IfOk result (λ wanted. IfSome wanted IsServers) }
+    ensures said { IfOk result (IsSaid serve.now) }
 {
     match serve.mark {
         Some(word) => Ok(Some(mark_of_word(alloc, word)?)),
@@ -183,6 +213,7 @@ pub fn serve<R, E>(rt: &R, serve: &Serve<'_>, err: &mut E) -> Result<(), ServeFa
 where
     R: Files + Net + RandomSource + Clock + Locks + AllocGlobal + Clone + Drop,
     E: Write,
+    ensures { OnOk result (WasServed serve.now) }
 {
     let mut served = ServedFolder::open(rt, serve)?;
     run(rt, serve, &mut served, err)
@@ -198,6 +229,8 @@ fn run<R, E>(
 where
     R: Files + Net + RandomSource + Clock + Locks + AllocGlobal + Clone + Drop,
     E: Write,
+    ensures ok { OnOk result (GoesOnToTheEnd served.old served.new) }
+    ensures err { OnErr result ((served.new ≡ served.old) ⊎ GivesOut served.old served.new) }
 {
     tell_beginning(rt.alloc(), serve, err)?;
     for _ in 0..u64::MAX {
@@ -225,15 +258,22 @@ fn tell_news<R, E>(alloc: Global, serve: &Serve<'_>, served: &mut ServedFolder<R
 where
     R: Files + Net + RandomSource + Clock + Locks + AllocGlobal + Clone + Drop,
     E: Write,
+    ensures told { served.new ≡ record served.old { news = [] } }
+    ensures quiet { serve.now.verbose ≡ false → err.new ≡ err.old }
 {
-    for _ in 0..usize::MAX {
-        let Some(news) = served.next_news() else {
-            return;
-        };
-        if serve.verbose {
-            if let Ok(line) = news_line(alloc, &news) {
-                let _ = err.write_all(line.as_bytes());
-            }
-        }
+    while let Some(news) = served.next_news() {
+        tell_one(alloc, serve, &news, err);
+    }
+}
+
+// Tells what happened to a client, where that is wanted.
+fn tell_one<E: Write>(alloc: Global, serve: &Serve<'_>, news: &News, err: &mut E)
+    ensures { serve.now.verbose ≡ false → err.new ≡ err.old }
+{
+    if !serve.verbose {
+        return;
+    }
+    if let Ok(line) = news_line(alloc, news) {
+        let _ = err.write_all(line.as_bytes());
     }
 }
