@@ -3,17 +3,26 @@ use Rattle.std.proofs.Common.{◌≡◌, ℕ, ◌+◌, ◌^◌, ◌<◌, ◌≤�
 use Rattle.std.proofs.Common.{Result, Ok, Err, String, Global, IfOk, string_bytes, subst, sym}
 use Rattle.std.specs.Prelude.{codes, decimal}
 use Rattle.std.proofs.lemmas.Fmt.{length-decimal-le}
-use Rattle.grid_telling.specs.ProgressLine.{bytes_line, encoding_line, left_text, verb_text}
-use Rattle.grid_telling.specs.ProgressLine.{waits_text}
+use Rattle.grid_telling.specs.ProgressLine.{bytes_line, encoding_line, files_line, left_text}
+use Rattle.grid_telling.specs.ProgressLine.{verb_text, waits_text}
 use Rattle.grid_faults.specs.Servers.{server_name}
+use Rattle.grid_telling.specs.declared.progress_lines.FileCount.{FileCount}
 use Rattle.grid_telling.specs.declared.progress_lines.Verb.{Verb}
 use Rattle.grid_telling.specs.declared.progress_lines.Verb.TheVariants.{Put, Get, Check}
-use Rattle.grid_telling.specs.declared.progress_lines.Verb.TheVariants.{Repair, Scrub}
+use Rattle.grid_telling.specs.declared.progress_lines.Verb.TheVariants.{Repair, Scrub, Verify}
 
 -- so many thousand bytes
 thousands : (n : ℕ) → n < 2 ^ 64 → length (decimal (n / 1000)) ≤ 17
 thousands n fits =
     length-decimal-le 17 (n / 1000) (lit< tt) (omega (arith, fits)) (omega (arith, fits))
+
+-- so many million bytes
+millions : (n : ℕ) → n < 2 ^ 64 → length (decimal (n / 1000000)) ≤ 14
+millions n fits =
+    length-decimal-le 14 (n / 1000000) (lit< tt) (omega (arith, fits)) (omega (arith, fits))
+
+few : (n : ℕ) → n < 2 ^ 32 → length (decimal n) ≤ 10
+few n fits = length-decimal-le 10 n (lit< tt) (omega (arith, fits)) (omega (arith, fits))
 
 large : (n : ℕ) → n < 2 ^ 64 → length (decimal n) ≤ 20
 large n fits = length-decimal-le 20 n (lit< tt) (omega (arith, fits)) fits
@@ -34,6 +43,7 @@ verb_short : (verb : Verb) → length (verb_text verb) ≤ 6
 verb_short Put = omega arith
 verb_short Get = omega arith
 verb_short Check = omega arith
+verb_short Verify = omega arith
 verb_short Repair = omega arith
 verb_short Scrub = omega arith
 
@@ -75,6 +85,28 @@ bytes_short verb done total remark a b c =
           (codes " of " ++ (decimal (total / 1000) ++ (codes " kB" ++ remark))),
       with_number (codes " of ") (total / 1000) (codes " kB" ++ remark),
       length-append (codes " kB") remark,
+    )
+
+pub files_short : (verb : Verb) (files : FileCount) (remark : List ℕ) → files.done < 2 ^ 32
+    → files.total < 2 ^ 32 → files.bytes < 2 ^ 64 → length remark ≤ 29
+    → length (files_line verb files remark) < 80
+files_short verb files remark a b c d =
+    omega (
+      arith,
+      verb_short verb,
+      few files.done a,
+      few files.total b,
+      millions files.bytes c,
+      d,
+      length-append (verb_text verb) (codes " " ++ (decimal files.done ++ (codes " of "
+          ++ (decimal files.total ++ (codes ": " ++ (decimal (files.bytes / 1000000)
+          ++ (codes " MB" ++ remark))))))),
+      with_number (codes " ") files.done (codes " of " ++ (decimal files.total ++ (codes ": "
+          ++ (decimal (files.bytes / 1000000) ++ (codes " MB" ++ remark))))),
+      with_number (codes " of ") files.total
+          (codes ": " ++ (decimal (files.bytes / 1000000) ++ (codes " MB" ++ remark))),
+      with_number (codes ": ") (files.bytes / 1000000) (codes " MB" ++ remark),
+      length-append (codes " MB") remark,
     )
 
 -- a text that is told is as short as what it is to be

@@ -1,6 +1,8 @@
 //! How far a command is, told in one line of a terminal, and notes beside it.
 
-use crate::progress_lines::{Amount, Remark, Verb, encoding_line, progress_line, seconds_left};
+use crate::progress_lines::{
+    Amount, FileCount, Remark, Verb, encoding_line, files_line, progress_line, seconds_left,
+};
 use local_grid::watched::Watch;
 use std::alloc::{AllocError, Global};
 use std::io::{IsTerminal, Write};
@@ -45,6 +47,13 @@ struct Times {
     moved: Instant,
 }
 
+// Of a command over many files: those that are done, and when the first began.
+#[derive(Clone, Copy)]
+struct AllFiles {
+    count: FileCount,
+    began: Option<Instant>,
+}
+
 /// Tells how far a command is, in one line that is written anew in its place, where there is a
 /// terminal. A fault of the clock or of the line is passed over.
 #[derive(Drop)]
@@ -59,6 +68,10 @@ pub struct Progress<'a, R, E> {
     verb: Verb,
     counting: Counting,
     amount: Amount,
+    // its bytes are those of a file that is encoded, and not yet stored
+    is_encoding: bool,
+    // `None` where the command is of one file
+    files: Option<AllFiles>,
     verbose: bool,
     // by the servers' numbers: which took no shares
     refusals: [bool; SERVERS],
@@ -86,6 +99,8 @@ where
             verb: Verb::Get,
             counting: Counting::Added,
             amount: NOTHING,
+            is_encoding: false,
+            files: None,
             verbose: false,
             refusals: [false; SERVERS],
         }
@@ -106,6 +121,7 @@ where
         self.verb = verb;
         self.counting = counting;
         self.amount = Amount { done: 0, total };
+        self.is_encoding = false;
         if let (Some(times), Ok(now)) = (self.times, Instant::now(self.rt)) {
             self.times = Some(Times {
                 began: now,
@@ -115,10 +131,35 @@ where
         }
     }
 
+    /// So many files are done from now on, one after the other: the line is of all of them.
+    pub fn begin_files(&mut self, total: u64) {
+        let count = FileCount {
+            done: 0,
+            total: u32::try_from(total).unwrap_or(u32::MAX),
+            bytes: 0,
+        };
+        let began = Instant::now(self.rt).ok();
+        self.files = Some(AllFiles { count, began });
+    }
+
+    /// One of them is done.
+    pub fn end_file(&mut self) {
+        if let Some(files) = self.files {
+            let FileCount { done, total, bytes } = files.with(self.moved());
+            let done = done.saturating_add(1).min(total);
+            self.amount = NOTHING;
+            self.files = Some(AllFiles {
+                count: FileCount { done, total, bytes },
+                began: files.began,
+            });
+        }
+    }
+
     /// A file of so many bytes is encoded now, by one call.
     pub fn encode(&mut self, verb: Verb, size: u64) {
         self.begin(verb, Counting::Added, size);
-        if self.times.is_some() && size >= LONG_ENCODING {
+        self.is_encoding = true;
+        if self.times.is_some() && self.files.is_none() && size >= LONG_ENCODING {
             self.show(encoding_line(self.alloc, verb, size));
         }
     }
@@ -182,24 +223,37 @@ where
         });
         if is_due {
             self.pause = PAUSE;
-            let (remark, amount) = (self.remark(&times, now, server), self.amount);
-            self.show(progress_line(self.alloc, self.verb, &amount, remark));
+            let line = self.line(&times, now, server);
+            self.show(line);
         }
     }
 
-    // The server that is waited for, or the time that is left.
-    fn remark(&self, times: &Times, now: Instant, server: Option<NodeId>) -> Remark {
-        let is_waiting = now.duration_since(times.moved) >= Duration::from_millis(WAITING);
-        match server {
-            Some(server) if is_waiting => Remark::WaitsFor(server),
-            _ => {
-                let elapsed = now.duration_since(times.began).as_millis();
-                let amount = self.amount;
-                match seconds_left(u64::try_from(elapsed).unwrap_or(u64::MAX), &amount) {
-                    Some(seconds) => Remark::Left(seconds),
-                    None => Remark::Nothing,
-                }
+    // The line of this file, or of all files.
+    fn line(
+        &self,
+        times: &Times,
+        now: Instant,
+        server: Option<NodeId>,
+    ) -> Result<String, AllocError> {
+        let waiting = waited_for(times, now, server);
+        match &self.files {
+            None => {
+                let left = left_since(times.began, now, &self.amount);
+                progress_line(self.alloc, self.verb, &self.amount, waiting.unwrap_or(left))
             }
+            Some(files) => {
+                let (count, left) = (files.with(self.moved()), files.left(now));
+                files_line(self.alloc, self.verb, &count, waiting.unwrap_or(left))
+            }
+        }
+    }
+
+    // How many bytes of this file were moved.
+    fn moved(&self) -> u64 {
+        if self.is_encoding {
+            0
+        } else {
+            self.amount.done
         }
     }
 
@@ -243,6 +297,46 @@ where
         if let Some(refused) = self.refusals.get_mut(usize::from(server)) {
             *refused = true;
         }
+    }
+}
+
+impl AllFiles {
+    // With so many bytes of the file that is under way.
+    fn with(&self, bytes: u64) -> FileCount {
+        FileCount {
+            done: self.count.done,
+            total: self.count.total,
+            bytes: self.count.bytes.saturating_add(bytes),
+        }
+    }
+
+    // The time that is left, reckoned by the files that are done.
+    fn left(&self, now: Instant) -> Remark {
+        let Some(began) = self.began else {
+            return Remark::Nothing;
+        };
+        let amount = Amount {
+            done: u64::from(self.count.done),
+            total: u64::from(self.count.total),
+        };
+        left_since(began, now, &amount)
+    }
+}
+
+// The server that is waited for, where nothing came for so long.
+fn waited_for(times: &Times, now: Instant, server: Option<NodeId>) -> Option<Remark> {
+    if now.duration_since(times.moved) < Duration::from_millis(WAITING) {
+        return None;
+    }
+    server.map(|server| Remark::WaitsFor(server))
+}
+
+// The time that is left of what began then.
+fn left_since(began: Instant, now: Instant, amount: &Amount) -> Remark {
+    let elapsed = now.duration_since(began).as_millis();
+    match seconds_left(u64::try_from(elapsed).unwrap_or(u64::MAX), amount) {
+        Some(seconds) => Remark::Left(seconds),
+        None => Remark::Nothing,
     }
 }
 

@@ -2,8 +2,9 @@
 
 ghost use Rattle.std.specs.Prelude.{◌≡◌, ◌<◌, ◌≤◌, length, IfOk, IfSome};
 ghost use Rattle.std.specs.String.{string_bytes};
-ghost use Rattle.grid_telling.specs.ProgressLine.{bytes_line, encoding_line, left_text};
-ghost use Rattle.grid_telling.specs.ProgressLine.{progress_line, remark_text, seconds_left};
+ghost use Rattle.grid_telling.specs.ProgressLine.{bytes_line, encoding_line, files_line};
+ghost use Rattle.grid_telling.specs.ProgressLine.{left_text, progress_line, remark_text};
+ghost use Rattle.grid_telling.specs.ProgressLine.{seconds_left};
 ghost use Rattle.grid_telling.specs.ProgressLine.{verb_text, waits_text};
 
 use grid_faults::server_name;
@@ -16,6 +17,7 @@ pub enum Verb {
     Put,
     Get,
     Check,
+    Verify,
     Repair,
     Scrub,
 }
@@ -25,6 +27,14 @@ pub enum Verb {
 pub(crate) struct Amount {
     pub done: u64,
     pub total: u64,
+}
+
+/// How many files are done, of how many, and how many bytes of all of them.
+#[derive(Clone, Copy, PartialEq, Eq)]
+pub(crate) struct FileCount {
+    pub done: u32,
+    pub total: u32,
+    pub bytes: u64,
 }
 
 /// What is told beside it.
@@ -70,6 +80,39 @@ fn bytes_line(
     format!(in alloc; "{verb}: {done} of {total} kB{remark}")
 }
 
+/// The line of a command over many files, of fewer than 80 columns, without an end. It counts
+/// 1,000,000 bytes as one MB.
+pub(crate) fn files_line(
+    alloc: Global,
+    verb: Verb,
+    files: &FileCount,
+    remark: Remark,
+) -> Result<String, AllocError>
+    ensures short { IfOk result (λ line. length (string_bytes line) < 80) }
+    ensures line { IfOk result (λ line. string_bytes line
+        ≡ files_line verb files.now (remark_text remark)) }
+{
+    let remark = remark_text(alloc, remark)?;
+    counted_line(alloc, verb, files, remark.as_str())
+}
+
+// The same with the text of the remark.
+fn counted_line(
+    alloc: Global,
+    verb: Verb,
+    files: &FileCount,
+    remark: &str,
+) -> Result<String, AllocError>
+    requires { length remark.now ≤ 29 }
+    ensures short { IfOk result (λ line. length (string_bytes line) < 80) }
+    ensures line { IfOk result (λ line. string_bytes line
+        ≡ files_line verb files.now remark.now) }
+{
+    let (verb, done, total) = (verb_text(verb), files.done, files.total);
+    let bytes = files.bytes / 1_000_000;
+    format!(in alloc; "{verb} {done} of {total}: {bytes} MB{remark}")
+}
+
 /// The line of a command that encodes a file of so many bytes, of fewer than 80 columns, without an
 /// end.
 pub(crate) fn encoding_line(alloc: Global, verb: Verb, size: u64) -> Result<String, AllocError>
@@ -100,6 +143,7 @@ fn verb_text(verb: Verb) -> &'static str
         Verb::Put => "put",
         Verb::Get => "get",
         Verb::Check => "check",
+        Verb::Verify => "verify",
         Verb::Repair => "repair",
         Verb::Scrub => "scrub",
     }
