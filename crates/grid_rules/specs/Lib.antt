@@ -8,3 +8,4 @@ pub mod ReportLines
 pub mod ReportJson
 pub mod ScrubLines
 pub mod Turns
+pub mod Ways

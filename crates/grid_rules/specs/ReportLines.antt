@@ -35,15 +35,15 @@ abbrev pub word_of : Bool → List ℕ
 word_of true = codes "yes"
 word_of false = codes "no"
 
--- the line of the file
-abbrev pub last_line : Report → List ℕ
-last_line r = codes "healthy " ++ (word_of r.healthy
+-- what the line of the file says, without its end
+abbrev pub report_words : Report → List ℕ
+report_words r = codes "healthy " ++ (word_of r.healthy
     ++ (codes " recoverable " ++ (word_of r.recoverable
-    ++ (codes " happiness " ++ (decimal r.happiness ++ codes "\n")))))
+    ++ (codes " happiness " ++ decimal r.happiness))))
 
 -- a line for each share that was offered, and one for the file
 abbrev pub report_lines : Report → List ℕ
-report_lines r = flat_map verdict_line r.verdicts ++ last_line r
+report_lines r = flat_map verdict_line r.verdicts ++ (report_words r ++ codes "\n")
 
 -- 0 where the file can be recovered, or is healthy where that is asked for, else that of too few
 -- shares

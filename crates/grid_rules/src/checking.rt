@@ -3,7 +3,7 @@
 ghost use Rattle.std.specs.Prelude.{◌≡◌, ◌++◌, IfOk, OnOk};
 ghost use Rattle.std.specs.List.{flat_map};
 ghost use Rattle.std.specs.String.{string_bytes};
-ghost use Rattle.grid_rules.specs.ReportLines.{last_line, report_lines, report_status};
+ghost use Rattle.grid_rules.specs.ReportLines.{report_lines, report_status, report_words};
 ghost use Rattle.grid_rules.specs.ReportLines.{verdict_line, verdict_text, word_of};
 
 use checker::status::{Report, ShareVerdict};
@@ -17,9 +17,9 @@ use std::alloc::{AllocError, Global};
 pub fn report_lines(alloc: Global, report: &Report) -> Result<String, AllocError>
     ensures { IfOk result (λ lines. string_bytes lines ≡ report_lines report.now) }
 {
-    let mut lines = verdict_lines(alloc, report.verdicts.as_slice())?;
-    lines.push_str(last_line(alloc, report)?.as_str())?;
-    Ok(lines)
+    let lines = verdict_lines(alloc, report.verdicts.as_slice())?;
+    let words = report_words(alloc, report)?;
+    format!(in alloc; "{lines}{words}\n")
 }
 
 /// The exit status of a check: 0 where the file can be recovered, or is healthy where that is asked
@@ -56,17 +56,17 @@ fn push_line(alloc: Global, lines: &mut String, found: &ShareVerdict) -> Result<
     lines.push_str(format!(in alloc; "{server} {share} {verdict}\n")?.as_str())
 }
 
-// The line of the file.
-fn last_line(alloc: Global, report: &Report) -> Result<String, AllocError>
-    ensures { IfOk result (λ line. string_bytes line ≡ last_line report.now) }
+/// What the line of the file says, without its end.
+pub fn report_words(alloc: Global, report: &Report) -> Result<String, AllocError>
+    ensures { IfOk result (λ words. string_bytes words ≡ report_words report.now) }
 {
     let (healthy, recoverable) = (word_of(report.healthy), word_of(report.recoverable));
     let happiness = report.happiness;
-    format!(in alloc; "healthy {healthy} recoverable {recoverable} happiness {happiness}\n")
+    format!(in alloc; "healthy {healthy} recoverable {recoverable} happiness {happiness}")
 }
 
-/// `yes` or `no`.
-pub fn word_of(holds: bool) -> &'static str
+// `yes` or `no`.
+fn word_of(holds: bool) -> &'static str
     ensures { result.now ≡ word_of holds }
 {
     if holds { "yes" } else { "no" }
