@@ -1,5 +1,5 @@
 -- What a command is to which arguments are added.
-use Rattle.std.proofs.Common.{◌≡◌, ◌∙◌, ◌&&◌, ◌||◌, ◌++◌, Bool, true, false, not, rules, refl, sym, ap, ap₂, subst, List, [], ◌∷◌, append-nil, append_assoc}
+use Rattle.std.proofs.Common.{◌≡◌, ◌∙◌, ◌&&◌, ◌||◌, ◌++◌, Bool, Option, true, false, not, rules, refl, sym, ap, ap₂, subst, List, [], ◌∷◌, append-nil, append_assoc}
 use Rattle.std.specs.Borrow.{Bor}
 use Rattle.clap.specs.Adds.{AddsConflicts, AddsRequirements}
 use Rattle.clap.specs.Built.{AddsArg, AddsInTurn, AddsSubcommand}
@@ -77,10 +77,10 @@ requiring old new need rule adds has =
 -- ---- the commands of a command line
 
 -- one more
-pub named_more : (app : App) (names : List Name) (name : Name)
-    → with_named app (names ++ name ∷ []) ≡ with_subcommand (with_named app names) (shape_named name)
-named_more app [] name = refl
-named_more app (first ∷ names) name = named_more (with_subcommand app (shape_named first)) names name
+pub named_more : (grid : Option Text) (app : App) (names : List Name) (name : Name)
+    → with_named grid app (names ++ name ∷ []) ≡ with_subcommand (with_named grid app names) (shape_named grid name)
+named_more grid app [] name = refl
+named_more grid app (first ∷ names) name = named_more grid (with_subcommand app (shape_named grid first)) names name
 
 pub added_command : (old sub new : Command) (app : App) (s : Shape) → AddsSubcommand old sub new
     → HasShape s sub → IsApp app old → IsApp (with_subcommand app s) new

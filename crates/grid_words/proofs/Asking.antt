@@ -10,8 +10,9 @@ use Rattle.grid_words.specs.Asked.{Asks, IsAsked}
 use Rattle.grid_words.specs.CommandLine.{grid_app}
 use Rattle.grid_words.specs.declared.words.Request.{Request}
 
-pub grid_is_simple : is_simple grid_app ≡ true
-grid_is_simple = refl
+pub grid_is_simple : (grid : Option Text) → is_simple (grid_app grid) ≡ true
+grid_is_simple None = refl
+grid_is_simple (Some grid) = refl
 
 first_of_pairs : {X : Type 0} (f : X → Text) (g : X → List Row) (found : Option X)
     → option_map (λ (p : Text × List Row). p.0) (option_map (λ x. (f x, g x)) found) ≡ option_map f found

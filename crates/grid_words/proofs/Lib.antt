@@ -1,3 +1,4 @@
 mod Asking
 mod Added
 mod Getters
+mod Gathered

@@ -13,6 +13,8 @@ use Rattle.grid_words.specs.declared.catalogue_words.CheckFilesWords.{CheckFiles
 use Rattle.grid_words.specs.declared.catalogue_words.ChosenWords.{ChosenWords}
 use Rattle.grid_words.specs.declared.catalogue_words.GetFilesWords.{GetFilesWords}
 use Rattle.grid_words.specs.declared.catalogue_words.RepairFilesWords.{RepairFilesWords}
+use Rattle.grid_words.specs.declared.verify_words.VerifyFilesWords.{VerifyFilesWords}
+use Rattle.grid_words.specs.declared.verify_words.VerifyWords.{VerifyWords}
 use Rattle.grid_words.specs.declared.words.CheckWords.{CheckWords}
 use Rattle.grid_words.specs.declared.words.GetWords.{GetWords}
 use Rattle.grid_words.specs.declared.words.InitWords.{InitWords}
@@ -20,6 +22,7 @@ use Rattle.grid_words.specs.declared.words.ListWords.{ListWords}
 use Rattle.grid_words.specs.declared.words.ListWords.TheVariants as lists
 use Rattle.grid_words.specs.declared.words.Marking.{Marking}
 use Rattle.grid_words.specs.declared.words.Marking.TheVariants as markings
+use Rattle.grid_words.specs.declared.words.NumberWords.{NumberWords}
 use Rattle.grid_words.specs.declared.words.PutWords.{PutWords}
 use Rattle.grid_words.specs.declared.words.RepairWords.{RepairWords}
 use Rattle.grid_words.specs.declared.words.Request.{Request}
@@ -86,12 +89,20 @@ IsMarking rows (markings.New servers) = (number_under (codes "replace") rows ≡
     × IsFlag (one_of (codes "adopt") rows) false
     × (servers ≡ number_under (codes "servers") rows)
 
+-- the numbers by which files are put
+pub record AsksNumbers (rows : List Row) (words : NumberWords) : Type 0 where
+  pub needed : words.needed ≡ number_under (codes "k") rows
+  pub happy : words.happy ≡ number_under (codes "happy") rows
+  pub total : words.total ≡ number_under (codes "n") rows
+  pub max_segment : words.max_segment ≡ number_under (codes "segment") rows
+
 pub record AsksInit (rows : List Row) (words : InitWords) : Type 0 where
   pub grid : words.grid.now ≡ text_under (codes "DIR") rows
   pub marking : IsMarking rows words.marking
   pub elsewhere : map (λ word. word.now) words.elsewhere.items ≡ texts_under (codes "server") rows
   pub secret_file : option_map (λ path. path.now) words.secret_file
       ≡ first_of (codes "secret-file") rows
+  pub ways : AsksNumbers rows words.ways
   pub verbose : IsFlag (one_of (codes "verbose") rows) words.verbose
 
 pub record AsksPut (rows : List Row) (words : PutWords) : Type 0 where
@@ -100,10 +111,7 @@ pub record AsksPut (rows : List Row) (words : PutWords) : Type 0 where
   pub since : option_map (λ path. path.now) words.since ≡ first_of (codes "since") rows
   pub grid : words.grid.now ≡ text_under (codes "grid") rows
   pub secret : IsSecret rows words.secret
-  pub needed : words.needed ≡ unwrap_or (number_under (codes "k") rows) 0
-  pub happy : words.happy ≡ unwrap_or (number_under (codes "happy") rows) 0
-  pub total : words.total ≡ unwrap_or (number_under (codes "n") rows) 0
-  pub max_segment : words.max_segment ≡ unwrap_or (number_under (codes "segment") rows) 0
+  pub numbers : AsksNumbers rows words.numbers
   pub servers : words.servers ≡ number_under (codes "servers") rows
   pub net : IsFlag (one_of (codes "net") rows) words.net
   pub no_sync : IsFlag (one_of (codes "no-sync") rows) words.no_sync
@@ -169,6 +177,26 @@ pub record AsksCheck (rows : List Row) (words : CheckWords) : Type 0 where
   pub known : IsFlag (one_of (codes "known") rows) words.known
   pub verbose : IsFlag (one_of (codes "verbose") rows) words.verbose
 
+pub record AsksVerify (rows : List Row) (words : VerifyWords) : Type 0 where
+  pub file : words.file.now ≡ text_under (codes "FILE") rows
+  pub cap : words.cap.now ≡ text_under (codes "CAP") rows
+  pub cap_file : option_map (λ path. path.now) words.cap_file ≡ first_of (codes "cap-file") rows
+  pub max_segment : words.max_segment ≡ number_under (codes "segment") rows
+  pub secret : IsSecret rows words.secret
+  pub grid : option_map (λ path. path.now) words.grid ≡ first_of (codes "grid") rows
+  pub verbose : IsFlag (one_of (codes "verbose") rows) words.verbose
+
+-- the first two names stand where else a file and its cap do
+pub record AsksVerifyFiles (rows : List Row) (words : VerifyFilesWords) : Type 0 where
+  pub caps : first_of (codes "caps") rows ≡ Some words.caps.now
+  pub names : map (λ n. n.now) words.names.items
+      ≡ option_to_list (first_of (codes "FILE") rows)
+      ++ (option_to_list (first_of (codes "CAP") rows) ++ texts_under (codes "NAME") rows)
+  pub into : option_map (λ path. path.now) words.into ≡ first_of (codes "into") rows
+  pub secret : IsSecret rows words.secret
+  pub grid : option_map (λ path. path.now) words.grid ≡ first_of (codes "grid") rows
+  pub verbose : IsFlag (one_of (codes "verbose") rows) words.verbose
+
 pub record AsksRepair (rows : List Row) (words : RepairWords) : Type 0 where
   pub cap : words.cap.now ≡ text_under (codes "CAP") rows
   pub cap_file : option_map (λ path. path.now) words.cap_file ≡ first_of (codes "cap-file") rows
@@ -200,8 +228,8 @@ pub record AsksServe (rows : List Row) (words : ServeWords) : Type 0 where
 
 -- the names of the commands that are told apart from `cap`
 abbrev pub other_names : List Text
-other_names = codes "init" ∷ codes "put" ∷ codes "get" ∷ codes "check" ∷ codes "repair"
-    ∷ codes "scrub" ∷ codes "serve" ∷ codes "world" ∷ []
+other_names = codes "init" ∷ codes "put" ∷ codes "get" ∷ codes "check" ∷ codes "verify"
+    ∷ codes "repair" ∷ codes "scrub" ∷ codes "serve" ∷ codes "world" ∷ []
 
 -- the command of this name, with these values of its arguments, asks for this
 abbrev pub Asks : Text → List Row → Request → Type 0
@@ -213,6 +241,9 @@ Asks name rows (requests.GetFiles words) = (name ≡ codes "get") × AsksGetFile
 Asks name rows (requests.Check words) = (name ≡ codes "check")
     × (first_of (codes "caps") rows ≡ None) × AsksCheck rows words
 Asks name rows (requests.CheckFiles words) = (name ≡ codes "check") × AsksCheckFiles rows words
+Asks name rows (requests.Verify words) = (name ≡ codes "verify")
+    × (first_of (codes "caps") rows ≡ None) × AsksVerify rows words
+Asks name rows (requests.VerifyFiles words) = (name ≡ codes "verify") × AsksVerifyFiles rows words
 Asks name rows (requests.Repair words) = (name ≡ codes "repair")
     × (first_of (codes "caps") rows ≡ None) × AsksRepair rows words
 Asks name rows (requests.RepairFiles words) = (name ≡ codes "repair") × AsksRepairFiles rows words
@@ -236,6 +267,8 @@ asks_notes (requests.Get words) = words.verbose
 asks_notes (requests.GetFiles words) = words.verbose
 asks_notes (requests.Check words) = words.verbose
 asks_notes (requests.CheckFiles words) = words.verbose
+asks_notes (requests.Verify words) = words.verbose
+asks_notes (requests.VerifyFiles words) = words.verbose
 asks_notes (requests.Repair words) = words.verbose
 asks_notes (requests.RepairFiles words) = words.verbose
 asks_notes (requests.Scrub words) = words.verbose

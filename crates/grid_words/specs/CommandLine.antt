@@ -1,5 +1,6 @@
--- The command line of `grid`, as `clap` reads it: its commands, and the arguments of each.
-use Rattle.std.specs.Prelude.{true, false, List, [], ◌∷◌, Some, codes}
+-- The command line of `grid`, as `clap` reads it: its commands, and the arguments of each. Where a
+-- grid is known that is meant if no other is written, `--grid` has it as its default.
+use Rattle.std.specs.Prelude.{true, false, List, [], ◌∷◌, Option, None, Some, codes}
 use Rattle.clap.specs.Lexer.{usize_max}
 use Rattle.clap.specs.Simple.{App, Shape, new_rule, new_shape}
 use Rattle.clap.specs.Walk.{Rule, Text}
@@ -31,8 +32,10 @@ number name =
 abbrev pub number_or : Text → Text → Rule
 number_or name default = record (number name) { defaults = default ∷ [] }
 
-abbrev pub grid_folder : Rule
-grid_folder = record (option (codes "grid")) { required = true }
+-- the folder of the grid: it has to be there, or it has a default
+abbrev pub grid_folder : Option Text → Rule
+grid_folder None = record (option (codes "grid")) { required = true }
+grid_folder (Some grid) = record (option (codes "grid")) { defaults = grid ∷ [] }
 
 -- where a folder is served
 abbrev pub listen : Rule
@@ -83,19 +86,23 @@ init_rules = operand (codes "DIR")
     ∷ add
     ∷ flag (codes "adopt")
     ∷ option (codes "secret-file")
+    ∷ number (codes "k")
+    ∷ number (codes "n")
+    ∷ number (codes "happy")
+    ∷ number (codes "segment")
     ∷ verbose
     ∷ []
 
-abbrev pub put_rules : List Rule
-put_rules = files
+abbrev pub put_rules : Option Text → List Rule
+put_rules grid = files
     ∷ files_from
     ∷ option (codes "files0-from")
     ∷ option (codes "since")
-    ∷ grid_folder
-    ∷ number_or (codes "k") (codes "3")
-    ∷ happy
-    ∷ number_or (codes "n") (codes "10")
-    ∷ number_or (codes "segment") (codes "131072")
+    ∷ grid_folder grid
+    ∷ number (codes "k")
+    ∷ number (codes "happy")
+    ∷ number (codes "n")
+    ∷ number (codes "segment")
     ∷ number (codes "servers")
     ∷ option (codes "secret")
     ∷ secret_file
@@ -129,10 +136,10 @@ into = excluding (option (codes "into"))
 abbrev pub overwrite : Rule
 overwrite = excluding (flag (codes "overwrite"))
 
-abbrev pub get_rules : List Rule
-get_rules = one_cap
+abbrev pub get_rules : Option Text → List Rule
+get_rules grid = one_cap
     ∷ chosen
-    ∷ grid_folder
+    ∷ grid_folder grid
     ∷ number_or (codes "from") (codes "0")
     ∷ number (codes "to")
     ∷ output
@@ -145,10 +152,10 @@ get_rules = one_cap
     ∷ verbose
     ∷ []
 
-abbrev pub check_rules : List Rule
-check_rules = one_cap
+abbrev pub check_rules : Option Text → List Rule
+check_rules grid = one_cap
     ∷ chosen
-    ∷ grid_folder
+    ∷ grid_folder grid
     ∷ cap_file
     ∷ caps
     ∷ flag (codes "net")
@@ -158,10 +165,33 @@ check_rules = one_cap
     ∷ verbose
     ∷ []
 
-abbrev pub repair_rules : List Rule
-repair_rules = one_cap
+-- a file that is compared with its cap
+abbrev pub one_file : Rule
+one_file = excluding (new_rule (codes "FILE"))
+
+-- the folder of a grid that keeps the secret: it may be missing
+abbrev pub keeping_grid : Option Text → Rule
+keeping_grid None = option (codes "grid")
+keeping_grid (Some grid) = record (option (codes "grid")) { defaults = grid ∷ [] }
+
+abbrev pub verify_rules : Option Text → List Rule
+verify_rules grid = one_file
+    ∷ one_cap
     ∷ chosen
-    ∷ grid_folder
+    ∷ cap_file
+    ∷ caps
+    ∷ into
+    ∷ number (codes "segment")
+    ∷ option (codes "secret")
+    ∷ secret_file
+    ∷ keeping_grid grid
+    ∷ verbose
+    ∷ []
+
+abbrev pub repair_rules : Option Text → List Rule
+repair_rules grid = one_cap
+    ∷ chosen
+    ∷ grid_folder grid
     ∷ cap_file
     ∷ caps
     ∷ happy
@@ -172,8 +202,8 @@ repair_rules = one_cap
     ∷ verbose
     ∷ []
 
-abbrev pub scrub_rules : List Rule
-scrub_rules = grid_folder
+abbrev pub scrub_rules : Option Text → List Rule
+scrub_rules grid = grid_folder grid
     ∷ flag (codes "set-aside")
     ∷ flag (codes "remove-open")
     ∷ flag (codes "remove-damaged")
@@ -199,20 +229,23 @@ shape name rules = record (new_shape name) { rules = rules }
 abbrev pub init_shape : Shape
 init_shape = shape (codes "init") init_rules
 
-abbrev pub put_shape : Shape
-put_shape = shape (codes "put") put_rules
+abbrev pub put_shape : Option Text → Shape
+put_shape grid = shape (codes "put") (put_rules grid)
 
-abbrev pub get_shape : Shape
-get_shape = shape (codes "get") get_rules
+abbrev pub get_shape : Option Text → Shape
+get_shape grid = shape (codes "get") (get_rules grid)
 
-abbrev pub check_shape : Shape
-check_shape = shape (codes "check") check_rules
+abbrev pub check_shape : Option Text → Shape
+check_shape grid = shape (codes "check") (check_rules grid)
 
-abbrev pub repair_shape : Shape
-repair_shape = shape (codes "repair") repair_rules
+abbrev pub verify_shape : Option Text → Shape
+verify_shape grid = shape (codes "verify") (verify_rules grid)
 
-abbrev pub scrub_shape : Shape
-scrub_shape = shape (codes "scrub") scrub_rules
+abbrev pub repair_shape : Option Text → Shape
+repair_shape grid = shape (codes "repair") (repair_rules grid)
+
+abbrev pub scrub_shape : Option Text → Shape
+scrub_shape grid = shape (codes "scrub") (scrub_rules grid)
 
 abbrev pub serve_shape : Shape
 serve_shape = shape (codes "serve") serve_rules
@@ -235,9 +268,9 @@ grid_shape = record (new_shape (codes "grid")) {
 abbrev pub bare_app : App
 bare_app = record { top = grid_shape; subs = [] }
 
-abbrev pub grid_app : App
-grid_app = record {
+abbrev pub grid_app : Option Text → App
+grid_app grid = record {
   top = record grid_shape { is_leaf = false };
-  subs = init_shape ∷ put_shape ∷ get_shape ∷ check_shape ∷ repair_shape ∷ scrub_shape
-      ∷ serve_shape ∷ world_shape ∷ cap_shape ∷ [];
+  subs = init_shape ∷ put_shape grid ∷ get_shape grid ∷ check_shape grid ∷ verify_shape grid
+      ∷ repair_shape grid ∷ scrub_shape grid ∷ serve_shape ∷ world_shape ∷ cap_shape ∷ [];
 }

@@ -1,6 +1,6 @@
 //! The arguments of the commands.
 
-ghost use Rattle.std.specs.Prelude.{codes, IfOk};
+ghost use Rattle.std.specs.Prelude.{codes, IfOk, option_map};
 ghost use Rattle.clap.specs.Walk.{Rule};
 ghost use Rattle.grid_words.specs.Builds.{HasRule};
 ghost use Rattle.grid_words.specs.CommandLine.{add, excluding, files, files_from, flag};
@@ -78,32 +78,49 @@ pub(crate) fn new_grid<'a>(alloc: Global) -> Arg<'a>
     )
 }
 
-/// The folder of the grid.
-pub(crate) fn grid_folder<'a>(alloc: Global) -> Arg<'a>
-    ensures { HasRule grid_folder result }
+/// The folder of the grid, which has to be there if no grid is meant else. The help does not tell
+/// which one that is.
+pub(crate) fn grid_folder<'a>(alloc: Global, grid: Option<&'a str>) -> Arg<'a>
+    ensures { HasRule (grid_folder (option_map (λ folder. folder.now) grid.entry)) result }
 {
-    option(
+    let folder = option(
         alloc,
         "grid",
         "DIR",
-        "The folder of the grid, which holds a folder for each server",
-    )
-    .required(true)
+        "The folder of the grid, which holds a folder for each server (also with GRID in the \
+environment)",
+    );
+    match grid {
+        Some(grid) => folder.default_value(grid).hide_default_value(true),
+        None => folder.required(true),
+    }
 }
 
 /// How many shares give a file back.
 pub(crate) fn needed<'a>(alloc: Global) -> Arg<'a>
-    ensures { HasRule (number_or (codes "k") (codes "3")) result }
+    ensures { HasRule (number (codes "k")) result }
 {
-    number_or(
+    number(
         alloc,
         "k",
-        "3",
-        "How many shares give the file back, 1 to n",
+        "NUMBER",
+        "How many shares give the file back, 1 to n [default: that of the grid, or 3]",
     )
 }
 
-/// How many servers have to hold a share of their own.
+/// How many servers have to hold a share of their own after a put.
+pub(crate) fn put_happy<'a>(alloc: Global) -> Arg<'a>
+    ensures { HasRule (number (codes "happy")) result }
+{
+    number(
+        alloc,
+        "happy",
+        "NUMBER",
+        "How many servers must hold a share of their own, 1 to n [default: that of the grid, or 7]",
+    )
+}
+
+/// The same after a repair.
 pub(crate) fn happy<'a>(alloc: Global) -> Arg<'a>
     ensures { HasRule happy result }
 {
@@ -117,20 +134,25 @@ pub(crate) fn happy<'a>(alloc: Global) -> Arg<'a>
 
 /// How many shares a file has.
 pub(crate) fn total<'a>(alloc: Global) -> Arg<'a>
-    ensures { HasRule (number_or (codes "n") (codes "10")) result }
+    ensures { HasRule (number (codes "n")) result }
 {
-    number_or(alloc, "n", "10", "How many shares are made, 1 to 256")
+    number(
+        alloc,
+        "n",
+        "NUMBER",
+        "How many shares are made, 1 to 256 [default: that of the grid, or 10]",
+    )
 }
 
 /// The greatest segment of a file.
 pub(crate) fn max_segment<'a>(alloc: Global) -> Arg<'a>
-    ensures { HasRule (number_or (codes "segment") (codes "131072")) result }
+    ensures { HasRule (number (codes "segment")) result }
 {
-    number_or(
+    number(
         alloc,
         "segment",
-        "131072",
-        "The greatest segment in bytes, 1 to 1048576",
+        "NUMBER",
+        "The greatest segment in bytes, 1 to 1048576 [default: that of the grid, or 131072]",
     )
 }
 
@@ -196,9 +218,15 @@ pub(crate) fn add<'a>(alloc: Global) -> Result<Arg<'a>, AllocError>
 fn of_marked_grid<'a>(arg: Arg<'a>) -> Result<Arg<'a>, AllocError>
     ensures { (rule : Rule) → HasRule rule arg.entry → IfOk result (HasRule (excluding rule)) }
 {
-    arg.conflicts_with("adopt")?
-        .conflicts_with("servers")?
-        .conflicts_with("secret-file")
+    arg.conflicts_with_all(&[
+        "adopt",
+        "servers",
+        "secret-file",
+        "k",
+        "n",
+        "happy",
+        "segment",
+    ])
 }
 
 /// Whether a grid gets its mark back from its servers.
@@ -259,7 +287,8 @@ pub(crate) fn secret_file<'a>(alloc: Global) -> Result<Arg<'a>, AllocError>
         alloc,
         "secret-file",
         "FILE",
-        "A file that holds the secret, of at most 64 bytes, in place of --secret",
+        "A file that holds the secret, of at most 64 bytes, in place of --secret (also with \
+GRID_SECRET_FILE in the environment)",
     )
     .conflicts_with("secret")
 }

@@ -30,8 +30,8 @@ pub(crate) fn verify_cap<'a>(alloc: Global) -> Result<Arg<'a>, AllocError>
     )
 }
 
-// A word that is a cap, unless it stands in a file or a catalogue.
-fn one_cap<'a>(alloc: Global, help: &'a str) -> Result<Arg<'a>, AllocError>
+/// A word that is a cap, unless it stands in a file or a catalogue.
+pub(crate) fn one_cap<'a>(alloc: Global, help: &'a str) -> Result<Arg<'a>, AllocError>
     ensures { IfOk result (HasRule one_cap) }
 {
     Arg::new(alloc, "CAP")

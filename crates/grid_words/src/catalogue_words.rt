@@ -51,8 +51,8 @@ pub struct CheckFilesWords<'a> {
     pub verbose: bool,
 }
 
-/// `grid repair --caps CATALOGUE [NAME..] --grid DIR ..`: a number as the user wrote it, in no range
-/// yet.
+/// `grid repair --caps CATALOGUE [NAME..] --grid DIR ..`: a number as the user wrote it, in no
+/// range yet.
 #[derive(Drop)]
 pub struct RepairFilesWords<'a> {
     pub chosen: ChosenWords<'a>,
@@ -177,8 +177,11 @@ fn get_files_words<'a>(
     })
 }
 
-// The names: the first stands where else a cap does.
-fn names_of<'a>(alloc: Global, found: &ArgMatches<'a>) -> Result<Vec<&'a str>, AllocError>
+/// The names: the first stands where else a cap does.
+pub(crate) fn names_of<'a>(
+    alloc: Global,
+    found: &ArgMatches<'a>,
+) -> Result<Vec<&'a str>, AllocError>
     ensures { IfOk result (λ names. map (λ n. n.now) names.items
         ≡ option_to_list (first_of (codes "CAP") (rows_in found.now))
         ++ texts_under (codes "NAME") (rows_in found.now)) }

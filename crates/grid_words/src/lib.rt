@@ -6,11 +6,14 @@ mod arguments;
 mod catalogue_arguments;
 mod catalogue_words;
 mod commands;
+mod verify_arguments;
+mod verify_words;
 mod words;
 
 pub use catalogue_words::{CheckFilesWords, ChosenWords, GetFilesWords, RepairFilesWords};
 pub use commands::VERSION;
+pub use verify_words::{VerifyFilesWords, VerifyWords};
 pub use words::{
-    CheckWords, GetWords, InitWords, ListWords, Marking, PutWords, RepairWords, Request,
-    ScrubWords, SecretWords, ServeWords, read_words,
+    CheckWords, GetWords, InitWords, ListWords, Marking, NumberWords, PutWords, RepairWords,
+    Request, ScrubWords, SecretWords, ServeWords, read_words,
 };

@@ -2,8 +2,8 @@
 
 ghost use Rattle.std.specs.Prelude.{◌≡◌, IfErr, IfOk, codes, map, option_map, true};
 ghost use Rattle.clap.specs.Words.{first_of, kind_of, one_of, subcommand_of, takes};
-ghost use Rattle.grid_words.specs.Asked.{Asks, AsksCheck, AsksGet, AsksInit, AsksPut, AsksRepair};
-ghost use Rattle.grid_words.specs.Asked.{AsksScrub, AsksServe, IsAsked, IsFlag, IsList};
+ghost use Rattle.grid_words.specs.Asked.{Asks, AsksCheck, AsksGet, AsksInit, AsksNumbers, AsksPut};
+ghost use Rattle.grid_words.specs.Asked.{AsksRepair, AsksScrub, AsksServe, IsAsked, IsFlag, IsList};
 ghost use Rattle.grid_words.specs.Asked.{IsMarking, IsSecret, asks_notes, number_under, rows_in};
 ghost use Rattle.grid_words.specs.Asked.{text_under, texts_under, wants_known};
 ghost use Rattle.grid_words.specs.CommandLine.{grid_app};
@@ -12,6 +12,7 @@ use crate::catalogue_words::{
     CheckFilesWords, GetFilesWords, RepairFilesWords, check_request, get_request, repair_request,
 };
 use crate::commands::grid_command;
+use crate::verify_words::{VerifyFilesWords, VerifyWords, verify_request};
 use clap::error::ErrorKind;
 use clap::{ArgMatches, Error};
 use std::alloc::{AllocError, Global};
@@ -26,6 +27,8 @@ pub enum Request<'a> {
     GetFiles(GetFilesWords<'a>),
     Check(CheckWords<'a>),
     CheckFiles(CheckFilesWords<'a>),
+    Verify(VerifyWords<'a>),
+    VerifyFiles(VerifyFilesWords<'a>),
     Repair(RepairWords<'a>),
     RepairFiles(RepairFilesWords<'a>),
     Scrub(ScrubWords<'a>),
@@ -48,6 +51,8 @@ impl<'a> Request<'a> {
             Request::GetFiles(words) => words.verbose,
             Request::Check(words) => words.verbose,
             Request::CheckFiles(words) => words.verbose,
+            Request::Verify(words) => words.verbose,
+            Request::VerifyFiles(words) => words.verbose,
             Request::Repair(words) => words.verbose,
             Request::RepairFiles(words) => words.verbose,
             Request::Scrub(words) => words.verbose,
@@ -70,13 +75,14 @@ impl<'a> Request<'a> {
             Request::RepairFiles(words) => words.known,
             Request::Scrub(words) => words.known,
             Request::Init(_) | Request::Serve(_) => false,
+            Request::Verify(_) | Request::VerifyFiles(_) => false,
             Request::World(_) | Request::Describe(_) => false,
         }
     }
 }
 
 /// The secret that a file's key depends on, as the user wrote it, of any length yet.
-#[derive(Drop)]
+#[derive(Clone, Copy)]
 pub enum SecretWords<'a> {
     /// Neither was written.
     Unsaid,
@@ -99,6 +105,19 @@ pub enum Marking {
     Adopt(Option<u64>),
 }
 
+/// The numbers by which files are put: those that the user wrote, in no range yet.
+#[derive(Clone, Copy)]
+pub struct NumberWords {
+    /// `--k NUMBER`.
+    pub needed: Option<u64>,
+    /// `--happy NUMBER`.
+    pub happy: Option<u64>,
+    /// `--n NUMBER`.
+    pub total: Option<u64>,
+    /// `--segment NUMBER`, in bytes.
+    pub max_segment: Option<u64>,
+}
+
 /// `grid init DIR ..`.
 #[derive(Drop)]
 pub struct InitWords<'a> {
@@ -108,11 +127,13 @@ pub struct InitWords<'a> {
     pub elsewhere: Vec<&'a str>,
     /// The path of a file that holds the secret that the grid keeps, or `new`.
     pub secret_file: Option<&'a str>,
+    /// The numbers that the grid keeps for its puts.
+    pub ways: NumberWords,
     pub verbose: bool,
 }
 
 /// A list of names of files.
-#[derive(Drop)]
+#[derive(Clone, Copy)]
 pub enum ListWords<'a> {
     /// None was written.
     Unsaid,
@@ -132,10 +153,7 @@ pub struct PutWords<'a> {
     pub since: Option<&'a str>,
     pub grid: &'a str,
     pub secret: SecretWords<'a>,
-    pub needed: u64,
-    pub happy: u64,
-    pub total: u64,
-    pub max_segment: u64,
+    pub numbers: NumberWords,
     pub servers: Option<u64>,
     pub net: bool,
     pub no_sync: bool,
@@ -218,15 +236,21 @@ pub struct ServeWords<'a> {
     pub verbose: bool,
 }
 
-/// Reads the words of a command line, of which the first is the program's name. An `Err` holds
-/// `clap`'s text, of help and of the version too. Words that `clap` takes fail only for want of
-/// memory.
-pub fn read_words<'a, S: AsStr>(alloc: Global, words: &'a [S]) -> Result<Request<'a>, Error>
-    ensures asked { IfOk result (IsAsked (subcommand_of grid_app (map S.text words.entry.now))) }
-    ensures passes { IfErr result (λ e. takes grid_app (map S.text words.entry.now) ≡ true
-        → kind_of e ≡ ErrorKind.OutOfMemory) }
+/// Reads the words of a command line, of which the first is the program's name. The grid is meant
+/// where no word names one; where none is given, a word has to name it. An `Err` holds `clap`'s
+/// text, of help and of the version too. Words that `clap` takes fail only for want of memory.
+pub fn read_words<'a, S: AsStr>(
+    alloc: Global,
+    grid: Option<&'a str>,
+    words: &'a [S],
+) -> Result<Request<'a>, Error>
+    ensures asked { IfOk result (IsAsked (subcommand_of
+        (grid_app (option_map (λ folder. folder.now) grid.entry)) (map S.text words.entry.now))) }
+    ensures passes { IfErr result (λ e. takes
+        (grid_app (option_map (λ folder. folder.now) grid.entry)) (map S.text words.entry.now)
+        ≡ true → kind_of e ≡ ErrorKind.OutOfMemory) }
 {
-    let command = grid_command(alloc)?;
+    let command = grid_command(alloc, grid)?;
     let matches = command.try_get_matches_from(words)?;
     match matches.subcommand() {
         Some((name, found)) => Ok(request_of(alloc, name, found)?),
@@ -248,6 +272,7 @@ fn request_of<'a>(
         "put" => Request::Put(put_words(alloc, found)?),
         "get" => get_request(alloc, found)?,
         "check" => check_request(alloc, found)?,
+        "verify" => verify_request(alloc, found)?,
         "repair" => repair_request(alloc, found)?,
         "scrub" => Request::Scrub(scrub_words(found)),
         "serve" => Request::Serve(serve_words(found)),
@@ -265,6 +290,7 @@ fn init_words<'a>(alloc: Global, found: &ArgMatches<'a>) -> Result<InitWords<'a>
         marking: marking_of(found),
         elsewhere: texts_of(alloc, found, "server")?,
         secret_file: found_text(found, "secret-file"),
+        ways: number_words(found),
         verbose: is_set(found, "verbose"),
     })
 }
@@ -291,10 +317,7 @@ fn put_words<'a>(alloc: Global, found: &ArgMatches<'a>) -> Result<PutWords<'a>, 
         since: found_text(found, "since"),
         grid: text_of(found, "grid"),
         secret: secret_words(found),
-        needed: number_of(found, "k").unwrap_or(0),
-        happy: number_of(found, "happy").unwrap_or(0),
-        total: number_of(found, "n").unwrap_or(0),
-        max_segment: number_of(found, "segment").unwrap_or(0),
+        numbers: number_words(found),
         servers: number_of(found, "servers"),
         net: is_set(found, "net"),
         no_sync: is_set(found, "no-sync"),
@@ -303,6 +326,17 @@ fn put_words<'a>(alloc: Global, found: &ArgMatches<'a>) -> Result<PutWords<'a>, 
         known: is_set(found, "known"),
         verbose: is_set(found, "verbose"),
     })
+}
+
+fn number_words(found: &ArgMatches<'_>) -> NumberWords
+    ensures { AsksNumbers (rows_in found.now) result }
+{
+    NumberWords {
+        needed: number_of(found, "k"),
+        happy: number_of(found, "happy"),
+        total: number_of(found, "n"),
+        max_segment: number_of(found, "segment"),
+    }
 }
 
 // The two kinds of lists exclude each other.
@@ -319,8 +353,8 @@ fn list_words<'a>(found: &ArgMatches<'a>) -> ListWords<'a>
     }
 }
 
-// The two ways to name a secret exclude each other.
-fn secret_words<'a>(found: &ArgMatches<'a>) -> SecretWords<'a>
+/// The two ways to name a secret exclude each other.
+pub(crate) fn secret_words<'a>(found: &ArgMatches<'a>) -> SecretWords<'a>
     ensures { IsSecret (rows_in found.now) result }
 {
     match (

@@ -1,4 +1,3 @@
-use Rattle.grid_words.specs.CommandLine.{excluding}
 use Rattle.grid_words.proofs.Added.{requiring}
 use Rattle.grid_words.proofs.catalogue_arguments.caps.Goals as goal
 
