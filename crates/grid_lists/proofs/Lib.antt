@@ -1,2 +1,3 @@
+mod AskedLemmas
 mod ListLemmas
 pub mod GetLemmas

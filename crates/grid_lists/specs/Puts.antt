@@ -15,7 +15,8 @@ use Rattle.grid_faults.specs.Fault.{fault_status}
 use Rattle.grid_faults.specs.declared.fault.Fault.{Fault}
 use Rattle.grid_lists.specs.Since.{IsKeptSince, IsSince}
 use Rattle.grid_lists.specs.Statuses.{status_after, unread_status}
-use Rattle.grid_shares.specs.Puts.{IsPutAlone, IsPutBy, put_status}
+use Rattle.grid_shares.specs.KeptWays.{IsAskedBy}
+use Rattle.grid_shares.specs.Puts.{IsPutAlone, IsPutBy, numbers_of, put_status}
 use Rattle.grid_shares.specs.declared.Outcome.{Outcome}
 use Rattle.grid_shares.specs.declared.putting.PutFile.{PutFile}
 use Rattle.grid_servers.specs.Grids.{GridCalls}
@@ -83,9 +84,9 @@ pub record AreListed {F S : Type 0} (gives : Opened F → ℕ → List ℕ → O
 -- how the files are encoded that these words store
 abbrev pub numbers_by : PutWords → Numbers
 numbers_by words = record {
-  needed = words.needed;
-  total = words.total;
-  segment_size = words.max_segment;
+  needed = (numbers_of words).needed;
+  total = (numbers_of words).total;
+  segment_size = (numbers_of words).max_segment;
 }
 
 -- the first line of the catalogue of these words and a secret
@@ -164,6 +165,14 @@ pub data IsPutDone {F S : Type 0} (gives : Opened F → ℕ → List ℕ → Ope
       → IsPutDone gives calls words status before after
   many : is_one words ≡ false → IsPutMany gives calls words status before after
       → IsPutDone gives calls words status before after
+
+-- What a put writes that takes the ways of its grid where its words write no numbers.
+pub record IsPutByWays {F S : Type 0} (gives : Opened F → ℕ → List ℕ → Opened F → Type 0)
+    (calls : GridCalls S) (words : PutWords) (status : ℕ) (before after : Option (List ℕ))
+    : Type 0 where
+  pub asked : PutWords
+  pub is : IsAskedBy words asked
+  pub done : IsPutDone gives calls asked status before after
 
 -- Where it has no result, nothing was written of one file, unless it was `out` that failed; of many
 -- their catalogue may have been begun.

@@ -12,7 +12,7 @@ use std::rt::Files;
 use user_files::{at_path, folder_before, sync_folder};
 
 /// A name as a text. A fault of its file where it is no UTF-8: the system is asked for none.
-pub(crate) fn text_of(alloc: Global, name: &[u8]) -> Result<&str, Fault>
+pub fn text_of(alloc: Global, name: &[u8]) -> Result<&str, Fault>
     ensures { IfOk result (λ text. text.now ≡ name.entry.now) }
 {
     match str::from_utf8(name) {
@@ -22,7 +22,7 @@ pub(crate) fn text_of(alloc: Global, name: &[u8]) -> Result<&str, Fault>
 }
 
 /// The path of a file below a folder.
-pub(crate) fn path_in(alloc: Global, folder: &str, name: &str) -> Result<String, AllocError>
+pub fn path_in(alloc: Global, folder: &str, name: &str) -> Result<String, AllocError>
     ensures { IfOk result
         (λ path. string_bytes path ≡ folder.now ++ (codes "/" ++ name.now)) }
 {

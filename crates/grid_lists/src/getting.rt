@@ -15,7 +15,7 @@ use crate::listed::{tell_misnamed, tell_refused, tell_unfound, tell_unread};
 use crate::names::read_text;
 use crate::statuses::{DONE, UNREAD, status_after};
 use cap_text::Cap;
-use catalogues::{Catalogue, Line, chooses, name_below};
+use catalogues::{Catalogue, Line, chooses, entry_count, name_below};
 use grid_faults::Fault;
 use grid_gets::{NamedFiles, OpenGrid, Place, get_file};
 use grid_marks::{is_grid, known_grid};
@@ -54,12 +54,25 @@ where
     match Catalogue::open(&text) {
         Ok(catalogue) => {
             begin(rt, words, words.known || environment.known)?;
+            begin_entries(&text, progress);
             Ok(get_lines(rt, words, catalogue, files, progress)?)
         }
         Err(error) => {
             tell_unread(rt.alloc(), error, progress)?;
             Ok(UNREAD)
         }
+    }
+}
+
+/// The files of a catalogue are done from now on, whose number is told as they are. Nothing is told
+/// of all of them where one of its lines is none.
+pub fn begin_entries<R, E>(text: &[u8], progress: &mut Progress<'_, R, E>)
+where
+    R: Clock + AllocGlobal,
+    E: Write + IsTerminal,
+{
+    if let Ok(count) = entry_count(text) {
+        progress.begin_files(count);
     }
 }
 
@@ -109,6 +122,7 @@ where
             Ok(Some(line)) => {
                 let came = get_line(rt, words, line, &mut kept, files, progress)?;
                 tally = tally.after(came);
+                progress.end_file();
             }
             Ok(None) => return Ok(end(words, tally, progress)),
             Err(error) => {

@@ -12,8 +12,11 @@ mod putting;
 mod since;
 mod statuses;
 
-pub use getting::{find_grid, get_files};
-pub use listed::{tell_refused, tell_unfound, tell_unread};
+pub use below::{path_in, text_of};
+pub use getting::{begin_entries, find_grid, get_files};
+pub use listed::{
+    may_be_listed, path_of, tell_misnamed, tell_named, tell_refused, tell_unfound, tell_unread,
+};
 pub use names::read_text;
 pub use putting::put;
 pub use statuses::{DONE, UNREAD};

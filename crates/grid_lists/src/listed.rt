@@ -25,7 +25,7 @@ const NAMED_SO: &str = "./-";
 /// The path at which the system has the file of a name, which `-` is as any other unless it may
 /// stand for standard input. A fault of the file where the name is empty, has a NUL or is no UTF-8:
 /// the system is asked for none of these.
-pub(crate) fn path_of(alloc: Global, name: &[u8], has_input: bool) -> Result<String, Fault>
+pub fn path_of(alloc: Global, name: &[u8], has_input: bool) -> Result<String, Fault>
     ensures { IfOk result (λ _. IsName name.now) }
 {
     if !is_name(name) {
@@ -45,7 +45,7 @@ pub(crate) fn path_of(alloc: Global, name: &[u8], has_input: bool) -> Result<Str
 
 /// Refuses what a list names and is no regular file: a folder has no bytes, and a pipe may have a
 /// writer that never comes.
-pub(crate) fn may_be_listed<R: Files + AllocGlobal>(rt: &R, path: &str) -> Result<(), Fault> {
+pub fn may_be_listed<R: Files + AllocGlobal>(rt: &R, path: &str) -> Result<(), Fault> {
     at_path(rt.alloc(), is_regular(rt, path), path)
 }
 
@@ -137,7 +137,7 @@ where
 }
 
 /// Tells a name that leads to no file below a folder.
-pub(crate) fn tell_misnamed<R, E>(
+pub fn tell_misnamed<R, E>(
     alloc: Global,
     name: &[u8],
     error: CatalogueError,
@@ -149,6 +149,23 @@ where
 {
     let name = told_name(alloc, name)?;
     let line = format!(in alloc; "grid: {} {error} ({name})\n", error.number())?;
+    progress.tell(line.as_str());
+    Ok(())
+}
+
+/// Tells something of a file, with its name.
+pub fn tell_named<R, E>(
+    alloc: Global,
+    name: &[u8],
+    words: &str,
+    progress: &mut Progress<'_, R, E>,
+) -> Result<(), AllocError>
+where
+    R: Clock + AllocGlobal,
+    E: Write + IsTerminal,
+{
+    let name = told_name(alloc, name)?;
+    let line = format!(in alloc; "{words} ({name})\n")?;
     progress.tell(line.as_str());
     Ok(())
 }

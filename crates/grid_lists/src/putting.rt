@@ -13,7 +13,7 @@ ghost use Rattle.grid_shares.specs.Puts.{AreChoicesBy, IsPutBy, put_status, said
 ghost use Rattle.grid_shares.specs.Standing.{WereOpened};
 ghost use Rattle.grid_lists.specs.Ends.{IsListed};
 ghost use Rattle.grid_lists.specs.Puts.{AreListed, IsHeadBy, IsPutDone, IsPutMany, IsPutOne};
-ghost use Rattle.grid_lists.specs.Puts.{IsPutUndone, is_one, is_unsaid};
+ghost use Rattle.grid_lists.specs.Puts.{IsPutByWays, IsPutUndone, is_one, is_unsaid};
 ghost use Rattle.grid_lists.specs.Since.{IsSince};
 
 use crate::beginning::{Begun, begin_list, input_twice};
@@ -24,7 +24,7 @@ use crate::statuses::{DONE, UNREAD, status_after};
 use cap_text::Cap;
 use catalogues::{CatalogueError, Head, Known};
 use grid_faults::Fault;
-use grid_shares::{Choices, Environment, OpenGrid, PutFile, put_file, read_choices};
+use grid_shares::{Choices, Environment, OpenGrid, PutFile, put_file, read_choices, words_by_ways};
 use grid_telling::{Failure, Progress, print};
 use grid_words::{ListWords, PutWords};
 use std::alloc::{AllocError, Global};
@@ -51,7 +51,34 @@ struct Storing<'a> {
 /// the earlier one has for a file is kept, and the file is not read, where it has not changed since
 /// that one was begun; where its text is none, nothing is written. A file that is refused is told,
 /// with its name, and the others go on; the status is the first that is not 0.
+///
+/// Numbers that the words do not write are those of the grid's ways, or else the usual ones. A
+/// fault of these ways (`grid_ways`) comes before all others.
 pub fn put<R, O, E>(
+    rt: &R,
+    words: &PutWords<'_>,
+    environment: &Environment<'_>,
+    out: &mut O,
+    progress: &mut Progress<'_, R, E>,
+) -> Result<u8, Failure>
+where
+    R: Files + io::Input + Net + Clock + RandomSource + Locks + AllocGlobal + Clone + Drop,
+    O: Write,
+    E: Write + IsTerminal,
+    ensures done { IfOk result (λ status. IsPutByWays (GivesOpened R.File.stream_position
+        R.File.stream_bytes R.File.remaining) (grid_calls R.Stream.contents R.Stream.remaining)
+        words.now status (O.contents out.old) (O.contents out.new)) }
+    ensures undone { IfErr result (λ failure. IsPutUndone (is_one words.now) failure
+        (O.contents out.old) (O.contents out.new)) }
+{
+    match words_by_ways(rt, words) {
+        Ok(asked) => put_asked(rt, &asked, environment, out, progress),
+        Err(fault) => Err(Failure::Fault(fault)),
+    }
+}
+
+// Stores the files of words that have the numbers of the grid's ways.
+fn put_asked<R, O, E>(
     rt: &R,
     words: &PutWords<'_>,
     environment: &Environment<'_>,
@@ -135,7 +162,7 @@ where
         R.File.stream_bytes R.File.remaining) (grid_calls R.Stream.contents R.Stream.remaining)
         words.now status (O.contents out.old) (O.contents out.new)) }
 {
-    let choices = read_choices(rt, words, progress)?;
+    let choices = read_choices(rt, words, environment, progress)?;
     if let Some(told) = input_twice(words) {
         progress.tell(told);
         return Err(Failure::Fault(Fault::BadParameters));
@@ -270,6 +297,7 @@ where
         (O.contents out.old) (O.contents out.new)) }
 {
     let mut kept = None;
+    progress.begin_files((files.len() as u64).saturating_add(names.len() as u64));
     let status = put_names(rt, storing, files, true, DONE, &mut kept, out, progress)?;
     put_names(rt, storing, names, false, status, &mut kept, out, progress)
 }
@@ -305,6 +333,7 @@ where
     for name in names {
         let own = put_name(rt, storing, *name, has_input, kept, out, progress)?;
         status = status_after(status, own);
+        progress.end_file();
     }
     Ok(status)
 }

@@ -1,4 +1,5 @@
 -- what public contracts rest on
+pub mod KeptWays
 pub mod Ways
 pub mod Standing
 pub mod Placing

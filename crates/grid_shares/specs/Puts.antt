@@ -1,6 +1,8 @@
 -- What a put tells.
 use Rattle.std.specs.Prelude.{◌≡◌, ℕ, ◌<◌, ◌≤◌, List, [], ◌++◌, Bool, if◌then◌else◌, codes, decimal}
-use Rattle.std.specs.Prelude.{IfSome, None, Option, Some, false, length, option_map}
+use Rattle.std.specs.Prelude.{IfSome, IsSome, None, Option, Some, false, length, option_map}
+use Rattle.std.specs.Prelude.{unwrap_or}
+use Rattle.std.specs.Borrow.{Bor}
 use Rattle.std.specs.Option.{option_map_or}
 use Rattle.std.specs.List.{range_with_len}
 use Rattle.cap_text.specs.Cap.{ReadCapValue}
@@ -20,7 +22,10 @@ use Rattle.upload_core.specs.Pieces.{piece_of}
 use Rattle.upload_core.specs.Ready.{Ready}
 use Rattle.upload_core.specs.Sending.{Uploading}
 use Rattle.grid_servers.specs.Grids.{GridCalls}
+use Rattle.grid_words.specs.declared.words.NumberWords.{NumberWords}
 use Rattle.grid_words.specs.declared.words.PutWords.{PutWords}
+use Rattle.grid_words.specs.declared.words.SecretWords.{SecretWords}
+use Rattle.grid_words.specs.declared.words.SecretWords.TheVariants as secrets
 use Rattle.grid_shares.specs.Placing.{ArePlaced}
 use Rattle.grid_shares.specs.declared.Outcome.{Outcome}
 use Rattle.grid_shares.specs.declared.numbers.Choices.{Choices}
@@ -78,18 +83,30 @@ streamed_calls gives failures = upload_calls
     (λ s share offset bytes after. GaveBytes gives s share offset bytes after)
     (λ s share offset len fault after. GaveNone gives failures s fault after)
 
+-- the numbers that are written, and the usual ones in place of those that are not
+abbrev pub meant_numbers : NumberWords → UploadParameters
+meant_numbers words = record {
+  needed = unwrap_or words.needed 3;
+  happy = unwrap_or words.happy 7;
+  total = unwrap_or words.total 10;
+  max_segment = unwrap_or words.max_segment 131072;
+}
+
 -- the numbers of these words
 abbrev pub numbers_of : PutWords → UploadParameters
-numbers_of words = record {
-  needed = words.needed;
-  happy = words.happy;
-  total = words.total;
-  max_segment = words.max_segment;
-}
+numbers_of words = meant_numbers words.numbers
 
 -- the secret that is said, where one is
 abbrev pub said_by : Choices → Option (List ℕ)
 said_by choices = option_map (λ s. s.items) choices.said
+
+-- The secret that words say, or a file that is named where they say none. Which one a file has is
+-- what the system says.
+abbrev pub IsSaidBy : SecretWords → Option (Bor (List ℕ)) → Option (List ℕ) → Type 0
+IsSaidBy secrets.Unsaid None said = said ≡ None
+IsSaidBy secrets.Unsaid (Some path) said = IsSome said
+IsSaidBy (secrets.Text text) file said = said ≡ Some text.now
+IsSaidBy (secrets.File path) file said = IsSome said
 
 -- The numbers of a put are those of its words, and the secret that is said is one.
 pub record AreChoicesBy (words : PutWords) (choices : Choices) : Type 0 where
@@ -118,7 +135,7 @@ pub data IsPutBy {F N : Type 0} (gives : Opened F → ℕ → List ℕ → Opene
       → IsPreparedFrom gives source.size source secret (parameters_of (numbers_of words))
       stream.kept stream.source
       → IsPutOf (streamed_calls gives (λ s. s.failures)) calls words.grid.now kept words.mend
-      (ready_stream stream words.happy) stream.kept.cap put
+      (ready_stream stream (numbers_of words).happy) stream.kept.cap put
       → IsPutBy gives calls words said kept put
 
 -- It is told as these words ask, where it is the only file, and no server was kept open for it.

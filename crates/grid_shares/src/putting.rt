@@ -98,7 +98,7 @@ where
     ensures { IfOk result (IsPutAlone (GivesOpened R.File.stream_position R.File.stream_bytes
         R.File.remaining) (grid_calls R.Stream.contents R.Stream.remaining) words.now) }
 {
-    let choices = read_choices(rt, words, progress)?;
+    let choices = read_choices(rt, words, environment, progress)?;
     let mut kept = None;
     let file = put_file(rt, words, &choices, path, environment, &mut kept, progress)?;
     let text = lines_of(rt.alloc(), &file, words.quiet)?;
