@@ -1,1 +1,2 @@
 mod LookLemmas
+mod VerifyLemmas

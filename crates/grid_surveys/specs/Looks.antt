@@ -16,7 +16,7 @@ use Rattle.grid_faults.specs.Fault.{fault_status}
 use Rattle.grid_faults.specs.declared.fault.Fault.{Fault}
 use Rattle.grid_faults.specs.declared.fault.Fault.TheVariants as faults
 use Rattle.grid_rules.specs.ReportJson.{bool_json}
-use Rattle.grid_rules.specs.ReportLines.{report_status, word_of}
+use Rattle.grid_rules.specs.ReportLines.{report_status, report_words}
 use Rattle.grid_servers.specs.Grids.{GridCalls}
 use Rattle.grid_shares.specs.Puts.{stored_status}
 use Rattle.grid_shares.specs.declared.placing.Stored.{Stored}
@@ -83,12 +83,7 @@ seen_status task (seens.Repaired stored) = stored_status stored.is_cleared
 
 -- ---- its line
 
--- the last line of what is told of the file alone, without its end
-abbrev pub report_words : Report → List ℕ
-report_words r = codes "healthy " ++ (word_of r.healthy
-    ++ (codes " recoverable " ++ (word_of r.recoverable
-    ++ (codes " happiness " ++ decimal r.happiness))))
-
+-- what is told of it to people
 abbrev pub seen_words : Seen → List ℕ
 seen_words seens.Literal = codes "literal"
 seen_words (seens.Checked r) = report_words r
@@ -102,8 +97,8 @@ hex_digit n = if nat_lt n 10 then 48 + n else 87 + n
 abbrev pub hex_digits : ℕ → List ℕ
 hex_digits c = hex_digit (c / 16) ∷ hex_digit (c % 16) ∷ []
 
--- A byte of a name in a string of JSON. Quotes, backslashes and control characters are escaped. Of a
--- name that is no UTF-8 each byte from 128 on is a lone surrogate, as Python has it in names of
+-- A byte of a name in a string of JSON. Quotes, backslashes and control characters are escaped. Of
+-- a name that is no UTF-8 each byte from 128 on is a lone surrogate, as Python has it in names of
 -- files.
 abbrev pub json_byte : Bool → ℕ → List ℕ
 json_byte odd c =

@@ -16,7 +16,9 @@ use crate::told::{counts_line, seen_line};
 use cap_text::Cap;
 use catalogues::{Catalogue, Line, chooses};
 use grid_faults::Fault;
-use grid_lists::{DONE, UNREAD, find_grid, read_text, tell_refused, tell_unfound, tell_unread};
+use grid_lists::{
+    DONE, UNREAD, begin_entries, find_grid, read_text, tell_refused, tell_unfound, tell_unread,
+};
 use grid_repairs::{OpenGrid, Place, Repairing, check_file, may_repair, repair_file};
 use grid_shares::Environment;
 use grid_telling::{Failure, Progress, print};
@@ -114,6 +116,7 @@ where
     match Catalogue::open(text) {
         Ok(catalogue) => {
             find_grid(rt, looking.look.grid(), looking.is_known)?;
+            begin_entries(text, progress);
             look_lines(rt, looking, catalogue, out, progress)
         }
         Err(error) => {
@@ -147,6 +150,7 @@ where
             Ok(Some(line)) => {
                 let came = look_line(rt, looking, line, &mut reading, &mut writing, out, progress)?;
                 tally = tally.after(came);
+                progress.end_file();
             }
             Ok(None) => return end(rt.alloc(), looking.look, tally, out, progress),
             Err(error) => {

@@ -3,14 +3,14 @@
 ghost use Rattle.std.specs.Prelude.{◌≡◌, IfOk, true};
 ghost use Rattle.std.specs.String.{string_bytes};
 ghost use Rattle.grid_surveys.specs.LookEnds.{task_of};
-ghost use Rattle.grid_surveys.specs.Looks.{IsLine, counts_text, named_json, report_json};
-ghost use Rattle.grid_surveys.specs.Looks.{report_words, seen_json, seen_words};
+ghost use Rattle.grid_surveys.specs.Looks.{IsLine, counts_text, named_json, report_json, seen_json};
+ghost use Rattle.grid_surveys.specs.Looks.{seen_words};
 
 use crate::objects::json_name;
 use crate::seen::{Counts, Look, Seen};
 use catalogues::named_line;
 use checker::status::Report;
-use grid_rules::{bool_json, word_of};
+use grid_rules::{bool_json, report_words};
 use std::alloc::{AllocError, Global};
 
 /// The line of a file, or its object.
@@ -58,15 +58,6 @@ fn seen_words(alloc: Global, seen: &Seen) -> Result<String, AllocError>
         Seen::Checked(report) => report_words(alloc, report),
         Seen::Repaired(stored) => format!(in alloc; "happiness {}", stored.happiness),
     }
-}
-
-// The last line of a report, without its end.
-fn report_words(alloc: Global, report: &Report) -> Result<String, AllocError>
-    ensures { IfOk result (λ text. string_bytes text ≡ report_words report.now) }
-{
-    let (healthy, recoverable) = (word_of(report.healthy), word_of(report.recoverable));
-    let happiness = report.happiness;
-    format!(in alloc; "healthy {healthy} recoverable {recoverable} happiness {happiness}")
 }
 
 // What is told of a file to programs, behind its name.
