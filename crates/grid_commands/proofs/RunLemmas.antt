@@ -1,5 +1,6 @@
 -- How each command ends.
 use Rattle.std.proofs.Common.{true≢false, ◌≡◌, ℕ, List, Option, None, Some, Result, Ok, Err, IfOk, IfErr, IfSome, Vec, Global, refl, ap, inl, sym, subst, ◌∙◌}
+use Rattle.std.proofs.lemmas.Result.{IfOk-weaker}
 use Rattle.std.specs.Prelude.{◌⊎◌, IsErr, IsOkAnd, ⊤}
 use Rattle.std.specs.Borrow.{Bor}
 use Rattle.std.specs.Io.KnownBytes.{Appends}
@@ -14,7 +15,8 @@ use Rattle.grid_gets.specs.Gets.{IsBegunBy, IsGotBy, UnlessWriter, refused}
 use Rattle.grid_rules.specs.Ending.{world_status}
 use Rattle.grid_lists.specs.Gets.{IsGetFiles}
 use Rattle.grid_surveys.specs.Looks.{IsLookDone, IsLookUndone, checking, repairing}
-use Rattle.grid_lists.specs.Puts.{IsPutDone, IsPutUndone, is_one}
+use Rattle.grid_surveys.specs.Verifies.{IsVerifyDone}
+use Rattle.grid_lists.specs.Puts.{IsPutByWays, IsPutUndone, is_one}
 use Rattle.grid_shares.specs.declared.Outcome.{Outcome}
 use Rattle.grid_servers.specs.Grids.{GridCalls}
 use Rattle.grid_faults.specs.declared.fault.Fault.TheVariants as faults
@@ -23,6 +25,8 @@ use Rattle.grid_telling.specs.declared.outcome.Failure.TheVariants as failures
 use Rattle.grid_words.specs.declared.catalogue_words.CheckFilesWords.{CheckFilesWords}
 use Rattle.grid_words.specs.declared.catalogue_words.GetFilesWords.{GetFilesWords}
 use Rattle.grid_words.specs.declared.catalogue_words.RepairFilesWords.{RepairFilesWords}
+use Rattle.grid_words.specs.declared.verify_words.VerifyFilesWords.{VerifyFilesWords}
+use Rattle.grid_words.specs.declared.verify_words.VerifyWords.{VerifyWords}
 use Rattle.grid_words.specs.declared.words.CheckWords.{CheckWords}
 use Rattle.grid_words.specs.declared.words.GetWords.{GetWords}
 use Rattle.grid_words.specs.declared.words.InitWords.{InitWords}
@@ -30,9 +34,9 @@ use Rattle.grid_words.specs.declared.words.PutWords.{PutWords}
 use Rattle.grid_words.specs.declared.words.RepairWords.{RepairWords}
 use Rattle.grid_words.specs.declared.words.ScrubWords.{ScrubWords}
 use Rattle.grid_words.specs.declared.words.Request.{Request}
-use Rattle.grid_words.specs.declared.words.Request.TheVariants.{Init, Put, Get, GetFiles, Check, CheckFiles, Repair, RepairFiles, Scrub, World, Describe}
-use Rattle.grid_commands.specs.CapFiles.{IsCheckAsked, IsGetAsked, IsRepairAsked}
-use Rattle.grid_commands.specs.Commands.{AreCapLines, AreFiled, AreGetFiled, ArePrinted, IsCheckFor, IsDone, IsGetBegun, IsGetFiled, IsGetFiledOf, IsGetLeft, IsGetOf, IsGotTo, IsRepairFor, IsRunBy, IsUndone, IsUnwritten, IsWorld, IsWrittenOf}
+use Rattle.grid_words.specs.declared.words.Request.TheVariants.{Init, Put, Get, GetFiles, Check, CheckFiles, Verify, VerifyFiles, Repair, RepairFiles, Scrub, World, Describe}
+use Rattle.grid_commands.specs.CapFiles.{IsCheckAsked, IsGetAsked, IsRepairAsked, IsVerifyAsked}
+use Rattle.grid_commands.specs.Commands.{AreCapLines, AreFiled, AreGetFiled, ArePrinted, AreVerifiedFor, IsCheckFor, IsDone, IsGetBegun, IsGetFiled, IsGetFiledOf, IsGetLeft, IsGetOf, IsGotTo, IsRepairFor, IsRunBy, IsUndone, IsUnwritten, IsVerifyFor, IsWorld, IsWrittenOf}
 use Rattle.grid_commands.specs.Inits.{IsInitBy}
 use Rattle.grid_commands.specs.Scrubs.{IsScrub}
 use Rattle.grid_commands.specs.Texts.{IsEndOf}
@@ -54,6 +58,12 @@ pub repair_asked : (words asked : RepairWords) (cap : Bor (List ℕ)) (text : Li
 repair_asked words asked cap text is same own = record {
   others = is ∙ ap (λ (c : Bor (List ℕ)). record words { cap = c }) (sym (ap (λ (w : RepairWords). w.cap) is));
   own = λ none. ap (λ (w : RepairWords). w.cap.now) is ∙ same ∙ own none;
+}
+
+pub verify_asked : (words asked : VerifyWords) (cap : Bor (List ℕ)) (text : List ℕ) → asked ≡ record words { cap = cap } → cap.now ≡ text → (words.cap_file ≡ None → text ≡ words.cap.now) → IsVerifyAsked words asked
+verify_asked words asked cap text is same own = record {
+  others = is ∙ ap (λ (c : Bor (List ℕ)). record words { cap = c }) (sym (ap (λ (w : VerifyWords). w.cap) is));
+  own = λ none. ap (λ (w : VerifyWords). w.cap.now) is ∙ same ∙ own none;
 }
 
 -- what a get with that cap left, and did with its file
@@ -168,7 +178,7 @@ module _ {F S : Type 0} (gives : Opened F → ℕ → List ℕ → Opened F → 
         → IfOk r (λ status. IsOkAnd came (λ told. (status ≡ 0) × Appends before after told.items)) → IfErr r (λ failure. IsUnwritten failure before after) → IsRunBy gives calls request r before after old new
     init_run words came is of done undone = by_request (Init words) is (lines_written (IsInitBy words) came r before after of done) undone same
 
-    pub put_run : (words : PutWords) → request ≡ Put words → IfOk r (λ status. IsPutDone gives calls words status before after)
+    pub put_run : (words : PutWords) → request ≡ Put words → IfOk r (λ status. IsPutByWays gives calls words status before after)
         → IfErr r (λ failure. IsPutUndone (is_one words) failure before after) → IsRunBy gives calls request r before after old new
     put_run words is done undone = by_request (Put words) is done undone same
 
@@ -180,6 +190,16 @@ module _ {F S : Type 0} (gives : Opened F → ℕ → List ℕ → Opened F → 
     pub check_files_run : (words : CheckFilesWords) → request ≡ CheckFiles words → IfOk r (λ status. IsLookDone calls (checking words) status before after)
         → IfErr r (λ failure. IsLookUndone failure before after) → IsRunBy gives calls request r before after old new
     check_files_run words is done undone = by_request (CheckFiles words) is done undone same
+
+    pub verify_run : (words : VerifyWords) (came : Result Outcome Fault) → request ≡ Verify words → IfOk came (IsVerifyFor gives words)
+        → IfOk r (λ status. IsOkAnd came (λ told. (status ≡ told.status) × Appends before after told.text.items)) → IfErr r (λ failure. IsUnwritten failure before after)
+        → IsRunBy gives calls request r before after old new
+    verify_run words came is of done undone = by_request (Verify words) is (outcome_written (IsVerifyFor gives words) came r before after of done) undone same
+
+    pub verify_files_run : (words : VerifyFilesWords) (file : Option (Bor (List ℕ))) → request ≡ VerifyFiles words → IfOk r (λ status. IsVerifyDone gives file words status before after)
+        → IfErr r (λ failure. IsLookUndone failure before after) → IsRunBy gives calls request r before after old new
+    verify_files_run words file is done undone =
+        by_request (VerifyFiles words) is (IfOk-weaker r _ (λ status. AreVerifiedFor gives words status before after) (λ status was. (file, was)) done) undone same
 
     pub repair_files_run : (words : RepairFilesWords) → request ≡ RepairFiles words → IfOk r (λ status. IsLookDone calls (repairing words) status before after)
         → IfErr r (λ failure. IsLookUndone failure before after) → IsRunBy gives calls request r before after old new

@@ -4,7 +4,7 @@ use Rattle.grid_servers.specs.Grids.{GridCalls}
 use Rattle.sources.specs.Opened.{Opened}
 use Rattle.grid_gets.specs.Files.{FileAct}
 use Rattle.grid_words.specs.declared.words.Request.{Request}
-use Rattle.grid_words.specs.declared.words.Request.TheVariants.{Init, Put, Get, GetFiles, Check, CheckFiles, Repair, RepairFiles, Scrub, Serve}
+use Rattle.grid_words.specs.declared.words.Request.TheVariants.{Init, Put, Get, GetFiles, Check, CheckFiles, Verify, VerifyFiles, Repair, RepairFiles, Scrub, Serve}
 use Rattle.grid_words.specs.declared.words.Request.TheVariants.{World, Describe}
 use Rattle.grid_words.specs.declared.words.ServeWords.{ServeWords}
 use Rattle.grid_commands.specs.Commands.{EndsByItself, IsServedBy}
@@ -24,6 +24,8 @@ other_ends (Get words) other = tt
 other_ends (GetFiles words) other = tt
 other_ends (Check words) other = tt
 other_ends (CheckFiles words) other = tt
+other_ends (Verify words) other = tt
+other_ends (VerifyFiles words) other = tt
 other_ends (Repair words) other = tt
 other_ends (RepairFiles words) other = tt
 other_ends (Scrub words) other = tt

@@ -3,6 +3,7 @@ use Rattle.std.specs.Prelude.{◌≡◌, ◌≢◌, ◌⊎◌, ◌-◌, ℕ, Lis
 use Rattle.grid_words.specs.declared.words.CheckWords.{CheckWords}
 use Rattle.grid_words.specs.declared.words.GetWords.{GetWords}
 use Rattle.grid_words.specs.declared.words.RepairWords.{RepairWords}
+use Rattle.grid_words.specs.declared.verify_words.VerifyWords.{VerifyWords}
 
 -- Words are asked with their own cap, or with that of their file. Which text a file has is what the
 -- system says.
@@ -15,6 +16,10 @@ pub record IsCheckAsked (words asked : CheckWords) : Type 0 where
   pub own : words.cap_file ≡ None → asked.cap.now ≡ words.cap.now
 
 pub record IsRepairAsked (words asked : RepairWords) : Type 0 where
+  pub others : asked ≡ record words { cap = asked.cap }
+  pub own : words.cap_file ≡ None → asked.cap.now ≡ words.cap.now
+
+pub record IsVerifyAsked (words asked : VerifyWords) : Type 0 where
   pub others : asked ≡ record words { cap = asked.cap }
   pub own : words.cap_file ≡ None → asked.cap.now ≡ words.cap.now
 

@@ -14,7 +14,8 @@ use Rattle.grid_gets.specs.Files.{FileAct, IsFileBy, MayBeFileBy}
 use Rattle.grid_gets.specs.Gets.{IsBegunBy, IsGotBy, UnlessWriter}
 use Rattle.grid_lists.specs.Gets.{IsGetFiles}
 use Rattle.grid_surveys.specs.Looks.{IsLookDone, IsLookUndone, checking, repairing}
-use Rattle.grid_lists.specs.Puts.{IsPutDone, IsPutUndone, is_one}
+use Rattle.grid_surveys.specs.Verifies.{IsVerifyBy, IsVerifyDone}
+use Rattle.grid_lists.specs.Puts.{IsPutByWays, IsPutUndone, is_one}
 use Rattle.grid_repairs.specs.Checks.{IsCheckBy}
 use Rattle.grid_repairs.specs.Repairs.{IsRepairBy}
 use Rattle.grid_rules.specs.CapLines.{cap_lines}
@@ -25,6 +26,8 @@ use Rattle.grid_faults.specs.declared.fault.Fault.TheVariants as faults
 use Rattle.grid_telling.specs.declared.outcome.Failure.{Failure}
 use Rattle.grid_telling.specs.declared.outcome.Failure.TheVariants as failures
 use Rattle.grid_words.specs.declared.catalogue_words.GetFilesWords.{GetFilesWords}
+use Rattle.grid_words.specs.declared.verify_words.VerifyFilesWords.{VerifyFilesWords}
+use Rattle.grid_words.specs.declared.verify_words.VerifyWords.{VerifyWords}
 use Rattle.grid_words.specs.declared.words.CheckWords.{CheckWords}
 use Rattle.grid_words.specs.declared.words.GetWords.{GetWords}
 use Rattle.grid_words.specs.declared.words.RepairWords.{RepairWords}
@@ -32,8 +35,8 @@ use Rattle.grid_words.specs.declared.words.Request.{Request}
 use Rattle.grid_words.specs.declared.words.Request.TheVariants.{Init, Put, Get, GetFiles, Check}
 use Rattle.grid_words.specs.declared.words.Request.TheVariants.{CheckFiles, Repair, RepairFiles}
 use Rattle.grid_words.specs.declared.words.Request.TheVariants.{Scrub, Serve, World}
-use Rattle.grid_words.specs.declared.words.Request.TheVariants.{Describe}
-use Rattle.grid_commands.specs.CapFiles.{IsCheckAsked, IsGetAsked, IsRepairAsked}
+use Rattle.grid_words.specs.declared.words.Request.TheVariants.{Describe, Verify, VerifyFiles}
+use Rattle.grid_commands.specs.CapFiles.{IsCheckAsked, IsGetAsked, IsRepairAsked, IsVerifyAsked}
 use Rattle.grid_commands.specs.Exit.{IsExit, IsServingEnd}
 use Rattle.grid_commands.specs.Inits.{IsInitBy}
 use Rattle.grid_commands.specs.Scrubs.{IsScrub}
@@ -111,6 +114,17 @@ abbrev pub IsRepairFor : {S : Type 0} → GridCalls S → RepairWords → Outcom
 IsRepairFor calls words outcome =
     (asked : RepairWords) × IsRepairAsked words asked × IsRepairBy calls asked outcome
 
+-- which file the environment names for a secret, no word tells
+abbrev pub IsVerifyFor : {F : Type 0} → (Opened F → ℕ → List ℕ → Opened F → Type 0) → VerifyWords
+    → Outcome → Type 0
+IsVerifyFor gives words outcome = (asked : VerifyWords) × IsVerifyAsked words asked
+    × ((file : Option (Bor (List ℕ))) × IsVerifyBy gives file asked outcome)
+
+abbrev pub AreVerifiedFor : {F : Type 0} → (Opened F → ℕ → List ℕ → Opened F → Type 0)
+    → VerifyFilesWords → ℕ → Option (List ℕ) → Option (List ℕ) → Type 0
+AreVerifiedFor gives words status before after =
+    (file : Option (Bor (List ℕ))) × IsVerifyDone gives file words status before after
+
 -- What a get of the files of a catalogue did with them; where it ended with a fault it did nothing,
 -- unless memory ended.
 abbrev pub AreGetFiled : {S : Type 0} → GridCalls S → GetFilesWords → Result ℕ Failure
@@ -147,11 +161,13 @@ pub record AreCapLines (text lines : List ℕ) : Type 0 where
 abbrev pub IsDone : {F S : Type 0} → (Opened F → ℕ → List ℕ → Opened F → Type 0) → GridCalls S
     → Request → ℕ → Option (List ℕ) → Option (List ℕ) → Type 0
 IsDone gives calls (Init words) = ArePrinted (IsInitBy words)
-IsDone gives calls (Put words) = IsPutDone gives calls words
+IsDone gives calls (Put words) = IsPutByWays gives calls words
 IsDone gives calls (Get words) = IsGetOf calls words
 IsDone gives calls (GetFiles words) = IsSilent
 IsDone gives calls (Check words) = IsWrittenOf (IsCheckFor calls words)
 IsDone gives calls (CheckFiles words) = IsLookDone calls (checking words)
+IsDone gives calls (Verify words) = IsWrittenOf (IsVerifyFor gives words)
+IsDone gives calls (VerifyFiles words) = AreVerifiedFor gives words
 IsDone gives calls (Repair words) = IsWrittenOf (IsRepairFor calls words)
 IsDone gives calls (RepairFiles words) = IsLookDone calls (repairing words)
 IsDone gives calls (Scrub words) = IsScrub words
@@ -164,13 +180,15 @@ abbrev pub IsUnwritten : Failure → Option (List ℕ) → Option (List ℕ) →
 IsUnwritten failures.Writer before after = ⊤
 IsUnwritten (failures.Fault fault) before after = after ≡ before
 
--- A request was left undone. A get writes as it reads; a put, a check and a repair of many tell of
--- one file after another, and so does a scrub. How serving ends is all told by its status.
+-- A request was left undone. A get writes as it reads; a put, a check, a verify and a repair of
+-- many tell of one file after another, and so does a scrub. How serving ends is all told by its
+-- status.
 abbrev pub IsUndone : {S : Type 0} → GridCalls S → Request → Failure → Option (List ℕ)
     → Option (List ℕ) → Type 0
 IsUndone calls (Get words) failure before after = IsGetLeft calls words failure before after
 IsUndone calls (GetFiles words) failure before after = after ≡ before
 IsUndone calls (CheckFiles words) failure before after = IsLookUndone failure before after
+IsUndone calls (VerifyFiles words) failure before after = IsLookUndone failure before after
 IsUndone calls (RepairFiles words) failure before after = IsLookUndone failure before after
 IsUndone calls (Put words) failure before after =
     IsPutUndone (is_one words) failure before after

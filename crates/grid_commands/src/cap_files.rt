@@ -5,7 +5,7 @@ ghost use Rattle.std.specs.String.{string_bytes};
 ghost use Rattle.grid_commands.specs.CapFiles.{IsFirstLine};
 
 use grid_faults::Fault;
-use grid_words::{CheckWords, GetWords, RepairWords};
+use grid_words::{CheckWords, GetWords, RepairWords, SecretWords, VerifyWords};
 use std::alloc::Global;
 use std::fs::{File, OpenFile};
 use std::io::{self, Read};
@@ -120,5 +120,31 @@ pub(crate) fn repair_words<'b: 'a, 'a>(words: &RepairWords<'b>, cap: &'a str) ->
         mend: words.mend,
         known: words.known,
         verbose: words.verbose,
+    }
+}
+
+/// Those of a verify.
+pub(crate) fn verify_words<'b: 'a, 'a>(words: &VerifyWords<'b>, cap: &'a str) -> VerifyWords<'a>
+    ensures { result ≡ record words.now { cap = cap.entry } }
+{
+    VerifyWords {
+        file: words.file,
+        cap,
+        cap_file: words.cap_file,
+        max_segment: words.max_segment,
+        secret: secret_words(&words.secret),
+        grid: words.grid,
+        verbose: words.verbose,
+    }
+}
+
+// The same words for a secret.
+fn secret_words<'b: 'a, 'a>(words: &SecretWords<'b>) -> SecretWords<'a>
+    ensures { result ≡ words.now }
+{
+    match words {
+        SecretWords::Unsaid => SecretWords::Unsaid,
+        SecretWords::Text(text) => SecretWords::Text(*text),
+        SecretWords::File(path) => SecretWords::File(*path),
     }
 }

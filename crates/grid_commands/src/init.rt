@@ -1,23 +1,28 @@
 //! `grid init`: a grid comes to know its servers, or other servers than before.
 
-ghost use Rattle.std.specs.Prelude.{◌≡◌, ◌≤◌, ◌<◌, ◌-◌, ◌^◌, All, IfOk, IfSome, unwrap_or};
+ghost use Rattle.std.specs.Prelude.{◌≡◌, ◌≤◌, ◌<◌, ◌-◌, ◌^◌, ◌++◌, ℕ, All, IfOk, IfSome, List};
+ghost use Rattle.std.specs.Prelude.{unwrap_or};
 ghost use Rattle.std.specs.String.{string_bytes};
 ghost use Rattle.grid_marks.specs.Addresses.{AreOf};
 ghost use Rattle.grid_commands.specs.Elsewhere.{IsNewServer};
-ghost use Rattle.grid_commands.specs.Inits.{IsCountBy, IsInitBy, IsSecretText};
+ghost use Rattle.grid_commands.specs.Inits.{IsCountBy, IsInitBy, IsSecretText, TakesWays};
+ghost use Rattle.grid_commands.specs.Inits.{servers_line, ways_lines, writes_ways};
 
 use crate::elsewhere::{named_servers, refuse_any, refuse_others};
+use file_encoding::Params;
 use grid_faults::{Fault, Limit, told_path};
 use grid_marks::{
     AddressFile, MAX_SERVERS, add_servers, adopt_grid, can_be_marked, grid_servers_count,
     make_grid, mark_grid, replace_server,
 };
+use grid_rules::ways_text;
 use grid_servers::{
     Durability, draw_secret, grid_secret, keep_secret, read_secret_file, refuse_no_address,
     secret_path, standing_servers,
 };
+use grid_shares::{keep_ways, meant_params, read_numbers, refuse_other_ways};
 use grid_telling::{Progress, note_limits};
-use grid_words::{InitWords, Marking};
+use grid_words::{InitWords, Marking, NumberWords};
 use std::alloc::Global;
 use std::io::{self, ErrorKind, IsTerminal, Write};
 use std::random::RandomSource;
@@ -30,8 +35,9 @@ const USUAL_SERVERS: u64 = 10;
 /// The word that asks for a secret of the system's, in place of the path of a file.
 const NEW_SECRET: &str = "new";
 
-/// Marks a grid and the folders of its servers, and gives the line with how many there are; and one
-/// with where the grid's secret lies, where one was asked for.
+/// Marks a grid and the folders of its servers, and gives the line with how many there are; one
+/// with where the grid's secret lies, where one was asked for; and one with the grid's ways, where
+/// one of their numbers was written.
 #[tactic(auto, using(crate::proofs::ElsewhereLemmas::all_servers))]
 pub(crate) fn init<R, E>(
     rt: &R,
@@ -43,10 +49,58 @@ where
     E: Write + IsTerminal,
     ensures { IfOk result (λ lines. IsInitBy words.now lines.items) }
 {
+    refuse_ways(words)?;
     let elsewhere = named_servers(rt, words.elsewhere.as_slice(), progress)?;
     let servers = mark(rt, words, elsewhere.as_slice(), progress)?;
-    let secret = secret_text(rt.alloc(), words)?;
-    Ok(format!(in rt.alloc(); "servers {servers}\n{secret}")?.into_bytes())
+    lines_of(rt.alloc(), words, servers)
+}
+
+// Refuses ways for a grid that has its mark.
+fn refuse_ways(words: &InitWords<'_>) -> Result<(), Fault>
+    ensures { IfOk result
+        (λ _. TakesWays words.now.marking (writes_ways words.now.ways)) }
+{
+    match words.marking {
+        Marking::New(_) | Marking::Adopt(_) => Ok(()),
+        Marking::Replace(_) | Marking::Add(_) => {
+            if writes_ways(words.ways) {
+                return Err(Fault::BadParameters);
+            }
+            Ok(())
+        }
+    }
+}
+
+// Whether a number is written that a grid keeps.
+fn writes_ways(words: NumberWords) -> bool
+    ensures { result ≡ writes_ways words }
+{
+    words.needed.is_some()
+        || words.happy.is_some()
+        || words.total.is_some()
+        || words.max_segment.is_some()
+}
+
+// The lines that tell of a grid with so many servers.
+fn lines_of(alloc: Global, words: &InitWords<'_>, servers: u16) -> Result<Vec<u8>, Fault>
+    ensures { IfOk result (λ lines. (secret : List ℕ)
+        × IsSecretText words.now.grid.now words.now.secret_file secret
+        × (lines.items ≡ servers_line servers ++ (secret ++ ways_lines words.now.ways))) }
+{
+    let secret = secret_text(alloc, words)?;
+    let ways = ways_line(alloc, words.ways)?;
+    Ok(format!(in alloc; "servers {servers}\n{secret}{ways}")?.into_bytes())
+}
+
+// The line with the grid's ways, where one of their numbers is written.
+fn ways_line(alloc: Global, words: NumberWords) -> Result<String, Fault>
+    ensures { IfOk result (λ text. string_bytes text ≡ ways_lines words) }
+{
+    if !writes_ways(words) {
+        return Ok(String::from_str(alloc, "")?);
+    }
+    let ways = meant_params(words)?;
+    Ok(ways_text(alloc, &ways)?)
 }
 
 // The line that tells where the grid's secret lies, where one is asked for.
@@ -110,7 +164,7 @@ where
 {
     let servers = new_count(rt, words.grid, servers, progress)?;
     refuse_others(rt, words.grid, elsewhere, 0..servers, progress)?;
-    begin_secret(rt, words)?;
+    begin_kept(rt, words, progress)?;
     mark_grid(rt, words.grid, servers, elsewhere)?;
     Ok(servers)
 }
@@ -210,7 +264,7 @@ where
         None => None,
     };
     refuse_no_address(rt, words.grid, 0..MAX_SERVERS)?;
-    begin_secret(rt, words)?;
+    begin_kept(rt, words, progress)?;
     adopt_grid(rt, words.grid, servers)
 }
 
@@ -224,6 +278,36 @@ where
         Some(servers) => Ok(servers),
         None => Err(Fault::UnknownGrid(told_path(rt.alloc(), grid)?)),
     }
+}
+
+// Keeps the secret and the ways with the grid that the words ask for. Numbers in no range, and
+// other ways than an earlier call kept, are refused before the secret is kept, and another secret
+// before the ways are.
+fn begin_kept<R, E>(
+    rt: &R,
+    words: &InitWords<'_>,
+    progress: &mut Progress<'_, R, E>,
+) -> Result<(), Fault>
+where
+    R: Files + Clock + RandomSource + AllocGlobal,
+    E: Write + IsTerminal,
+{
+    if !writes_ways(words.ways) {
+        return begin_secret(rt, words);
+    }
+    let ways = read_numbers(rt, words.ways, None, progress)?;
+    refuse_other_ways(rt, words.grid, &ways)?;
+    begin_secret(rt, words)?;
+    begin_ways(rt, words.grid, &ways)
+}
+
+// Keeps ways with a grid whose folder is made where it is not there.
+fn begin_ways<R>(rt: &R, grid: &str, ways: &Params) -> Result<(), Fault>
+where
+    R: Files + RandomSource + AllocGlobal,
+{
+    make_grid(rt, grid, Durability::Synced)?;
+    keep_ways(rt, grid, ways)
 }
 
 // Keeps the secret with the grid that the words ask for. One that an earlier call kept, which came

@@ -4,9 +4,10 @@
 //! marks the folders of a grid and of its servers. A `put` stores shares, in `grid_shares`, of one
 //! file or of many, in `grid_lists`; a `check` and a `repair` look at those that are stored, in
 //! `grid_repairs`; a `get` is one download or several, in `grid_gets`. Where these are of the files
-//! of a catalogue they stand in `grid_lists` and `grid_surveys`. A `scrub` reads the servers'
-//! folders; a `serve` is one server of a grid, until the process is ended; `world` runs a script,
-//! whose text is read whole before anything runs.
+//! of a catalogue they stand in `grid_lists` and `grid_surveys`. A `verify` compares files with
+//! their caps, without servers, in `grid_surveys` too. A `scrub` reads the servers' folders; a
+//! `serve` is one server of a grid, until the process is ended; `world` runs a script, whose text
+//! is read whole before anything runs.
 //!
 //! Which words there are stands in `grid_words`, and what is told in `grid_faults`, `grid_rules`
 //! and `grid_telling`.
@@ -23,19 +24,19 @@ mod scrub;
 mod scrub_telling;
 mod serving;
 
-ghost use Rattle.std.specs.Prelude.{◌≡◌, IfErr, IfOk, IsOkAnd, map};
+ghost use Rattle.std.specs.Prelude.{◌≡◌, IfErr, IfOk, IsOkAnd, map, option_map};
 ghost use Rattle.std.specs.Io.KnownBytes.{Appends};
 ghost use Rattle.std.specs.IoError.{error_kind};
 ghost use Rattle.grid_commands.specs.Commands.{AreCapLines, EndsByItself, IsCheckFor, IsGet};
 ghost use Rattle.grid_commands.specs.Commands.{IsGetBegun, IsGetFiled, IsGetFiledOf, IsGetLeft};
 ghost use Rattle.grid_commands.specs.Commands.{IsGetOf, IsRepairFor, IsRunBy, IsServedBy};
-ghost use Rattle.grid_commands.specs.Commands.{IsUnwritten};
+ghost use Rattle.grid_commands.specs.Commands.{IsUnwritten, IsVerifyFor};
 ghost use Rattle.grid_commands.specs.Exit.{IsToldAs, unread_status};
 ghost use Rattle.grid_commands.specs.Grid.{IsGridBy};
 ghost use Rattle.grid_servers.specs.Grids.{grid_calls};
 ghost use Rattle.sources.specs.Opened.{GivesOpened};
 
-use crate::cap_files::{cap_text, check_words, get_words, repair_words};
+use crate::cap_files::{cap_text, check_words, get_words, repair_words, verify_words};
 use crate::exit::{DONE, WRONG_WORDS, exit_of, report, tell_words, write, written};
 use crate::serving::serve_folder;
 use grid_faults::Fault;
@@ -46,9 +47,9 @@ use grid_repairs::{check, repair};
 use grid_rules::{cap_lines, read_cap};
 pub use grid_shares::Environment;
 use grid_shares::Outcome;
-use grid_surveys::{check_files, repair_files};
+use grid_surveys::{check_files, may_verify, repair_files, verify, verify_files};
 use grid_telling::{Failure, Progress};
-use grid_words::{CheckWords, GetWords, RepairWords, Request, read_words};
+use grid_words::{CheckWords, GetWords, RepairWords, Request, VerifyWords, read_words};
 use std::alloc::Global;
 use std::convert::AsStr;
 use std::io::{self, IsTerminal};
@@ -57,10 +58,11 @@ use std::random::RandomSource;
 use std::rt::{Clock, Files};
 pub use user_files::Locks;
 
-/// Runs the command that `words` asks for, of which the first is the program's name. Its result
-/// goes to `out`, and a fault, as one line with its number and name, to `err`. A `get` writes as it
-/// reads, so that a beginning of its range may stand on `out` where it ends with a fault; with `-o`
-/// it goes to one of `files`, and with `--caps` each file does, and nothing to `out`.
+/// Runs the command that `words` asks for, of which the first is the program's name. A grid that no
+/// word names is that of the environment, if there is one. Its result goes to `out`, and a fault,
+/// as one line with its number and name, to `err`. A `get` writes as it reads, so that a beginning
+/// of its range may stand on `out` where it ends with a fault; with `-o` it goes to one of `files`,
+/// and with `--caps` each file does, and nothing to `out`.
 ///
 /// Where `err` is a terminal, a command that takes more than a second tells there how far it is,
 /// and clears that line before it ends. With `-v` it tells a line of each server that serves badly.
@@ -73,7 +75,7 @@ pub use user_files::Locks;
 /// | 2 | the words are wrong |
 /// | 3 | its input is refused |
 /// | 4 | an upload is unhappy |
-/// | 5 | there are too few shares, also where a `check` finds so or a `scrub` finds damaged ones |
+/// | 5 | there are too few shares, a `check` finds so, a `scrub` damage, a `verify` another file |
 /// | 6 | shares are inconsistent, or a `world` prints that its bytes do not agree |
 /// | 7 | a file, a folder, a socket or memory failed, or `out` or `err` |
 ///
@@ -93,10 +95,11 @@ where
     O: io::Write,
     E: io::Write + IsTerminal,
     ensures { IsGridBy (GivesOpened R.File.stream_position R.File.stream_bytes R.File.remaining)
-        (grid_calls R.Stream.contents R.Stream.remaining) (map S.text words.now) result
+        (grid_calls R.Stream.contents R.Stream.remaining)
+        (option_map (λ folder. folder.now) environment.now.grid) (map S.text words.now) result
         (O.contents out.old) (O.contents out.new) (F.acts files.old) (F.acts files.new) }
 {
-    match read_words(rt.alloc(), words) {
+    match read_words(rt.alloc(), environment.grid, words) {
         Ok(request) => serve(rt, &request, environment, files, out, err),
         Err(error) => tell_words(rt.alloc(), &error, out, err),
     }
@@ -192,6 +195,8 @@ where
         Request::GetFiles(words) => get_files(rt, words, environment, files, progress),
         Request::Check(words) => told(out, checked(rt, words, environment, progress)),
         Request::CheckFiles(words) => check_files(rt, words, environment, out, progress),
+        Request::Verify(words) => told(out, verified(rt, words, environment, progress)),
+        Request::VerifyFiles(words) => verify_files(rt, words, environment, out, progress),
         Request::Repair(words) => told(out, repaired(rt, words, environment, progress)),
         Request::RepairFiles(words) => repair_files(rt, words, environment, out, progress),
         Request::Scrub(words) => scrub::scrub(rt, words, environment, out, progress),
@@ -246,7 +251,26 @@ where
     check(rt, &asked, environment, progress)
 }
 
-// Repairs it.
+// Compares a file with such a cap.
+fn verified<R, E>(
+    rt: &R,
+    words: &VerifyWords<'_>,
+    environment: &Environment<'_>,
+    progress: &mut Progress<'_, R, E>,
+) -> Result<Outcome, Fault>
+where
+    R: Files + io::Input + Clock + RandomSource + AllocGlobal + Clone + Drop,
+    E: io::Write + IsTerminal,
+    ensures { IfOk result (IsVerifyFor (GivesOpened R.File.stream_position R.File.stream_bytes
+        R.File.remaining) words.now) }
+{
+    may_verify(words, progress)?;
+    let cap = cap_text(rt, words.cap, words.cap_file)?;
+    let asked = verify_words(words, cap.as_str());
+    verify(rt, &asked, environment, progress)
+}
+
+// Repairs the file of such a cap.
 fn repaired<R, E>(
     rt: &R,
     words: &RepairWords<'_>,

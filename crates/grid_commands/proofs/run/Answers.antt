@@ -1,5 +1,5 @@
 use Rattle.std.proofs.Common.{refl}
-use Rattle.grid_commands.proofs.RunLemmas.{check_files_run, check_run, describe_run, get_files_run, get_run, init_run, put_run, repair_files_run, repair_run, scrub_run, world_run}
+use Rattle.grid_commands.proofs.RunLemmas.{check_files_run, check_run, describe_run, get_files_run, get_run, init_run, put_run, repair_files_run, repair_run, scrub_run, verify_files_run, verify_run, world_run}
 use Rattle.grid_commands.proofs.run.Goals as goal
 
 pub returns-in-Init : goal.returns-in-Init
@@ -16,6 +16,12 @@ returns-in-GetFiles g c = get_files_run _ _ c.args.request.now c.get_files.resul
 
 pub returns-in-Check : goal.returns-in-Check
 returns-in-Check g c = check_run _ _ c.args.request.now c.told.result _ _ _ _ refl c.in-Check.words c.checked.result c.in-Check.is c.checked.ensures c.told.ensures.done c.told.ensures.undone
+
+pub returns-in-Verify : goal.returns-in-Verify
+returns-in-Verify g c = verify_run _ _ c.args.request.now c.told-in-Verify.result _ _ _ _ refl c.in-Verify.words c.verified.result c.in-Verify.is c.verified.ensures c.told-in-Verify.ensures.done c.told-in-Verify.ensures.undone
+
+pub returns-in-VerifyFiles : goal.returns-in-VerifyFiles
+returns-in-VerifyFiles g c = verify_files_run _ _ c.args.request.now c.verify_files.result _ _ _ _ refl c.in-VerifyFiles.words c.args.environment.now.secret_file c.in-VerifyFiles.is c.verify_files.ensures.done c.verify_files.ensures.undone
 
 pub returns-in-Repair : goal.returns-in-Repair
 returns-in-Repair g c = repair_run _ _ c.args.request.now c.told-in-Repair.result _ _ _ _ refl c.in-Repair.words c.repaired.result c.in-Repair.is c.repaired.ensures c.told-in-Repair.ensures.done c.told-in-Repair.ensures.undone
