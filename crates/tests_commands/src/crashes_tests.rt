@@ -29,6 +29,8 @@ const SERVERS: [&str; 2] = ["grid/server-000", "grid/server-001"];
 const HERE: Environment<'static> = Environment {
     known: false,
     temporary: "/tmp",
+    grid: None,
+    secret_file: None,
 };
 
 // The command that is stopped, and what it finds.

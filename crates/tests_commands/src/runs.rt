@@ -37,6 +37,8 @@ pub(crate) const CAP_131074: &str = "URI:CHK:x45opozjlsd45uhibsv2apw46e:\
 pub(crate) const HERE: Environment<'static> = Environment {
     known: false,
     temporary: "/tmp",
+    grid: None,
+    secret_file: None,
 };
 
 // A path in a folder that is this process's own.

@@ -24,3 +24,9 @@ mod progress_tests;
 mod since_tests;
 #[cfg(test)]
 mod sites_tests;
+#[cfg(test)]
+mod variables_tests;
+#[cfg(test)]
+mod verify_tests;
+#[cfg(test)]
+mod ways_tests;

@@ -10,6 +10,8 @@ use test_writers::Told;
 const HERE: Environment<'static> = Environment {
     known: false,
     temporary: "/tmp",
+    grid: None,
+    secret_file: None,
 };
 
 /// One share of one, at one server.
@@ -80,6 +82,23 @@ pub(crate) fn removes_all(rt: &HostRuntime) -> bool {
         Ok(false) => true,
         Err(_) => false,
     }
+}
+
+/// Runs the words of a line in an environment.
+pub(crate) fn run_line(rt: &HostRuntime, line: &str, environment: &Environment<'_>) -> Came {
+    let mut out = Vec::new(rt.alloc());
+    let mut err = Told::new(rt.alloc(), false);
+    let words: Result<Vec<&str>, AllocError> = line.split(' ').collect(rt.alloc());
+    let status = match words {
+        Ok(words) => {
+            let mut disk = DiskFiles::new(rt);
+            let words = words.as_slice();
+            grid(rt, words, environment, &mut disk, &mut out, &mut err)
+        }
+        Err(_) => NO_MEMORY,
+    };
+    let told = Vec::from_slice(rt.alloc(), err.rest()).unwrap_or(Vec::new(rt.alloc()));
+    Came { status, out, told }
 }
 
 /// Runs a command over these files and this grid, with these words behind them.

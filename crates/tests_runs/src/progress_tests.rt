@@ -115,6 +115,23 @@ fn long_commands_tell_how_far_they_are(rt: HostRuntime) {
     assert!(rt; matches!(outcome, Ok(true)) && remove(&rt).is_ok());
 }
 
+// A put of two files tells how many of them are done, and how many bytes of all.
+fn files_tell(rt: &HostRuntime) -> io::Result<bool> {
+    begin(rt, 131_074)?;
+    let root = path(rt, "")?;
+    let line = format!(in rt.alloc(); "grid put {root}/file {root}/file --grid {root}/grid")?;
+    let slow = run_slowly(rt, line.as_str(), 200, true)?;
+    let told = slow.err.rest();
+    let is_second = str::from_utf8(told).is_ok_and(|text| text.contains("put 1 of 2: 0 MB"));
+    Ok(slow.status == 0 && is_second && are_lines(told, "put "))
+}
+
+#[test]
+fn commands_of_many_files_tell_of_all(rt: HostRuntime) {
+    let outcome = files_tell(&rt);
+    assert!(rt; matches!(outcome, Ok(true)) && remove(&rt).is_ok());
+}
+
 // Whether a fault's line begins on a line that is cleared.
 fn clears_before_a_fault(rt: &HostRuntime) -> io::Result<bool> {
     begin(rt, 131_074)?;
