@@ -299,14 +299,15 @@ fn is_made(rt: &HostRuntime, case: (&str, usize, usize)) -> Result<bool, Fail> {
         steps: &steps,
     };
     let folder = path(rt, name)?;
-    for syncs in [made, standing] {
-        make_folder(&noted, folder.as_str(), Durability::Synced)?;
-        let all = vec![in rt.alloc(); Step::SyncFolder; syncs]?;
-        if !steps.were(all.as_slice()) || !fs::metadata(rt, folder.as_str())?.is_dir() {
-            return Ok(false);
-        }
-    }
-    Ok(true)
+    let is_new = stands_after(&noted, folder.as_str(), made)?;
+    Ok(is_new && stands_after(&noted, folder.as_str(), standing)?)
+}
+
+// Whether it stands once it was made, with so many syncs.
+fn stands_after(noted: &NotedFiles<'_>, folder: &str, syncs: usize) -> Result<bool, Fail> {
+    make_folder(noted, folder, Durability::Synced)?;
+    let all = vec![in noted.rt.alloc(); Step::SyncFolder; syncs]?;
+    Ok(noted.steps.were(all.as_slice()) && fs::metadata(&noted.rt, folder)?.is_dir())
 }
 
 #[test]
@@ -318,16 +319,21 @@ fn made_folders(rt: HostRuntime) -> Result<(), Fail> {
     Ok(())
 }
 
-// Unsynced, and for reading, nothing is put there.
+// Whether a share is closed and read without a sync, unsynced and for reading.
+fn syncs_nothing(rt: &HostRuntime, steps: &Steps) -> Result<bool, Fail> {
+    let mut store = open_noted(rt, steps, Purpose::Writing(Durability::Unsynced))?;
+    let is_closed = closes_one(rt, &mut store, 3)?;
+    drop(open_noted(rt, steps, Purpose::Reading)?);
+    Ok(is_closed && steps.were(&[Step::Rename]))
+}
+
 #[test]
 fn nothing_is_synced_unasked(rt: HostRuntime) -> Result<(), Fail> {
     remove(&rt)?;
     let steps = Steps::new(rt.alloc());
-    let mut store = open_noted(&rt, &steps, Purpose::Writing(Durability::Unsynced))?;
-    assert!(rt; closes_one(&rt, &mut store, 3)?);
-    drop(open_noted(&rt, &steps, Purpose::Reading)?);
-    assert!(rt; steps.were(&[Step::Rename]));
+    let is_quiet = syncs_nothing(&rt, &steps)?;
     remove(&rt)?;
+    assert!(rt; is_quiet);
     Ok(())
 }
 

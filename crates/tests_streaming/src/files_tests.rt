@@ -19,16 +19,21 @@ fn opened(rt: &HostRuntime, path: &str) -> io::Result<FileSource<File>> {
     Ok(FileSource::new(file, size))
 }
 
+// Whether its bytes are read from several offsets, and none behind its end.
+fn gives_its_parts(source: &mut FileSource<File>) -> bool {
+    let mut out = [0u8; 11];
+    let whole = read_part(source, 0, &mut out) == Ok(()) && out == *b"eleven byte";
+    let end = read_part(source, 7, &mut out[..4]) == Ok(()) && out.starts_with(b"byte");
+    whole && end && source.read_at(11, &mut out) == Ok(0) && source.failures() == 0
+}
+
 #[test]
 fn a_file_is_read(rt: HostRuntime) -> Result<(), Fail> {
     let path = path(&rt, "whole")?;
     let mut source = opened(&rt, path.as_str())?;
-    let mut out = [0u8; 11];
-    assert_eq!(rt; source.len(), 11);
-    assert!(rt; read_part(&mut source, 0, &mut out) == Ok(()) && out == *b"eleven byte");
-    assert!(rt; read_part(&mut source, 7, &mut out[..4]) == Ok(()) && out.starts_with(b"byte"));
-    assert!(rt; source.read_at(11, &mut out) == Ok(0) && source.failures() == 0);
+    let is_read = source.len() == 11 && gives_its_parts(&mut source);
     fs::remove_file(&rt, path.as_str())?;
+    assert!(rt; is_read);
     Ok(())
 }
 
@@ -44,17 +49,22 @@ fn a_file_is_cut(rt: HostRuntime) -> Result<(), Fail> {
     Ok(())
 }
 
+// Whether as many bytes are read as it had when it was opened.
+fn gives_the_first(source: &mut FileSource<File>) -> bool {
+    let mut out = [0u8; 20];
+    let end = source.len() == 11 && source.read_at(7, &mut out) == Ok(4);
+    let whole = read_part(source, 0, &mut out[..11]) == Ok(()) && out.starts_with(b"eleven byte");
+    end && whole && read_part(source, 0, &mut out) == Err(PartFault::Ended)
+}
+
 #[test]
 fn a_file_grows(rt: HostRuntime) -> Result<(), Fail> {
     let path = path(&rt, "grown")?;
     let mut source = opened(&rt, path.as_str())?;
-    let mut out = [0u8; 20];
     fs::write(&rt, path.as_str(), "eleven bytes and more")?;
-    assert!(rt; source.len() == 11 && source.read_at(7, &mut out) == Ok(4));
-    assert!(rt; read_part(&mut source, 0, &mut out[..11]) == Ok(()));
-    assert!(rt; out.starts_with(b"eleven byte"));
-    assert!(rt; read_part(&mut source, 0, &mut out) == Err(PartFault::Ended));
+    let is_read = gives_the_first(&mut source);
     fs::remove_file(&rt, path.as_str())?;
+    assert!(rt; is_read);
     Ok(())
 }
 
@@ -73,16 +83,22 @@ fn a_file_is_replaced(rt: HostRuntime) -> Result<(), Fail> {
     Ok(())
 }
 
+// Whether these eleven bytes are read.
+fn gives(source: &mut FileSource<File>, bytes: &[u8]) -> bool {
+    let mut out = [0u8; 11];
+    read_part(source, 0, &mut out) == Ok(()) && out.as_slice() == bytes
+}
+
 // Each read brings what stands there then.
 #[test]
 fn a_file_is_written_over(rt: HostRuntime) -> Result<(), Fail> {
     let path = path(&rt, "over")?;
     let mut source = opened(&rt, path.as_str())?;
-    let mut out = [0u8; 11];
-    assert!(rt; read_part(&mut source, 0, &mut out) == Ok(()) && out == *b"eleven byte");
+    let first = gives(&mut source, b"eleven byte");
     fs::write(&rt, path.as_str(), "another one")?;
-    assert!(rt; read_part(&mut source, 0, &mut out) == Ok(()) && out == *b"another one");
+    let second = gives(&mut source, b"another one");
     fs::remove_file(&rt, path.as_str())?;
+    assert!(rt; first && second);
     Ok(())
 }
 
