@@ -15,6 +15,8 @@ use test_writers::Told;
 const HERE: Environment<'static> = Environment {
     known: false,
     temporary: ".",
+    grid: None,
+    secret_file: None,
 };
 
 /// What a command wrote to standard output and to standard error, and its status.
