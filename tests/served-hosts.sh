@@ -145,22 +145,26 @@ stored=$cap
 # ---- one is away before
 
 cuts_off 1
+head -c 60000000 /dev/urandom > other
 sees 'a get without a host' gives 60 large
-sees 'a put without a host' puts 60 small 8
+sees 'a put without a host' puts 60 other 8
 sees 'a check without a host' tells 'healthy no recoverable yes happiness 8' 60 0 \
     check "$stored" --grid g
-sees 'a put that wants all' ends 60 4 put large --grid g --happy 10
+sees 'a put that wants all' ends 60 4 put other --grid g --happy 10
 brings_back 1
 sees 'a repair behind it' tells 'happiness 10' 60 0 repair "$cap" --grid g
 cap=$stored
 
 # ---- one goes in the midst: it is cut off, stops, dies, is started anew
 
+# Each put is of another file, of which no server has a share yet.
 for happens in cuts_off stops dies restarts; do
-    sees "a put while host 2 $happens" during 10 $happens 2 puts 150 large 7
+    file=file-$happens
+    head -c 60000000 /dev/urandom > $file
+    sees "a put while host 2 $happens" during 10 $happens 2 puts 150 $file 7
     brings_back 2 && goes_on 2 && dies 2 && sleep 1 && serves 2 && sleep 1
     sees 'its repair' ends 150 0 repair "$cap" --grid g
-    sees "a get while host 3 $happens" during 4 $happens 3 gives 100 large
+    sees "a get while host 3 $happens" during 4 $happens 3 gives 100 $file
     brings_back 3 && goes_on 3 && dies 3 && sleep 1 && serves 3 && sleep 1
     rm host4/6/*.* host4/7/*.*
     dies 4 && sleep 1 && serves 4 && sleep 1
