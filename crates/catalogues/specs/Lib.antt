@@ -9,8 +9,8 @@ pub mod Patterns
 pub mod CatalogueError
 pub mod Kept
 pub mod Known
--- words of private clauses
 pub mod Pieces
+-- words of private clauses
 pub mod HeadParts
 pub mod PartsLeft
 pub mod Rows

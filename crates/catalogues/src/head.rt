@@ -12,7 +12,7 @@ ghost use Rattle.catalogues.specs.declared.head.Head.{Head};
 ghost use Rattle.catalogues.specs.declared.head.Moment.{Moment};
 ghost use Rattle.catalogues.specs.declared.head.Numbers.{Numbers};
 
-use crate::pieces::{behind, digits_of};
+use crate::pieces::{behind, digits_of, number_behind};
 use cap_text::{CapError, from_base32, to_base32};
 use std::alloc::{AllocError, Global};
 use tagged_hash::{DecimalText, convergent_key, read_decimal, storage_index};
@@ -210,23 +210,6 @@ fn read_fingerprint(text: &[u8]) -> Option<([u8; 16], &[u8])>
         return None;
     };
     Some((fingerprint, rest))
-}
-
-// The number in decimal behind a word with which a text begins, and what follows it.
-fn number_behind<'a>(text: &'a [u8], word: &[u8]) -> Option<(u64, &'a [u8])>
-    ensures found { IfSome result (λ x. text.entry.now ≡ word.now ++ (decimal x.0 ++ x.1.now)) }
-    ensures only { (n : ℕ) (rest : List ℕ) → n < 2 ^ 64 → Stops rest
-        → text.entry.now ≡ word.now ++ (decimal n ++ rest)
-        → IsSomeAnd result (λ x. (x.0 ≡ n) × (x.1.now ≡ rest)) }
-{
-    let Some(rest) = behind(text, word) else {
-        return None;
-    };
-    let (digits, rest) = digits_of(rest);
-    let Some(n) = read_decimal(digits) else {
-        return None;
-    };
-    Some((n, rest))
 }
 
 // The number below a thousand million that has these nine digits.

@@ -28,4 +28,5 @@ pub use laws::{catalogues_are_one, lines_are_one, lines_are_read};
 pub use lines::{Line, line_of, named_line};
 pub use name::{Name, is_name};
 pub use patterns::chooses;
+pub use pieces::number_behind;
 pub use reading::{Catalogue, entry_count};

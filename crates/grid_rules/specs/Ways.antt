@@ -1,6 +1,5 @@
 -- The ways of a grid.
-use Rattle.std.specs.Prelude.{ℕ, ◌<◌, ◌≤◌, List, ◌++◌, codes, decimal, slice_index}
-use Rattle.std.specs.List.{AllByRecursion}
+use Rattle.std.specs.Prelude.{ℕ, List, ◌++◌, codes, decimal}
 use Rattle.file_encoding.specs.Params.{AreChosen, UploadParameters}
 
 -- numbers that files may be put by
@@ -18,18 +17,6 @@ ways_text w =
 
 -- ---- words of private clauses
 
--- `0` to `9`
-abbrev pub IsDigit : ℕ → Type 0
-IsDigit c = (48 ≤ c) × (c ≤ 57)
-
--- all of a text is digits
-abbrev pub AreDigits : List ℕ → Type 0
-AreDigits text = AllByRecursion IsDigit text
-
 -- two numbers, each behind a word, and what follows them
 abbrev pub two_then : List ℕ → List ℕ → ℕ → ℕ → List ℕ → List ℕ
 two_then first second m n rest = first ++ (decimal m ++ (second ++ (decimal n ++ rest)))
-
--- a text that goes on so has no further digit: it begins with what is below them, or is empty
-abbrev pub Stops : List ℕ → Type 0
-Stops rest = slice_index rest 0 < 48

@@ -1,14 +1,14 @@
 //! The ways of a grid: by which numbers its files are put, where a put does not say.
 
-ghost use Rattle.std.specs.Prelude.{◌≡◌, ◌≢◌, ◌^◌, ◌<◌, ◌++◌, ℕ, List, decimal};
-ghost use Rattle.std.specs.Prelude.{IfOk, IfSome, IsSomeAnd, MatchOption};
+ghost use Rattle.std.specs.Prelude.{◌≡◌, ◌^◌, ◌<◌, ◌++◌, ℕ, List, IfOk, IfSome, IsSomeAnd};
 ghost use Rattle.std.specs.String.{string_bytes};
+ghost use Rattle.catalogues.specs.Pieces.{Stops};
 ghost use Rattle.file_encoding.specs.Params.{UploadParameters};
-ghost use Rattle.grid_rules.specs.Ways.{AreDigits, AreWays, Stops, two_then, ways_text};
+ghost use Rattle.grid_rules.specs.Ways.{AreWays, two_then, ways_text};
 
+use catalogues::number_behind;
 use file_encoding::Params;
 use std::alloc::{AllocError, Global};
-use tagged_hash::read_decimal;
 
 /// The text of a grid's ways: one line.
 pub fn ways_text(alloc: Global, ways: &Params) -> Result<String, AllocError>
@@ -54,43 +54,4 @@ fn two_behind<'a>(text: &'a [u8], first: &[u8], second: &[u8]) -> Option<(u64, u
         return None;
     };
     Some((m, n, rest))
-}
-
-// The number in decimal behind a word with which a text begins, and what follows it.
-fn number_behind<'a>(text: &'a [u8], word: &[u8]) -> Option<(u64, &'a [u8])>
-    ensures found { IfSome result (λ x. text.entry.now ≡ word.now ++ (decimal x.0 ++ x.1.now)) }
-    ensures only { (n : ℕ) (rest : List ℕ) → n < 2 ^ 64 → Stops rest
-        → text.entry.now ≡ word.now ++ (decimal n ++ rest)
-        → IsSomeAnd result (λ x. (x.0 ≡ n) × (x.1.now ≡ rest)) }
-{
-    let Some(rest) = behind(text, word) else {
-        return None;
-    };
-    let (digits, rest) = digits_of(rest);
-    let Some(n) = read_decimal(digits) else {
-        return None;
-    };
-    Some((n, rest))
-}
-
-// What follows a word with which a text begins, if it does.
-fn behind<'a>(text: &'a [u8], word: &[u8]) -> Option<&'a [u8]>
-    ensures { MatchOption result ((rest : List ℕ) → text.entry.now ≢ word.now ++ rest)
-        (λ rest. text.entry.now ≡ word.now ++ rest.now) }
-{
-    text.strip_prefix(word)
-}
-
-// The digits with which a text begins, and what follows them.
-fn digits_of(text: &[u8]) -> (&[u8], &[u8])
-    ensures whole { text.entry.now ≡ result.0.now ++ result.1.now }
-    ensures only { (digits rest : List ℕ) → AreDigits digits → Stops rest
-        → text.entry.now ≡ digits ++ rest → (result.0.now ≡ digits) × (result.1.now ≡ rest) }
-{
-    for (i, c) in text.iter().enumerate() {
-        if *c < b'0' || *c > b'9' {
-            return text.split_at(i);
-        }
-    }
-    text.split_at(text.len())
 }

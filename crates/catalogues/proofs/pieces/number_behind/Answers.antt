@@ -3,7 +3,7 @@ use Rattle.std.specs.Fmt.{decimal}
 use Rattle.std.proofs.lemmas.Fmt.{decimal_injective}
 use Rattle.std.proofs.lemmas.List.{append_cancel_left}
 use Rattle.catalogues.proofs.HeadLaws.{decimal_digits}
-use Rattle.catalogues.proofs.head.number_behind.Goals as goal
+use Rattle.catalogues.proofs.pieces.number_behind.Goals as goal
 
 pub returns-in_default-read_decimal-clause-only : goal.returns-in_default-read_decimal-clause-only
 returns-in_default-read_decimal-clause-only c = λ n rest fits stops same.
