@@ -5,7 +5,7 @@ ghost use Rattle.tagged_hash.specs.ConvergentKey.{IsSecret};
 ghost use Rattle.grid_shares.specs.Puts.{AreChoicesBy, IsSaidBy, meant_numbers, said_by};
 
 use crate::Environment;
-use file_encoding::{MAX_SECRET_SIZE, Params};
+use file_encoding::{MAX_CHOSEN_SEGMENT_SIZE, MAX_SECRET_SIZE, Params};
 use grid_faults::{Fault, Limit};
 use grid_marks::MAX_SERVERS;
 use grid_rules::becoming::fault_of_encoding;
@@ -17,9 +17,6 @@ use std::rt::{Clock, Files};
 
 /// The greatest number of shares.
 const MAX_SHARES: u64 = 256;
-
-/// The greatest segment that may be chosen, in bytes.
-const MAX_SEGMENT_SIZE: u64 = 1 << 20;
 
 /// By which numbers files are put where neither words nor the ways of a grid say it.
 const USUAL_NEEDED: u64 = 3;
@@ -138,7 +135,7 @@ fn limits_of(meant: Meant, servers: Option<u64>) -> [Limit<'static>; 5] {
         limit("--k", meant.needed, total),
         limit("--happy", meant.happy, total),
         limit("--n", meant.total, MAX_SHARES),
-        limit("--segment", meant.max_segment, MAX_SEGMENT_SIZE),
+        limit("--segment", meant.max_segment, u64::from(MAX_CHOSEN_SEGMENT_SIZE)),
         limit("--servers", servers.unwrap_or(1), u64::from(MAX_SERVERS)),
     ]
 }

@@ -5,6 +5,7 @@ ghost use Rattle.std.specs.Prelude.{◌≡◌, ◌≤◌, IfOk, IsOk, None, Some
 ghost use Rattle.grid_surveys.specs.Verifies.{IsSegment, IsUnder};
 ghost use Rattle.tagged_hash.specs.ConvergentKey.{IsSecret};
 
+use file_encoding::MAX_CHOSEN_SEGMENT_SIZE;
 use grid_faults::{Fault, Limit};
 use grid_lists::find_grid;
 use grid_shares::{Environment, USUAL_MAX_SEGMENT, grid_ways, said_secret, secret_of};
@@ -15,9 +16,6 @@ use std::rt::{Clock, Files};
 
 /// The path that stands for standard input.
 const STANDARD_INPUT: &str = "-";
-
-/// The greatest segment that may be chosen, in bytes.
-const MAX_SEGMENT_SIZE: u64 = 1 << 20;
 
 /// Refuses words by which standard input is to be both the file and what has its cap, and tells it.
 pub fn may_verify<R, E>(
@@ -83,16 +81,16 @@ fn may_be_segment<R, E>(
 where
     R: Clock + AllocGlobal,
     E: Write + IsTerminal,
-    ensures { IsOk result → (1 ≤ max_segment) × (max_segment ≤ MAX_SEGMENT_SIZE) }
+    ensures { IsOk result → (1 ≤ max_segment) × (max_segment ≤ MAX_CHOSEN_SEGMENT_SIZE) }
 {
     let limit = Limit {
         option: "--segment",
         value: max_segment,
         least: 1,
-        most: MAX_SEGMENT_SIZE,
+        most: u64::from(MAX_CHOSEN_SEGMENT_SIZE),
     };
     note_limits(rt, &[limit], progress)?;
-    if max_segment == 0 || max_segment > MAX_SEGMENT_SIZE {
+    if max_segment == 0 || max_segment > u64::from(MAX_CHOSEN_SEGMENT_SIZE) {
         return Err(Fault::BadParameters);
     }
     Ok(())
