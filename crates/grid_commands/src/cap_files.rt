@@ -5,16 +5,16 @@ ghost use Rattle.std.specs.String.{string_bytes};
 ghost use Rattle.grid_commands.specs.CapFiles.{IsFirstLine};
 
 use grid_faults::Fault;
-use grid_words::{CheckWords, GetWords, RepairWords, SecretWords, VerifyWords};
+use grid_words::{
+    CheckWords, GetWords, RepairWords, STANDARD_INPUT, SecretWords, VerifyWords,
+};
 use std::alloc::Global;
 use std::fs::{File, OpenFile};
 use std::io::{self, Read};
 use std::rt::Files;
 use user_files::at_path;
 
-/// The path that stands for standard input, and how it is told.
-const STANDARD_INPUT: &str = "-";
-
+/// How standard input is told.
 const INPUT_NAME: &str = "standard input";
 
 /// How many bytes are read at most: no cap has half of it, so a text of so many is none.

@@ -6,12 +6,11 @@ ghost use Rattle.catalogues.specs.Heads.{IsInRange, fingerprint_of, first_text};
 ghost use Rattle.grid_lists.specs.Puts.{IsHeadBy};
 ghost use Rattle.grid_shares.specs.Puts.{AreChoicesBy, said_by};
 
-use crate::listed::STANDARD_INPUT;
 use catalogues::{Head, Moment, Numbers};
 use file_encoding::Params;
 use grid_faults::Fault;
 use grid_shares::{Choices, may_put, secret_of};
-use grid_words::{ListWords, PutWords};
+use grid_words::{ListWords, PutWords, STANDARD_INPUT};
 use std::rt::{Clock, Files};
 use std::time::SystemTime;
 

@@ -10,14 +10,12 @@ use cap_text::Cap;
 use catalogues::{CatalogueError, is_name, line_of};
 use grid_faults::{Fault, reason_line, told_path};
 use grid_telling::{Failure, Progress, print};
+use grid_words::STANDARD_INPUT;
 use std::alloc::{AllocError, Global};
 use std::fs;
 use std::io::{self, ErrorKind, IsTerminal, Write};
 use std::rt::{Clock, Files};
 use user_files::at_path;
-
-/// The name that stands for standard input among words.
-pub(crate) const STANDARD_INPUT: &str = "-";
 
 // The path of a file that has it.
 const NAMED_SO: &str = "./-";

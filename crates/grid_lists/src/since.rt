@@ -5,13 +5,12 @@ ghost use Rattle.catalogues.specs.Names.{IsName};
 ghost use Rattle.grid_lists.specs.Ends.{IsEarlier};
 ghost use Rattle.grid_lists.specs.Since.{IsKeptSince};
 
-use crate::listed::STANDARD_INPUT;
 use crate::names::{LINE_FEED, bounded, read_text};
 use cap_text::Cap;
 use catalogues::{CatalogueError, FileState, Head, Known, Moment, is_kept, is_name};
 use grid_faults::Fault;
 use grid_telling::Progress;
-use grid_words::PutWords;
+use grid_words::{PutWords, STANDARD_INPUT};
 use std::alloc::{AllocError, Global};
 use std::fs::{self, Metadata};
 use std::io::{self, IsTerminal, Write};

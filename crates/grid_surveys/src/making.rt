@@ -10,12 +10,9 @@ use grid_faults::{Fault, Limit};
 use grid_lists::find_grid;
 use grid_shares::{Environment, USUAL_MAX_SEGMENT, grid_ways, said_secret, secret_of};
 use grid_telling::{Progress, note_limits};
-use grid_words::{SecretWords, VerifyWords};
+use grid_words::{STANDARD_INPUT, SecretWords, VerifyWords};
 use std::io::{IsTerminal, Write};
 use std::rt::{Clock, Files};
-
-/// The path that stands for standard input.
-const STANDARD_INPUT: &str = "-";
 
 /// Refuses words by which standard input is to be both the file and what has its cap, and tells it.
 pub fn may_verify<R, E>(

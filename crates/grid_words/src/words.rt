@@ -18,6 +18,9 @@ use clap::{ArgMatches, Error};
 use std::alloc::{AllocError, Global};
 use std::convert::AsStr;
 
+/// The path that stands for standard input, wherever words name a file to be read.
+pub const STANDARD_INPUT: &str = "-";
+
 /// What the user asks for.
 #[derive(Drop)]
 pub enum Request<'a> {
