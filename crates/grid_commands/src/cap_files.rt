@@ -5,9 +5,7 @@ ghost use Rattle.std.specs.String.{string_bytes};
 ghost use Rattle.grid_commands.specs.CapFiles.{IsFirstLine};
 
 use grid_faults::Fault;
-use grid_words::{
-    CheckWords, GetWords, RepairWords, STANDARD_INPUT, SecretWords, VerifyWords,
-};
+use grid_words::{CheckWords, GetWords, RepairWords, STANDARD_INPUT, VerifyWords};
 use std::alloc::Global;
 use std::fs::{File, OpenFile};
 use std::io::{self, Read};
@@ -77,74 +75,26 @@ fn first_line(text: &[u8]) -> &[u8]
 pub(crate) fn get_words<'b: 'a, 'a>(words: &GetWords<'b>, cap: &'a str) -> GetWords<'a>
     ensures { result ≡ record words.now { cap = cap.entry } }
 {
-    GetWords {
-        cap,
-        cap_file: words.cap_file,
-        grid: words.grid,
-        from: words.from,
-        to: words.to,
-        output: words.output,
-        net: words.net,
-        known: words.known,
-        verbose: words.verbose,
-    }
+    GetWords { cap, ..*words }
 }
 
 /// Those of a check.
 pub(crate) fn check_words<'b: 'a, 'a>(words: &CheckWords<'b>, cap: &'a str) -> CheckWords<'a>
     ensures { result ≡ record words.now { cap = cap.entry } }
 {
-    CheckWords {
-        cap,
-        cap_file: words.cap_file,
-        grid: words.grid,
-        net: words.net,
-        json: words.json,
-        strict: words.strict,
-        known: words.known,
-        verbose: words.verbose,
-    }
+    CheckWords { cap, ..*words }
 }
 
 /// Those of a repair.
 pub(crate) fn repair_words<'b: 'a, 'a>(words: &RepairWords<'b>, cap: &'a str) -> RepairWords<'a>
     ensures { result ≡ record words.now { cap = cap.entry } }
 {
-    RepairWords {
-        cap,
-        cap_file: words.cap_file,
-        grid: words.grid,
-        happy: words.happy,
-        net: words.net,
-        no_sync: words.no_sync,
-        mend: words.mend,
-        known: words.known,
-        verbose: words.verbose,
-    }
+    RepairWords { cap, ..*words }
 }
 
 /// Those of a verify.
 pub(crate) fn verify_words<'b: 'a, 'a>(words: &VerifyWords<'b>, cap: &'a str) -> VerifyWords<'a>
     ensures { result ≡ record words.now { cap = cap.entry } }
 {
-    VerifyWords {
-        file: words.file,
-        cap,
-        cap_file: words.cap_file,
-        max_segment: words.max_segment,
-        secret: secret_words(&words.secret),
-        grid: words.grid,
-        verbose: words.verbose,
-    }
-}
-
-// The same words for a secret.
-fn secret_words<'b: 'a, 'a>(words: &SecretWords<'b>) -> SecretWords<'a>
-    ensures { result ≡ words.now }
-{
-    match words {
-        SecretWords::Unsaid => SecretWords::Unsaid,
-        SecretWords::Text(text) => SecretWords::Text(*text),
-        SecretWords::File(path) => SecretWords::File(*path),
-    }
+    VerifyWords { cap, ..*words }
 }
