@@ -1,8 +1,7 @@
 -- Files of a catalogue that are compared, one after the other.
-use Rattle.std.proofs.Common.{Bor, map, ◌≡◌, ◌≢◌, ◌∙◌, ◌<◌, ◌≤◌, ℕ, List, [], ◌∷◌, ◌++◌, Bool, true, false, Option, Some, None, Result, Ok, Err, IfOk, refl, sym, ap, subst, arith, inl, inr, length, not, eqb, true≢false}
-use Rattle.std.specs.Cmp.Lexicographic.{pointwise}
-use Rattle.std.proofs.lemmas.Bool.Decides.{Decides-eqb}
-use Rattle.std.proofs.lemmas.Slice.Eq.{slice_eq-Decides}
+use Rattle.std.proofs.Common.{Bor, map, ◌≡◌, ◌≢◌, ◌∙◌, ◌<◌, ◌≤◌, ℕ, List, [], ◌∷◌, ◌++◌, Bool, true, false, Option, Some, None, Result, Ok, Err, IfOk, refl, sym, ap, subst, arith, inl, inr, length, not, eqb}
+use Rattle.std.specs.Cmp.Lexicographic.{bytes_decides, pointwise}
+use Rattle.std.proofs.lemmas.Bool.{not-false}
 use Rattle.std.specs.Prelude.{max, codes, is_some}
 use Rattle.std.specs.Io.KnownBytes.{Appends}
 use Rattle.std.specs.List.{AllByRecursion, flat_map}
@@ -243,15 +242,6 @@ lines_read gives file words text secret given head rest (Ok n) before after begi
 
 -- ---- the fingerprint of a secret
 
-not_false : (b : Bool) → not b ≡ false → b ≡ true
-not_false true h = refl
-not_false false h = absurd (true≢false h)
-
--- equal bytes, as the code compares them
-same_bytes : (a b : List ℕ) (differ : Bool) → differ ≡ not (pointwise eqb a b) → differ ≡ false → a ≡ b
-same_bytes a b differ is fails =
-    (slice_eq-Decides {E = eqb} Decides-eqb a b (pointwise eqb a b) refl).0 (not_false (pointwise eqb a b) (sym is ∙ fails))
-
 -- what is so, however a result is
 told_of : {A B : Type 0} (r : Result A B) (P : Type 0) → P → IfOk r (λ _. P)
 told_of (Ok a) P p = p
@@ -261,4 +251,4 @@ pub same_fingerprint : (head given : Head) (secret made : List ℕ) (differ : Bo
     → differ ≡ not (pointwise eqb given.fingerprint made) → differ ≡ false → IfOk r (λ _. head.fingerprint ≡ fingerprint_of head.numbers secret)
 same_fingerprint head given secret made differ r same is differs fails =
     told_of r (head.fingerprint ≡ fingerprint_of head.numbers secret)
-    (subst (λ (h : Head). h.fingerprint ≡ fingerprint_of h.numbers secret) same (same_bytes given.fingerprint made differ differs fails ∙ is))
+    (subst (λ (h : Head). h.fingerprint ≡ fingerprint_of h.numbers secret) same ((bytes_decides given.fingerprint made).0 (not-false (pointwise eqb given.fingerprint made) (sym differs ∙ fails)) ∙ is))
