@@ -2,12 +2,13 @@
 //! servers' folders under the names of its shares, and is none of them, is set aside.
 
 ghost use Rattle.std.specs.Prelude.{◌≡◌, ◌≢◌, ◌++◌, ◌&&◌, None, Some, if◌then◌else◌, option_map};
-ghost use Rattle.std.specs.Prelude.{IfOk, OnOk, [], true};
+ghost use Rattle.std.specs.Prelude.{IfOk, IfSome, OnOk, [], true};
 ghost use Rattle.grid_shares.specs.declared.mending.Way.TheVariants.{Unmarked};
 ghost use Rattle.grid_shares.specs.Ways.{AreCleared, IsWanted, IsWay, is_still, is_touched};
 ghost use Rattle.grid_shares.specs.Ways.{read_at, stuck_by, way_by};
 
 use crate::placing::Placing;
+use crate::standing::{KnownServer, OpenGrid};
 use carried_operations::SharePlace;
 use grid_faults::{Fault, server_name, told_path};
 use grid_marks::{Mark, grid_mark, server_folder, try_known};
@@ -18,6 +19,7 @@ use share_scrub::{Cleared, LeftShare, clear_way};
 use share_store::error::StoreError;
 use std::alloc::{AllocError, Global};
 use std::io::{IsTerminal, Write};
+use std::net::Net;
 use std::random::RandomSource;
 use std::rt::{Clock, Files};
 use std::time::SystemTime;
@@ -68,20 +70,22 @@ pub(crate) struct Clearance {
 /// Clears the way for shares at each of the servers. Each share that was left is told. A folder
 /// that cannot be read is passed over, and so is one without its mark in a grid that knows its
 /// servers, and a server that is served elsewhere. The files of shares that are read meanwhile
-/// stay.
+/// stay. Where servers are held the files of each are listed once, and known from then on.
 pub(crate) fn clear_servers<R, E>(
     rt: &R,
     placing: &Placing<'_>,
     goal: &UploadGoal,
     reading: &[SharePlace],
+    held: &mut Option<OpenGrid<R>>,
     progress: &mut Progress<'_, R, E>,
 ) -> Result<Clearance, Fault>
 where
-    R: Files + Clock + RandomSource + AllocGlobal + Clone + Drop,
+    R: Files + Net + Clock + RandomSource + AllocGlobal + Clone + Drop,
     E: Write + IsTerminal,
-    ensures { IfOk result
+    ensures cleared { IfOk result
         (λ clearance. AreCleared goal.now placing.now.mend reading.now placing.now.servers.now
         clearance.stuck.items clearance.is_still) }
+    ensures held { held.new ≡ held.old }
 {
     // without a clock no open file is left over
     let now = SystemTime::now(rt).unwrap_or(SystemTime::UNIX_EPOCH);
@@ -90,7 +94,7 @@ where
     for server in placing.servers {
         let own = read_at(rt.alloc(), reading, *server)?;
         let wanted = wanted_of(goal, placing.mend, own.as_slice(), now);
-        let way = clear_server(rt, placing.grid, &known, *server, &wanted, progress)?;
+        let way = clear_server(rt, placing.grid, &known, *server, &wanted, held, progress)?;
         note_way(&mut clearance, *server, way)?;
     }
     Ok(clearance)
@@ -152,12 +156,14 @@ fn clear_server<R, E>(
     known: &Option<Mark>,
     server: NodeId,
     wanted: &Wanted<'_>,
+    held: &mut Option<OpenGrid<R>>,
     progress: &mut Progress<'_, R, E>,
 ) -> Result<Way, Fault>
 where
-    R: Files + Clock + RandomSource + AllocGlobal + Clone + Drop,
+    R: Files + Net + Clock + RandomSource + AllocGlobal + Clone + Drop,
     E: Write + IsTerminal,
-    ensures { IfOk result (IsWay wanted.entry.now) }
+    ensures way { IfOk result (IsWay wanted.entry.now) }
+    ensures held { held.new ≡ held.old }
 {
     let is_passed_over = match known {
         Some(known) => if_there(try_known(rt, grid, server, known))?.is_none(),
@@ -166,28 +172,63 @@ where
     if is_passed_over {
         return Ok(Way::Unmarked);
     }
-    clear_marked(rt, grid, server, wanted, progress)
+    let folder = server_folder(rt.alloc(), grid, server)?;
+    learn(rt, held, server, folder.as_str(), wanted.now)?;
+    let known = known_files(held, server);
+    clear_folder(rt, server, folder.as_str(), wanted, known, progress)
 }
 
-// The same at one whose mark, if any, is right.
-fn clear_marked<R, E>(
+// Lists the files of a server, where it is held and they are not known.
+fn learn<R>(
     rt: &R,
-    grid: &str,
+    held: &mut Option<OpenGrid<R>>,
     server: NodeId,
+    folder: &str,
+    now: SystemTime,
+) -> Result<(), AllocError>
+where
+    R: Files + Net + Clock + RandomSource + AllocGlobal + Clone + Drop,
+    ensures { held.new ≡ held.old }
+{
+    match held {
+        Some(standing) => standing.learn(rt, server, folder, now),
+        None => Ok(()),
+    }
+}
+
+// The files of a server, where it is held and they are known.
+fn known_files<R>(held: &Option<OpenGrid<R>>, server: NodeId) -> Option<&KnownServer>
+where
+    R: Files + Net + Clock + RandomSource + AllocGlobal + Clone + Drop,
+    ensures { IfSome result (λ known. known.now.server ≡ server) }
+{
+    match held {
+        Some(standing) => standing.known_files(server),
+        None => None,
+    }
+}
+
+// The same in the folder of one whose mark, if any, is right.
+fn clear_folder<R, E>(
+    rt: &R,
+    server: NodeId,
+    folder: &str,
     wanted: &Wanted<'_>,
+    known: Option<&KnownServer>,
     progress: &mut Progress<'_, R, E>,
 ) -> Result<Way, Fault>
 where
     R: Files + Clock + RandomSource + AllocGlobal + Clone + Drop,
     E: Write + IsTerminal,
+    requires { IfSome known (λ k. k.now.server ≡ server) }
     ensures way { IfOk result (IsWay wanted.entry.now) }
     ensures marked { IfOk result (λ way. way ≢ Unmarked) }
 {
-    let folder = server_folder(rt.alloc(), grid, server)?;
-    let mut files = FolderFiles::new(rt, folder.as_str(), wanted.now);
-    match clear_way(&mut files, wanted, progress) {
+    let mut files = FolderFiles::new(rt, folder, wanted.now);
+    let known = known.map(|known| &known.files);
+    match clear_way(&mut files, wanted, known, progress) {
         Ok(cleared) => {
-            tell_cleared(rt.alloc(), server, folder.as_str(), &cleared, progress)?;
+            tell_cleared(rt.alloc(), server, folder, &cleared, progress)?;
             Ok(way_of(&cleared))
         }
         Err(StoreError::OutOfMemory) => Err(Fault::OutOfMemory),

@@ -135,7 +135,11 @@ fn limits_of(meant: Meant, servers: Option<u64>) -> [Limit<'static>; 5] {
         limit("--k", meant.needed, total),
         limit("--happy", meant.happy, total),
         limit("--n", meant.total, MAX_SHARES),
-        limit("--segment", meant.max_segment, u64::from(MAX_CHOSEN_SEGMENT_SIZE)),
+        limit(
+            "--segment",
+            meant.max_segment,
+            u64::from(MAX_CHOSEN_SEGMENT_SIZE),
+        ),
         limit("--servers", servers.unwrap_or(1), u64::from(MAX_SERVERS)),
     ]
 }

@@ -43,8 +43,8 @@ const NOT_CLEARED: u8 = 5;
 // The most pieces of a share that may wait at a server elsewhere.
 const MOST_AHEAD: usize = 8;
 
-// The most of all shares together: two megabytes, which take 17 seconds at 1 Mbit/s. With more a put
-// over a slow line would lose pieces, since a request is lost 20 seconds after it is asked.
+// The most of all shares together: two megabytes, which take 17 seconds at 1 Mbit/s. With more a
+// put over a slow line would lose pieces, since a request is lost 20 seconds after it is asked.
 const MOST_PIECES: usize = 64;
 
 /// How a store puts shares on its disk.
@@ -123,9 +123,9 @@ where
     ensures kept { IfSome kept.new (λ g. WereOpened
         (grid_calls R.Stream.contents R.Stream.remaining) placing.now.grid.now g.grid) }
 {
-    let held = kept.take();
+    let mut held = kept.take();
     let _locks = lock_folders(rt, placing.grid, placing.servers)?;
-    let clearance = clear_servers(rt, placing, ready.goal(), reading, progress)?;
+    let clearance = clear_servers(rt, placing, ready.goal(), reading, &mut held, progress)?;
     let servers = servers_without(rt.alloc(), placing.servers, clearance.stuck.as_slice())?;
     let is_cleared = clearance.stuck.as_slice().is_empty();
     progress.begin(placing.verb, Counting::Stored, bytes_of(ready.goal()));

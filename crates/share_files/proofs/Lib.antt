@@ -1,5 +1,6 @@
 mod AsideNames
 pub mod Going
+mod KnownLemmas
 mod OneStep
 mod Polite
 mod ReadingLemmas

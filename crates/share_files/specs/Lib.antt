@@ -5,6 +5,7 @@ pub mod Fates
 pub mod Acts
 pub mod Going
 pub mod Order
+pub mod Known
 pub mod Polite
 -- The words of private clauses.
 pub mod Reading

@@ -24,7 +24,8 @@ pub enum Standing {
 /// What one call of the system did to the files of a folder, or found of them.
 #[derive(Drop)]
 pub enum Act {
-    /// The files of a storage index were listed.
+    /// The files of a storage index were listed, or of every one; or these are those of a storage
+    /// index as they were listed before.
     Listed(Snapshot<Vec<ShareFile>>),
     /// They could not be listed.
     Unlisted,

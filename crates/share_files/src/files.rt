@@ -5,7 +5,7 @@ ghost use Rattle.std.specs.Prelude.{◌≡◌, ◌≢◌, ◌<◌, [], ◌∷◌
 ghost use Rattle.std.specs.Prelude.{IsSorted};
 ghost use Rattle.std.specs.Bool.{OnFalse, OnTrue};
 ghost use Rattle.std.specs.IoError.{error_kind};
-ghost use Rattle.std.specs.declared.io.ErrorKind.TheVariants.{NotFound};
+ghost use Rattle.std.specs.declared.io.ErrorKind.TheVariants.{NotFound, OutOfMemory};
 ghost use Rattle.share_files.specs.declared.acts.Act.{Act};
 ghost use Rattle.share_files.specs.declared.acts.Act.TheVariants.{Found, Judged, Made, Moved};
 ghost use Rattle.share_files.specs.declared.acts.Act.TheVariants.{Removed, Unlisted};
@@ -13,19 +13,21 @@ ghost use Rattle.share_files.specs.declared.name.ShareFile.{ShareFile};
 ghost use Rattle.share_files.specs.Acts.{Lists};
 ghost use Rattle.share_files.specs.declared.bytes.Verdict.TheVariants.{Whole};
 ghost use Rattle.share_files.specs.Failures.{failure_of};
+ghost use Rattle.share_files.specs.Known.{HasAllOf};
 ghost use Rattle.share_files.specs.Verdict.{IsReadAs};
 ghost use Rattle.share_files.specs.Order.{file_order};
 
 use crate::acts::{Act, Acts, Standing};
 use crate::bytes::{Verdict, Watch, check_bytes};
 use crate::changes::{make_file, remove_file, rename_file};
+use crate::known::KnownFiles;
 use crate::name::{FileKind, ShareFile};
 use crate::seen::SeenWhole;
 use cap_text::to_base32;
 use disks::system::SystemDisk;
 use share_folders::names::{OwnToken, draw_token};
 use share_store::error::StoreError;
-use std::alloc::Global;
+use std::alloc::{AllocError, Global};
 use std::fs::{DirEntry, File, Metadata, OpenFile};
 use std::io::ErrorKind;
 use std::marker::Model;
@@ -135,16 +137,49 @@ where
         ensures sorted { IfOk result (λ files. IsSorted file_order files.items) }
         ensures err { OnErr result (self.new ≡ Unlisted ∷ self.old) }
     {
-        match files_of(self.rt, self.folder, index) {
-            Ok(files) => {
-                self.add(&Act::Listed(Snapshot::of(&files)));
-                Ok(files)
-            }
-            Err(error) => {
-                self.add(&Act::Unlisted);
-                Err(error)
-            }
+        let outcome = files_of(self.rt, self.folder, index);
+        self.came_of_list(outcome)
+    }
+
+    /// The files of every storage index, to be told by theirs. A folder that is not there has none.
+    pub fn list_known(&mut self) -> io::Result<KnownFiles>
+        ensures listed { IfOk result (λ known. Lists known self.old self.new) }
+        ensures err { IfErr result
+            (λ e. error_kind e ≢ OutOfMemory → self.new ≡ Unlisted ∷ self.old) }
+    {
+        let outcome = every_file(self.rt, self.folder);
+        let files = self.came_of_list(outcome)?;
+        Ok(KnownFiles::of(self.rt.alloc(), &files)?)
+    }
+
+    /// The files of a storage index, of those that are known. Nothing is done where memory is
+    /// refused, which alone can fail.
+    pub fn recall_list(
+        &mut self,
+        known: &KnownFiles,
+        index: &StorageIndex,
+    ) -> Result<Vec<ShareFile>, AllocError>
+        ensures listed { IfOk result (λ files. Lists files.items self.old self.new) }
+        ensures index { IfOk result (λ files. All (λ f. f.key.0 ≡ index.now) files.items) }
+        ensures all { IfOk result (λ files. HasAllOf index.now files.items known.now) }
+        ensures err { OnErr result (self.new ≡ self.old) }
+    {
+        let files = known.of_index(self.rt.alloc(), index)?;
+        self.add(&Act::Listed(Snapshot::of(&files)));
+        Ok(files)
+    }
+
+    // Adds what a listing came to.
+    fn came_of_list(&mut self, outcome: io::Result<Vec<ShareFile>>) -> io::Result<Vec<ShareFile>>
+        ensures same { result ≡ outcome }
+        ensures listed { IfOk outcome (λ files. Lists files.items self.old self.new) }
+        ensures err { OnErr outcome (self.new ≡ Unlisted ∷ self.old) }
+    {
+        match &outcome {
+            Ok(files) => self.add(&Act::Listed(Snapshot::of(files))),
+            Err(_) => self.add(&Act::Unlisted),
         }
+        outcome
     }
 
     /// All files of the folder, in their order.
@@ -342,6 +377,31 @@ fn files_of<R: Files + AllocGlobal + Clone + Drop>(
             Ok(entry) => {
                 let name = entry.file_name();
                 note(&mut files, name.as_bytes(), letters.as_bytes(), index)?;
+            }
+            Err(error) if error.kind() == ErrorKind::InvalidFilename => {}
+            Err(error) => return Err(error),
+        }
+    }
+    files.sort_unstable();
+    Ok(files)
+}
+
+// All share files of a folder, in their order.
+fn every_file<R: Files + AllocGlobal + Clone + Drop>(
+    rt: &R,
+    folder: &str,
+) -> io::Result<Vec<ShareFile>> {
+    let mut files = Vec::new(rt.alloc());
+    let entries = match fs::read_dir(rt, folder) {
+        Err(error) if error.kind() == ErrorKind::NotFound => return Ok(files),
+        outcome => outcome?,
+    };
+    for entry in entries {
+        match entry {
+            Ok(entry) => {
+                if let Some(file) = ShareFile::read(entry.file_name().as_bytes()) {
+                    files.push(file)?;
+                }
             }
             Err(error) if error.kind() == ErrorKind::InvalidFilename => {}
             Err(error) => return Err(error),

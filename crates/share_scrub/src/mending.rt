@@ -1,7 +1,7 @@
 //! The files of one storage index, before its shares are put.
 
-ghost use Rattle.std.specs.Prelude.{◌≡◌, ◌≢◌, ◌⊎◌, [], All, Ok, Option, Some, true, IfErr, IfOk};
-ghost use Rattle.std.specs.Prelude.{IsOkUnless, OnErr, OnOk};
+ghost use Rattle.std.specs.Prelude.{◌≡◌, ◌≢◌, ◌∷◌, ◌⊎◌, [], All, Ok, Option, Some, true, IfErr};
+ghost use Rattle.std.specs.Prelude.{IfOk, IfSome, IsOkUnless, OnErr, OnOk};
 ghost use Rattle.std.specs.IoError.{error_kind};
 ghost use Rattle.std.specs.declared.io.ErrorKind.TheVariants.{NotFound, OutOfMemory};
 ghost use Rattle.share_store.specs.declared.error.StoreError.{StoreError};
@@ -9,7 +9,9 @@ ghost use Rattle.std.specs.List.{AllByRecursion};
 ghost use Rattle.share_files.specs.declared.acts.Act.TheVariants.{Unlisted};
 ghost use Rattle.share_files.specs.declared.fate.Wanted.{Wanted};
 ghost use Rattle.share_files.specs.declared.name.FileKind.TheVariants.{Closed};
-ghost use Rattle.share_files.specs.Acts.{AreAllowed, IsAway, IsOf, Was, is_open, last_listed};
+ghost use Rattle.share_files.specs.Acts.{AreAllowed, IsAway, IsOf, Lists, Was, is_open};
+ghost use Rattle.share_files.specs.Acts.{last_listed};
+ghost use Rattle.share_files.specs.Known.{HasAllOf};
 ghost use Rattle.share_files.specs.Going.{Goes};
 ghost use Rattle.share_files.specs.Name.{closed_file};
 ghost use Rattle.share_scrub.specs.Clearing.{Counts, IsCleared, IsClearedOf};
@@ -18,8 +20,8 @@ ghost use Rattle.share_scrub.specs.Counted.{outcome_aside, outcome_removed};
 ghost use Rattle.share_scrub.specs.declared.mending.Outcome.TheVariants.{Kept, WasLeft};
 
 use share_files::{
-    Fate, FileKind, FolderFiles, ShareFile, Standing, Wanted, Watch, Went, closed_fate, set_aside,
-    settle,
+    Fate, FileKind, FolderFiles, KnownFiles, ShareFile, Standing, Wanted, Watch, Went, closed_fate,
+    set_aside, settle,
 };
 use share_folders::names::ClosedName;
 use share_store::error::StoreError;
@@ -103,7 +105,8 @@ impl Cleared {
 /// it has another length than the shares that are put, and, where their digests are given, where
 /// the digest in its name or that of its bytes is none of them. Before all this, what is on its way
 /// to be set aside is settled: a whole share gets its closed name back, and is held against what is
-/// wanted as others are. Nothing else is touched. A folder that is not there has no files.
+/// wanted as others are. Nothing else is touched. A folder that is not there has no files. Where
+/// its files are known, as it was listed before, it is listed only behind what was settled.
 ///
 /// `StoreFault` where the folder cannot be read: then nothing was done, but for what was on its
 /// way. `OutOfMemory` leaves the files behind which it came as they are, and the one at which it
@@ -111,6 +114,7 @@ impl Cleared {
 pub fn clear_way<R, W>(
     files: &mut FolderFiles<'_, R>,
     wanted: &Wanted<'_>,
+    known: Option<&KnownFiles>,
     watch: &mut W,
 ) -> Result<Cleared, StoreError>
 where
@@ -123,7 +127,7 @@ where
         (λ e. e ≡ StoreError.StoreFault → Was Unlisted files.new) }
 {
     let mut cleared = Cleared::new(files.alloc());
-    let listed = settle_all(files, wanted, &mut cleared, watch)?;
+    let listed = settle_all(files, wanted, known, &mut cleared, watch)?;
     clear_files(files, listed.as_slice(), wanted, &mut cleared, watch)?;
     Ok(cleared)
 }
@@ -132,6 +136,7 @@ where
 fn settle_all<R, W>(
     files: &mut FolderFiles<'_, R>,
     wanted: &Wanted<'_>,
+    known: Option<&KnownFiles>,
     cleared: &mut Cleared,
     watch: &mut W,
 ) -> Result<Vec<ShareFile>, StoreError>
@@ -148,11 +153,35 @@ where
     ensures unread { IfErr result
         (λ e. e ≡ StoreError.StoreFault → Was Unlisted files.new) }
 {
-    let listed = files.list(&wanted.index)?;
+    let listed = first_list(files, wanted, known)?;
     if settle_files(files, listed.as_slice(), wanted, cleared, watch)? {
         Ok(files.list(&wanted.index)?)
     } else {
         Ok(listed)
+    }
+}
+
+// The files of what is wanted: those that are known, or else as the folder is listed.
+fn first_list<R>(
+    files: &mut FolderFiles<'_, R>,
+    wanted: &Wanted<'_>,
+    known: Option<&KnownFiles>,
+) -> Result<Vec<ShareFile>, StoreError>
+where
+    R: Files + RandomSource + AllocGlobal + Clone + Drop,
+    ensures listed { IfOk result (λ listed. Lists listed.items files.old files.new) }
+    ensures index { IfOk result
+        (λ listed. All (λ f. f.key.0 ≡ wanted.entry.now.index) listed.items) }
+    ensures known { IfOk result (λ listed.
+        IfSome known.entry (λ k. HasAllOf wanted.entry.now.index listed.items k.now)) }
+    ensures err { OnErr result
+        ((files.new ≡ Unlisted ∷ files.old) ⊎ (files.new ≡ files.old)) }
+    ensures unread { IfErr result
+        (λ e. e ≡ StoreError.StoreFault → files.new ≡ Unlisted ∷ files.old) }
+{
+    match known {
+        Some(known) => Ok(files.recall_list(known, &wanted.index)?),
+        None => Ok(files.list(&wanted.index)?),
     }
 }
 
