@@ -26,7 +26,7 @@ grid_commands/src/lib.rt:_ => report(alloc, err, &Fault::OutOfMemory),
 grid_repairs/src/made_shares.rt:PieceFault::SourceFault if lacks_memory => PieceFault::OutOfMemory,
 grid_repairs/src/remaking.rt:Fault::OutOfMemory
 grid_repairs/src/standing.rt:check.report(alloc)?.ok_or(Fault::OutOfMemory)
-grid_commands/src/scrub_telling.rt:return Err(Failure::Fault(Fault::OutOfMemory));
+grid_stores/src/scrub_telling.rt:return Err(Failure::Fault(Fault::OutOfMemory));
 grid_serve/src/fault.rt:return ServeFault::Fault(Fault::OutOfMemory);
 grid_serving/src/clients.rt:self.note(node, Why::OutOfMemory);
 grid_serving/src/clients.rt:Err(AllocError)

@@ -1,5 +1,4 @@
 pub mod ElsewhereLemmas
 mod Faulting
 mod RunLemmas
-mod ScrubLemmas
 mod ServeLemmas

@@ -18,6 +18,8 @@ use Rattle.grid_surveys.specs.Looks.{IsLookDone, IsLookUndone, checking, repairi
 use Rattle.grid_surveys.specs.Verifies.{IsVerifyDone}
 use Rattle.grid_lists.specs.Puts.{IsPutByWays, IsPutUndone, is_one}
 use Rattle.grid_shares.specs.declared.Outcome.{Outcome}
+use Rattle.grid_stores.specs.Scrubs.{IsScrub}
+use Rattle.grid_stores.specs.Status.{IsStatusBy}
 use Rattle.grid_servers.specs.Grids.{GridCalls}
 use Rattle.grid_faults.specs.declared.fault.Fault.TheVariants as faults
 use Rattle.grid_telling.specs.declared.outcome.Failure.{Failure}
@@ -33,12 +35,12 @@ use Rattle.grid_words.specs.declared.words.InitWords.{InitWords}
 use Rattle.grid_words.specs.declared.words.PutWords.{PutWords}
 use Rattle.grid_words.specs.declared.words.RepairWords.{RepairWords}
 use Rattle.grid_words.specs.declared.words.ScrubWords.{ScrubWords}
+use Rattle.grid_words.specs.declared.words.StatusWords.{StatusWords}
 use Rattle.grid_words.specs.declared.words.Request.{Request}
-use Rattle.grid_words.specs.declared.words.Request.TheVariants.{Init, Put, Get, GetFiles, Check, CheckFiles, Verify, VerifyFiles, Repair, RepairFiles, Scrub, World, Describe}
+use Rattle.grid_words.specs.declared.words.Request.TheVariants.{Init, Put, Get, GetFiles, Check, CheckFiles, Verify, VerifyFiles, Repair, RepairFiles, Scrub, Status, World, Describe}
 use Rattle.grid_commands.specs.CapFiles.{IsCheckAsked, IsGetAsked, IsRepairAsked, IsVerifyAsked}
 use Rattle.grid_commands.specs.Commands.{AreCapLines, AreFiled, AreGetFiled, ArePrinted, AreVerifiedFor, IsCheckFor, IsDone, IsGetBegun, IsGetFiled, IsGetFiledOf, IsGetLeft, IsGetOf, IsGotTo, IsRepairFor, IsRunBy, IsUndone, IsUnwritten, IsVerifyFor, IsWorld, IsWrittenOf}
 use Rattle.grid_commands.specs.Inits.{IsInitBy}
-use Rattle.grid_commands.specs.Scrubs.{IsScrub}
 use Rattle.grid_commands.specs.Texts.{IsEndOf}
 
 -- words with another cap, which is their own where they name no file
@@ -212,6 +214,11 @@ module _ {F S : Type 0} (gives : Opened F → ℕ → List ℕ → Opened F → 
 
     pub scrub_run : (words : ScrubWords) → request ≡ Scrub words → IfOk r (λ status. IsScrub words status before after) → IsRunBy gives calls request r before after old new
     scrub_run words is done = by_request (Scrub words) is done (no_failure r) same
+
+    pub status_run : (words : StatusWords) (came : Result Outcome Fault) → request ≡ Status words → IfOk came (IsStatusBy words)
+        → IfOk r (λ status. IsOkAnd came (λ told. (status ≡ told.status) × Appends before after told.text.items)) → IfErr r (λ failure. IsUnwritten failure before after)
+        → IsRunBy gives calls request r before after old new
+    status_run words came is of done undone = by_request (Status words) is (outcome_written (IsStatusBy words) came r before after of done) undone same
 
     pub world_run : (path : Bor (List ℕ)) → request ≡ World path → IfOk r (λ status. IsWorld status before after) → IfErr r (λ failure. IsUnwritten failure before after) → IsRunBy gives calls request r before after old new
     world_run path is done undone = by_request (World path) is done undone same

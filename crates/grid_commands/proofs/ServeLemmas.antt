@@ -4,7 +4,7 @@ use Rattle.grid_servers.specs.Grids.{GridCalls}
 use Rattle.sources.specs.Opened.{Opened}
 use Rattle.grid_gets.specs.Files.{FileAct}
 use Rattle.grid_words.specs.declared.words.Request.{Request}
-use Rattle.grid_words.specs.declared.words.Request.TheVariants.{Init, Put, Get, GetFiles, Check, CheckFiles, Verify, VerifyFiles, Repair, RepairFiles, Scrub, Serve}
+use Rattle.grid_words.specs.declared.words.Request.TheVariants.{Init, Put, Get, GetFiles, Check, CheckFiles, Verify, VerifyFiles, Repair, RepairFiles, Scrub, Serve, Status}
 use Rattle.grid_words.specs.declared.words.Request.TheVariants.{World, Describe}
 use Rattle.grid_words.specs.declared.words.ServeWords.{ServeWords}
 use Rattle.grid_commands.specs.Commands.{EndsByItself, IsServedBy}
@@ -29,5 +29,6 @@ other_ends (VerifyFiles words) other = tt
 other_ends (Repair words) other = tt
 other_ends (RepairFiles words) other = tt
 other_ends (Scrub words) other = tt
+other_ends (Status words) other = tt
 other_ends (World path) other = tt
 other_ends (Describe text) other = tt

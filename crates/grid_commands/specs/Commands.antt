@@ -21,6 +21,8 @@ use Rattle.grid_repairs.specs.Repairs.{IsRepairBy}
 use Rattle.grid_rules.specs.CapLines.{cap_lines}
 use Rattle.grid_rules.specs.Ending.{world_status}
 use Rattle.grid_shares.specs.declared.Outcome.{Outcome}
+use Rattle.grid_stores.specs.Scrubs.{IsScrub}
+use Rattle.grid_stores.specs.Status.{IsStatusBy}
 use Rattle.grid_servers.specs.Grids.{GridCalls}
 use Rattle.grid_faults.specs.declared.fault.Fault.TheVariants as faults
 use Rattle.grid_telling.specs.declared.outcome.Failure.{Failure}
@@ -34,12 +36,11 @@ use Rattle.grid_words.specs.declared.words.RepairWords.{RepairWords}
 use Rattle.grid_words.specs.declared.words.Request.{Request}
 use Rattle.grid_words.specs.declared.words.Request.TheVariants.{Init, Put, Get, GetFiles, Check}
 use Rattle.grid_words.specs.declared.words.Request.TheVariants.{CheckFiles, Repair, RepairFiles}
-use Rattle.grid_words.specs.declared.words.Request.TheVariants.{Scrub, Serve, World}
+use Rattle.grid_words.specs.declared.words.Request.TheVariants.{Scrub, Serve, Status, World}
 use Rattle.grid_words.specs.declared.words.Request.TheVariants.{Describe, Verify, VerifyFiles}
 use Rattle.grid_commands.specs.CapFiles.{IsCheckAsked, IsGetAsked, IsRepairAsked, IsVerifyAsked}
 use Rattle.grid_commands.specs.Exit.{IsExit, IsServingEnd}
 use Rattle.grid_commands.specs.Inits.{IsInitBy}
-use Rattle.grid_commands.specs.Scrubs.{IsScrub}
 use Rattle.grid_commands.specs.Texts.{IsEndOf}
 
 -- `before` and `after` are the bytes of `out`, and `old` and `new` what was done with files of a
@@ -171,6 +172,7 @@ IsDone gives calls (VerifyFiles words) = AreVerifiedFor gives words
 IsDone gives calls (Repair words) = IsWrittenOf (IsRepairFor calls words)
 IsDone gives calls (RepairFiles words) = IsLookDone calls (repairing words)
 IsDone gives calls (Scrub words) = IsScrub words
+IsDone gives calls (Status words) = IsWrittenOf (IsStatusBy words)
 IsDone gives calls (Serve words) = IsServing
 IsDone gives calls (World path) = IsWorld
 IsDone gives calls (Describe text) = ArePrinted (AreCapLines text.now)

@@ -1,7 +1,6 @@
 -- what public contracts rest on
 pub mod Texts
 pub mod Inits
-pub mod Scrubs
 pub mod Elsewhere
 pub mod Exit
 pub mod CapFiles
@@ -9,5 +8,4 @@ pub mod Commands
 pub mod Grid
 -- the words of private clauses
 pub mod Faults
-pub mod Scrubbing
 pub mod Serving

@@ -5,9 +5,9 @@
 //! file or of many, in `grid_lists`; a `check` and a `repair` look at those that are stored, in
 //! `grid_repairs`; a `get` is one download or several, in `grid_gets`. Where these are of the files
 //! of a catalogue they stand in `grid_lists` and `grid_surveys`. A `verify` compares files with
-//! their caps, without servers, in `grid_surveys` too. A `scrub` reads the servers' folders; a
-//! `serve` is one server of a grid, until the process is ended; `world` runs a script, whose text
-//! is read whole before anything runs.
+//! their caps, without servers, in `grid_surveys` too. A `scrub` reads the servers' folders, and a
+//! `status` counts what is in them, in `grid_stores`; a `serve` is one server of a grid, until the
+//! process is ended; `world` runs a script, whose text is read whole before anything runs.
 //!
 //! Which words there are stands in `grid_words`, and what is told in `grid_faults`, `grid_rules`
 //! and `grid_telling`.
@@ -20,8 +20,6 @@ mod faults;
 mod init;
 mod running;
 mod script;
-mod scrub;
-mod scrub_telling;
 mod serving;
 
 ghost use Rattle.std.specs.Prelude.{◌≡◌, IfErr, IfOk, IsOkAnd, map, option_map};
@@ -47,6 +45,7 @@ use grid_repairs::{check, repair};
 use grid_rules::{cap_lines, read_cap};
 pub use grid_shares::Environment;
 use grid_shares::Outcome;
+use grid_stores::{scrub, status};
 use grid_surveys::{check_files, may_verify, repair_files, verify, verify_files};
 use grid_telling::{Failure, Progress};
 use grid_words::{CheckWords, GetWords, RepairWords, Request, VerifyWords, read_words};
@@ -74,7 +73,7 @@ pub use user_files::Locks;
 /// | 0 | it is done |
 /// | 2 | the words are wrong |
 /// | 3 | its input is refused |
-/// | 4 | an upload is unhappy |
+/// | 4 | an upload is unhappy, or a `status` finds a server that does not stand |
 /// | 5 | there are too few shares, a `check` finds so, a `scrub` damage, a `verify` another file |
 /// | 6 | shares are inconsistent, or a `world` prints that its bytes do not agree |
 /// | 7 | a file, a folder, a socket or memory failed, or `out` or `err` |
@@ -199,7 +198,8 @@ where
         Request::VerifyFiles(words) => verify_files(rt, words, environment, out, progress),
         Request::Repair(words) => told(out, repaired(rt, words, environment, progress)),
         Request::RepairFiles(words) => repair_files(rt, words, environment, out, progress),
-        Request::Scrub(words) => scrub::scrub(rt, words, environment, out, progress),
+        Request::Scrub(words) => scrub(rt, words, environment, out, progress),
+        Request::Status(words) => told(out, status(rt, words, environment, progress)),
         Request::Serve(_) => unreachable!(),
         Request::World(path) => script::world(rt, path, out),
         Request::Describe(text) => printed(out, describe(rt.alloc(), text)),

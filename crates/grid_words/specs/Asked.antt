@@ -31,6 +31,7 @@ use Rattle.grid_words.specs.declared.words.ScrubWords.{ScrubWords}
 use Rattle.grid_words.specs.declared.words.SecretWords.{SecretWords}
 use Rattle.grid_words.specs.declared.words.SecretWords.TheVariants as secrets
 use Rattle.grid_words.specs.declared.words.ServeWords.{ServeWords}
+use Rattle.grid_words.specs.declared.words.StatusWords.{StatusWords}
 
 -- the values that a command's own words and its defaults gave
 abbrev pub rows_in : ArgMatches → List Row
@@ -217,6 +218,12 @@ pub record AsksScrub (rows : List Row) (words : ScrubWords) : Type 0 where
   pub known : IsFlag (one_of (codes "known") rows) words.known
   pub verbose : IsFlag (one_of (codes "verbose") rows) words.verbose
 
+pub record AsksStatus (rows : List Row) (words : StatusWords) : Type 0 where
+  pub grid : words.grid.now ≡ text_under (codes "grid") rows
+  pub json : IsFlag (one_of (codes "json") rows) words.json
+  pub known : IsFlag (one_of (codes "known") rows) words.known
+  pub verbose : IsFlag (one_of (codes "verbose") rows) words.verbose
+
 pub record AsksServe (rows : List Row) (words : ServeWords) : Type 0 where
   pub folder : words.folder.now ≡ text_under (codes "FOLDER") rows
   pub listen : words.listen.now ≡ text_under (codes "listen") rows
@@ -229,7 +236,7 @@ pub record AsksServe (rows : List Row) (words : ServeWords) : Type 0 where
 -- the names of the commands that are told apart from `cap`
 abbrev pub other_names : List Text
 other_names = codes "init" ∷ codes "put" ∷ codes "get" ∷ codes "check" ∷ codes "verify"
-    ∷ codes "repair" ∷ codes "scrub" ∷ codes "serve" ∷ codes "world" ∷ []
+    ∷ codes "repair" ∷ codes "scrub" ∷ codes "status" ∷ codes "serve" ∷ codes "world" ∷ []
 
 -- the command of this name, with these values of its arguments, asks for this
 abbrev pub Asks : Text → List Row → Request → Type 0
@@ -248,6 +255,7 @@ Asks name rows (requests.Repair words) = (name ≡ codes "repair")
     × (first_of (codes "caps") rows ≡ None) × AsksRepair rows words
 Asks name rows (requests.RepairFiles words) = (name ≡ codes "repair") × AsksRepairFiles rows words
 Asks name rows (requests.Scrub words) = (name ≡ codes "scrub") × AsksScrub rows words
+Asks name rows (requests.Status words) = (name ≡ codes "status") × AsksStatus rows words
 Asks name rows (requests.Serve words) = (name ≡ codes "serve") × AsksServe rows words
 Asks name rows (requests.World path) = (name ≡ codes "world")
     × (path.now ≡ text_under (codes "SCRIPT") rows)
@@ -272,6 +280,7 @@ asks_notes (requests.VerifyFiles words) = words.verbose
 asks_notes (requests.Repair words) = words.verbose
 asks_notes (requests.RepairFiles words) = words.verbose
 asks_notes (requests.Scrub words) = words.verbose
+asks_notes (requests.Status words) = words.verbose
 asks_notes (requests.Serve words) = words.verbose
 asks_notes (requests.World path) = false
 asks_notes (requests.Describe cap) = false
@@ -286,4 +295,5 @@ wants_known (requests.CheckFiles words) = words.known
 wants_known (requests.Repair words) = words.known
 wants_known (requests.RepairFiles words) = words.known
 wants_known (requests.Scrub words) = words.known
+wants_known (requests.Status words) = words.known
 wants_known _ = false

@@ -6,8 +6,8 @@ use Rattle.clap.specs.declared.builder.arg.Arg.{Arg}
 use Rattle.clap.specs.declared.builder.command.Command.{Command}
 use Rattle.clap.specs.declared.builder.command.Command.TheViews.{out-Command as fields_of}
 use Rattle.grid_words.specs.CommandLine.{cap_shape, check_shape, get_shape, init_shape, put_shape}
-use Rattle.grid_words.specs.CommandLine.{repair_shape, scrub_shape, serve_shape, verify_shape}
-use Rattle.grid_words.specs.CommandLine.{world_shape}
+use Rattle.grid_words.specs.CommandLine.{repair_shape, scrub_shape, serve_shape, status_shape}
+use Rattle.grid_words.specs.CommandLine.{verify_shape, world_shape}
 use Rattle.grid_words.specs.declared.commands.Name.{Name}
 use Rattle.grid_words.specs.declared.commands.Name.TheVariants as names
 
@@ -46,13 +46,14 @@ shape_named grid names.Check = check_shape grid
 shape_named grid names.Verify = verify_shape grid
 shape_named grid names.Repair = repair_shape grid
 shape_named grid names.Scrub = scrub_shape grid
+shape_named grid names.Status = status_shape grid
 shape_named grid names.Serve = serve_shape
 shape_named grid names.World = world_shape
 shape_named grid names.Cap = cap_shape
 
 abbrev pub all_names : List Name
 all_names = names.Init ∷ names.Put ∷ names.Get ∷ names.Check ∷ names.Verify ∷ names.Repair
-    ∷ names.Scrub ∷ names.Serve ∷ names.World ∷ names.Cap ∷ []
+    ∷ names.Scrub ∷ names.Status ∷ names.Serve ∷ names.World ∷ names.Cap ∷ []
 
 -- a command line with the commands of these names behind its own
 abbrev pub with_named : Option Text → App → List Name → App

@@ -212,6 +212,13 @@ scrub_rules grid = grid_folder grid
     ∷ verbose
     ∷ []
 
+abbrev pub status_rules : Option Text → List Rule
+status_rules grid = grid_folder grid
+    ∷ flag (codes "json")
+    ∷ flag (codes "known")
+    ∷ verbose
+    ∷ []
+
 abbrev pub serve_rules : List Rule
 serve_rules = operand (codes "FOLDER")
     ∷ listen
@@ -247,6 +254,9 @@ repair_shape grid = shape (codes "repair") (repair_rules grid)
 abbrev pub scrub_shape : Option Text → Shape
 scrub_shape grid = shape (codes "scrub") (scrub_rules grid)
 
+abbrev pub status_shape : Option Text → Shape
+status_shape grid = shape (codes "status") (status_rules grid)
+
 abbrev pub serve_shape : Shape
 serve_shape = shape (codes "serve") serve_rules
 
@@ -272,5 +282,6 @@ abbrev pub grid_app : Option Text → App
 grid_app grid = record {
   top = record grid_shape { is_leaf = false };
   subs = init_shape ∷ put_shape grid ∷ get_shape grid ∷ check_shape grid ∷ verify_shape grid
-      ∷ repair_shape grid ∷ scrub_shape grid ∷ serve_shape ∷ world_shape ∷ cap_shape ∷ [];
+      ∷ repair_shape grid ∷ scrub_shape grid ∷ status_shape grid ∷ serve_shape ∷ world_shape
+      ∷ cap_shape ∷ [];
 }

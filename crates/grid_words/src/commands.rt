@@ -7,8 +7,9 @@ ghost use Rattle.grid_words.specs.CommandLine.{bare_app, cap_shape, check_rules,
 ghost use Rattle.grid_words.specs.CommandLine.{get_rules, get_shape, grid_app, init_rules};
 ghost use Rattle.grid_words.specs.CommandLine.{init_shape, put_rules, put_shape, repair_rules};
 ghost use Rattle.grid_words.specs.CommandLine.{repair_shape, scrub_rules, scrub_shape};
-ghost use Rattle.grid_words.specs.CommandLine.{serve_rules, serve_shape, shape, verify_rules};
-ghost use Rattle.grid_words.specs.CommandLine.{verify_shape, world_shape};
+ghost use Rattle.grid_words.specs.CommandLine.{serve_rules, serve_shape, shape, status_rules};
+ghost use Rattle.grid_words.specs.CommandLine.{status_shape, verify_rules, verify_shape};
+ghost use Rattle.grid_words.specs.CommandLine.{world_shape};
 
 use crate::arguments::{
     add, adopt, anyone, files, files_from, files0_from, flag, grid_folder, happy, json,
@@ -43,13 +44,14 @@ enum Name {
     Verify,
     Repair,
     Scrub,
+    Status,
     Serve,
     World,
     Cap,
 }
 
 // In the order in which the help tells them.
-const NAMES: [Name; 10] = [
+const NAMES: [Name; 11] = [
     Name::Init,
     Name::Put,
     Name::Get,
@@ -57,6 +59,7 @@ const NAMES: [Name; 10] = [
     Name::Verify,
     Name::Repair,
     Name::Scrub,
+    Name::Status,
     Name::Serve,
     Name::World,
     Name::Cap,
@@ -111,6 +114,7 @@ fn command_of<'a>(
         Name::Verify => verify_command(alloc, grid),
         Name::Repair => repair_command(alloc, grid),
         Name::Scrub => scrub_command(alloc, grid),
+        Name::Status => status_command(alloc, grid),
         Name::Serve => serve_command(alloc),
         Name::World => world_command(alloc),
         Name::Cap => cap_command(alloc),
@@ -412,6 +416,36 @@ fn scrub_arguments<'a>(alloc: Global, grid: Option<&'a str>) -> Result<Vec<Arg<'
         json(alloc),
         known(alloc),
         verbose(alloc),
+    ]?)
+}
+
+fn status_command<'a>(alloc: Global, grid: Option<&'a str>) -> Result<Command<'a>, AllocError>
+    ensures { IfOk result (HasShape (status_shape (option_map (λ folder. folder.now) grid.entry))) }
+{
+    command(
+        alloc,
+        "status",
+        "Tells which servers of a grid stand, and how many shares, bytes, open files and damaged \
+files are in their folders, by their names: no share is read, and no server is asked. Ends with \
+status 4 where a server does not stand.",
+        status_arguments(alloc, grid)?,
+    )
+}
+
+fn status_arguments<'a>(alloc: Global, grid: Option<&'a str>) -> Result<Vec<Arg<'a>>, AllocError>
+    ensures { IfOk result (λ arguments.
+        HaveRules (status_rules (option_map (λ folder. folder.now) grid.entry)) arguments.items) }
+{
+    Ok(vec![in alloc;
+        grid_folder(alloc, grid),
+        flag(alloc, "json", "Print one JSON object"),
+        known(alloc),
+        flag(
+            alloc,
+            "verbose",
+            "Tell why a server does not stand, on standard error",
+        )
+        .short('v'),
     ]?)
 }
 

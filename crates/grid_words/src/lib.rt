@@ -15,5 +15,5 @@ pub use commands::VERSION;
 pub use verify_words::{VerifyFilesWords, VerifyWords};
 pub use words::{
     CheckWords, GetWords, InitWords, ListWords, Marking, NumberWords, PutWords, RepairWords,
-    Request, STANDARD_INPUT, ScrubWords, SecretWords, ServeWords, read_words,
+    Request, STANDARD_INPUT, ScrubWords, SecretWords, ServeWords, StatusWords, read_words,
 };

@@ -3,9 +3,10 @@
 ghost use Rattle.std.specs.Prelude.{◌≡◌, IfErr, IfOk, codes, map, option_map, true};
 ghost use Rattle.clap.specs.Words.{first_of, kind_of, one_of, subcommand_of, takes};
 ghost use Rattle.grid_words.specs.Asked.{Asks, AsksCheck, AsksGet, AsksInit, AsksNumbers, AsksPut};
-ghost use Rattle.grid_words.specs.Asked.{AsksRepair, AsksScrub, AsksServe, IsAsked, IsFlag, IsList};
-ghost use Rattle.grid_words.specs.Asked.{IsMarking, IsSecret, asks_notes, number_under, rows_in};
-ghost use Rattle.grid_words.specs.Asked.{text_under, texts_under, wants_known};
+ghost use Rattle.grid_words.specs.Asked.{AsksRepair, AsksScrub, AsksServe, AsksStatus, IsAsked};
+ghost use Rattle.grid_words.specs.Asked.{IsFlag, IsList, IsMarking, IsSecret, asks_notes};
+ghost use Rattle.grid_words.specs.Asked.{number_under, rows_in, text_under, texts_under};
+ghost use Rattle.grid_words.specs.Asked.{wants_known};
 ghost use Rattle.grid_words.specs.CommandLine.{grid_app};
 
 use crate::catalogue_words::{
@@ -35,6 +36,7 @@ pub enum Request<'a> {
     Repair(RepairWords<'a>),
     RepairFiles(RepairFilesWords<'a>),
     Scrub(ScrubWords<'a>),
+    Status(StatusWords<'a>),
     Serve(ServeWords<'a>),
     /// `grid world SCRIPT`, with the path of the script.
     World(&'a str),
@@ -59,6 +61,7 @@ impl<'a> Request<'a> {
             Request::Repair(words) => words.verbose,
             Request::RepairFiles(words) => words.verbose,
             Request::Scrub(words) => words.verbose,
+            Request::Status(words) => words.verbose,
             Request::Serve(words) => words.verbose,
             Request::World(_) | Request::Describe(_) => false,
         }
@@ -77,6 +80,7 @@ impl<'a> Request<'a> {
             Request::Repair(words) => words.known,
             Request::RepairFiles(words) => words.known,
             Request::Scrub(words) => words.known,
+            Request::Status(words) => words.known,
             Request::Init(_) | Request::Serve(_) => false,
             Request::Verify(_) | Request::VerifyFiles(_) => false,
             Request::World(_) | Request::Describe(_) => false,
@@ -226,6 +230,15 @@ pub struct ScrubWords<'a> {
     pub verbose: bool,
 }
 
+/// `grid status --grid DIR ..`.
+#[derive(Drop)]
+pub struct StatusWords<'a> {
+    pub grid: &'a str,
+    pub json: bool,
+    pub known: bool,
+    pub verbose: bool,
+}
+
 /// `grid serve FOLDER --listen ADDRESS ..`: a text and a number as the user wrote them.
 #[derive(Drop)]
 pub struct ServeWords<'a> {
@@ -278,6 +291,7 @@ fn request_of<'a>(
         "verify" => verify_request(alloc, found)?,
         "repair" => repair_request(alloc, found)?,
         "scrub" => Request::Scrub(scrub_words(found)),
+        "status" => Request::Status(status_words(found)),
         "serve" => Request::Serve(serve_words(found)),
         "world" => Request::World(text_of(found, "SCRIPT")),
         // There is no other.
@@ -425,6 +439,17 @@ fn scrub_words<'a>(found: &ArgMatches<'a>) -> ScrubWords<'a>
         set_aside: is_set(found, "set-aside"),
         remove_open: is_set(found, "remove-open"),
         remove_damaged: is_set(found, "remove-damaged"),
+        json: is_set(found, "json"),
+        known: is_set(found, "known"),
+        verbose: is_set(found, "verbose"),
+    }
+}
+
+fn status_words<'a>(found: &ArgMatches<'a>) -> StatusWords<'a>
+    ensures { AsksStatus (rows_in found.now) result }
+{
+    StatusWords {
+        grid: text_of(found, "grid"),
         json: is_set(found, "json"),
         known: is_set(found, "known"),
         verbose: is_set(found, "verbose"),

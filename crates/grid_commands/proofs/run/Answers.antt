@@ -1,5 +1,5 @@
 use Rattle.std.proofs.Common.{refl}
-use Rattle.grid_commands.proofs.RunLemmas.{check_files_run, check_run, describe_run, get_files_run, get_run, init_run, put_run, repair_files_run, repair_run, scrub_run, verify_files_run, verify_run, world_run}
+use Rattle.grid_commands.proofs.RunLemmas.{check_files_run, check_run, describe_run, get_files_run, get_run, init_run, put_run, repair_files_run, repair_run, scrub_run, status_run, verify_files_run, verify_run, world_run}
 use Rattle.grid_commands.proofs.run.Goals as goal
 
 pub returns-in-Init : goal.returns-in-Init
@@ -34,6 +34,9 @@ returns-in-RepairFiles g c = repair_files_run _ _ c.args.request.now c.repair_fi
 
 pub returns-in-Scrub : goal.returns-in-Scrub
 returns-in-Scrub g c = scrub_run _ _ c.args.request.now c.scrub.result _ _ _ _ refl c.in-Scrub.words c.in-Scrub.is c.scrub.ensures
+
+pub returns-in-Status : goal.returns-in-Status
+returns-in-Status g c = status_run _ _ c.args.request.now c.told-in-Status.result _ _ _ _ refl c.in-Status.words c.status.result c.in-Status.is c.status.ensures c.told-in-Status.ensures.done c.told-in-Status.ensures.undone
 
 pub returns-in-World : goal.returns-in-World
 returns-in-World g c = world_run _ _ c.args.request.now c.world.result _ _ _ _ refl c.in-World.path c.in-World.is c.world.ensures.done c.world.ensures.undone

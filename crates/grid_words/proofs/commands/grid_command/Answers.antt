@@ -18,6 +18,6 @@ loop-name-preserved c =
 pub returns : goal.returns
 returns c =
     let grid : Option Text = option_map (λ folder. folder.now) c.args.grid in
-    let end : c.loop-name.name-index ≡ 10 = omega (arith, c.loop-name-test.false, c.loop-name.auto.name-index-end) in
+    let end : c.loop-name.name-index ≡ 11 = omega (arith, c.loop-name-test.false, c.loop-name.auto.name-index-end) in
     let all : with_named grid bare_app (take c.loop-name.name-index all_names) ≡ grid_app grid = ap (λ i. with_named grid bare_app (take i all_names)) end in
     subst (λ (a : App). IsApp a c.loop-name.command) all c.loop-name.invariant

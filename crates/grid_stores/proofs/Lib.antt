@@ -1,0 +1,2 @@
+mod ScrubLemmas
+mod StatusLemmas
