@@ -8,7 +8,7 @@ _grid() {
     local before=${COMP_WORDS[COMP_CWORD-1]} command=${COMP_WORDS[1]} options takes
     COMPREPLY=()
     if [ "$COMP_CWORD" -eq 1 ]; then
-        _grid_offers -W 'init put get check verify repair scrub serve world cap help --help --version'
+        _grid_offers -W 'init put get check verify repair scrub status serve world cap help --help --version'
         return
     fi
     case $command in
@@ -64,6 +64,12 @@ _grid() {
         --grid) _grid_offers -d; return ;;
         esac
         takes= ;;
+    status)
+        options='--grid --json --known --verbose --help'
+        case $before in
+        --grid) _grid_offers -d; return ;;
+        esac
+        takes= ;;
     serve)
         options='--listen --anyone --room --mark --no-sync --verbose --help'
         case $before in
@@ -81,7 +87,7 @@ _grid() {
         esac
         takes= ;;
     help)
-        _grid_offers -W 'init put get check verify repair scrub serve world cap'
+        _grid_offers -W 'init put get check verify repair scrub status serve world cap'
         return ;;
     esac
     case ${COMP_WORDS[COMP_CWORD]} in
