@@ -1,7 +1,7 @@
 //! The tests of the program's commands that no row of `grid_rows` can have: a call on a file that
 //! fails in mid-stream, a writer that fails, memory that is refused, words that are none, and what
-//! a crash leaves of a grid; and those of a grid's folders, of what is read of a file or of standard
-//! input, and of the file that a `get` writes.
+//! a crash leaves of a grid; and those of a grid's folders, of what a `status` tells of them, of
+//! what is read of a file or of standard input, and of the file that a `get` writes.
 #![tactic(auto)]
 
 #[cfg(test)]
@@ -28,5 +28,7 @@ mod output_tests;
 mod refused_memory_tests;
 #[cfg(test)]
 mod runs;
+#[cfg(test)]
+mod status_tests;
 #[cfg(test)]
 mod stopping_files;
