@@ -3,12 +3,13 @@
 
 use crate::share_store_tests::{
     Call, INDEX, INDEX_TEXT, SEVENS, WRITING, file, fill, gives, open, open_file, open_for, path,
-    remove, share,
+    remove, right_calls, share,
 };
 use share_folders::folder::{FolderStore, Purpose};
 use share_folders::names::{OpenName, OwnToken};
 use share_store::error::StoreError;
 use share_store::store::Store;
+use std::alloc::Global;
 use std::fs;
 use std::test::Fail;
 
@@ -75,6 +76,16 @@ fn changed_files_are_not_closed(rt: HostRuntime) -> Result<(), Fail> {
     Ok(())
 }
 
+static ANEW: [Call; 7] = [
+    Call::Write(INDEX, 3, 0, b"\x09\x09"),
+    Call::Write(INDEX, 3, 0, b"\x01"),
+    Call::Write(INDEX, 3, 1, b"\x02"),
+    Call::Close(INDEX, 3, 7),
+    Call::Read(INDEX, 3, 0, 9, b"\x01\x02"),
+    Call::Close(INDEX, 4, 7),
+    Call::Read(INDEX, 4, 0, 9, b""),
+];
+
 // A share that is begun anew has only what is written then. What others left of it stays.
 #[test]
 fn shares_begin_anew(rt: HostRuntime) -> Result<(), Fail> {
@@ -82,19 +93,9 @@ fn shares_begin_anew(rt: HostRuntime) -> Result<(), Fail> {
     let mut store = open(&rt)?;
     let left = file(&rt, ".3.open", "")?;
     fs::write(&rt, left.as_str(), b"left".as_slice())?;
-    for call in [
-        Call::Write(INDEX, 3, 0, b"\x09\x09"),
-        Call::Write(INDEX, 3, 0, b"\x01"),
-        Call::Write(INDEX, 3, 1, b"\x02"),
-        Call::Close(INDEX, 3, 7),
-        Call::Read(INDEX, 3, 0, 9, b"\x01\x02"),
-        Call::Close(INDEX, 4, 7),
-        Call::Read(INDEX, 4, 0, 9, b""),
-    ] {
-        assert!(rt; gives(rt.alloc(), &mut store, call) == Ok(true));
-    }
-    assert!(rt; fs::read(&rt, left.as_str())?.as_slice() == b"left".as_slice());
-    assert!(rt; open_file(&rt)?.is_none());
+    let right = right_calls(rt.alloc(), &mut store, &ANEW);
+    let stays = fs::read(&rt, left.as_str())?.as_slice() == b"left".as_slice();
+    assert!(rt; right == 7 && stays && open_file(&rt)?.is_none());
     remove(&rt)?;
     Ok(())
 }
@@ -138,6 +139,12 @@ fn fails_at_the_folder(rt: &HostRuntime) -> Result<bool, StoreError> {
     Ok(read == Err(StoreError::StoreFault) && store.failures() == 1)
 }
 
+// Whether a store is opened for reading alone, or not, and reads and lists.
+fn is_opened(rt: &HostRuntime, purpose: Purpose, readonly: bool) -> Result<bool, StoreError> {
+    let mut store = open_for(rt, purpose)?;
+    Ok(store.is_readonly() == readonly && reads_and_lists(rt, &mut store)?)
+}
+
 // A store looks at no file before its share is asked for: then a folder under the name of a share
 // is passed over. One that is opened for reading takes no shares.
 #[test]
@@ -145,14 +152,19 @@ fn a_store_for_reading(rt: HostRuntime) -> Result<(), Fail> {
     remove(&rt)?;
     drop(open_for(&rt, Purpose::Reading)?);
     fill(&rt)?;
-    for purpose in [Purpose::Reading, WRITING] {
-        let mut store = open_for(&rt, purpose)?;
-        assert!(rt; store.is_readonly() == (purpose == Purpose::Reading));
-        assert!(rt; reads_and_lists(&rt, &mut store)?);
-    }
+    assert!(rt; is_opened(&rt, Purpose::Reading, true)? && is_opened(&rt, WRITING, false)?);
     assert!(rt; fails_at_the_folder(&rt)?);
     remove(&rt)?;
     Ok(())
+}
+
+// Whether a store that is opened so writes and closes no share.
+fn takes_none(rt: &HostRuntime, purpose: Purpose) -> Result<bool, Fail> {
+    let mut store = open_for(rt, purpose)?;
+    let writes = gives(rt.alloc(), &mut store, Call::Write(INDEX, 3, 0, b"\x01"));
+    let closes = gives(rt.alloc(), &mut store, Call::Close(INDEX, 3, 7));
+    let fault = Err(StoreError::StoreFault);
+    Ok(store.is_readonly() && writes == fault && closes == fault)
 }
 
 // A store that takes no shares, since it was opened for reading or its folder is `readonly`, writes
@@ -161,15 +173,9 @@ fn a_store_for_reading(rt: HostRuntime) -> Result<(), Fail> {
 fn stores_that_take_no_shares(rt: HostRuntime) -> Result<(), Fail> {
     remove(&rt)?;
     drop(open(&rt)?);
-    for purpose in [Purpose::Reading, WRITING] {
-        let mut store = open_for(&rt, purpose)?;
-        assert!(rt; store.is_readonly());
-        for call in [Call::Write(INDEX, 3, 0, b"\x01"), Call::Close(INDEX, 3, 7)] {
-            let outcome = gives(rt.alloc(), &mut store, call);
-            assert!(rt; outcome == Err(StoreError::StoreFault));
-        }
-        fs::write(&rt, path(&rt, "/readonly")?.as_str(), b"".as_slice())?;
-    }
+    assert!(rt; takes_none(&rt, Purpose::Reading)?);
+    fs::write(&rt, path(&rt, "/readonly")?.as_str(), b"".as_slice())?;
+    assert!(rt; takes_none(&rt, WRITING)?);
     assert!(rt; open_file(&rt)?.is_none());
     remove(&rt)?;
     Ok(())
@@ -201,18 +207,23 @@ static OPEN_NAMES: [(&str, Option<(u8, Option<OwnToken>)>); 16] = [
     (".7.aaaqeayeaudaocajbifqydiob4.open.open", None),
 ];
 
+// Whether a name of these is read as it is to be, and written so.
+fn is_read(
+    alloc: Global,
+    rest: &str,
+    wanted: Option<(u8, Option<OwnToken>)>,
+) -> Result<bool, StoreError> {
+    let name = format!(in alloc; "{INDEX_TEXT}{rest}")?;
+    let (Some(read), Some((number, own))) = (OpenName::read(name.as_bytes()), wanted) else {
+        return Ok(OpenName::read(name.as_bytes()).is_none() && wanted.is_none());
+    };
+    Ok(read.key == (INDEX, number) && read.own == own && read.text(alloc)? == name)
+}
+
 #[test]
 fn open_names_are_read(rt: HostRuntime) -> Result<(), Fail> {
     for (rest, wanted) in OPEN_NAMES {
-        let name = format!(in rt.alloc(); "{INDEX_TEXT}{rest}")?;
-        match (OpenName::read(name.as_bytes()), wanted) {
-            (None, None) => {}
-            (Some(read), Some((number, own))) => {
-                assert!(rt; read.key == (INDEX, number) && read.own == own, "{rest}");
-                assert!(rt; read.text(rt.alloc())? == name, "{rest}");
-            }
-            _ => assert!(rt; false, "{rest}"),
-        }
+        assert!(rt; is_read(rt.alloc(), rest, wanted)?, "{rest}");
     }
     Ok(())
 }

@@ -3,11 +3,15 @@
 #![tactic(auto)]
 
 #[cfg(test)]
+mod clearing_tests;
+#[cfg(test)]
 mod kept_open_tests;
 #[cfg(test)]
 mod scrub_bytes_tests;
 #[cfg(test)]
 mod scrub_folder_tests;
+#[cfg(test)]
+mod scrub_folders;
 #[cfg(test)]
 mod share_store_tests;
 #[cfg(test)]

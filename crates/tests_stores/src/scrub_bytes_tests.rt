@@ -1,6 +1,7 @@
 //! What is read, and whether it has a digest. The digests were computed by Python's hashlib.
 
 use share_files::{Verdict, Watch, check_bytes};
+use std::alloc::{AllocError, Global};
 use std::io;
 use std::io::{ErrorKind, Read};
 use std::test::Fail;
@@ -112,17 +113,22 @@ fn errors_are_told(rt: HostRuntime) {
     assert_eq!(rt; count, 3);
 }
 
-#[test]
-fn many_bytes(rt: HostRuntime) -> Result<(), Fail> {
-    let mut bytes = Vec::new(rt.alloc());
-    for i in 0..200_000u32 {
+// So many bytes, of which byte i is i modulo 251.
+fn counted(alloc: Global, count: u32) -> Result<Vec<u8>, AllocError> {
+    let mut bytes = Vec::new(alloc);
+    for i in 0..count {
         bytes.push((i % 251) as u8)?;
     }
+    Ok(bytes)
+}
+
+#[test]
+fn many_bytes(rt: HostRuntime) -> Result<(), Fail> {
+    let bytes = counted(rt.alloc(), 200_000)?;
     let mut buffer = vec![in rt.alloc(); 0u8; 65_536]?;
     let mut count = Count { bytes: 0 };
     let mut reader = bytes.as_slice();
     let verdict = check_bytes(&mut reader, &LONG, buffer.as_mut_slice(), &mut count)?;
-    assert_eq!(rt; verdict, Verdict::Whole);
-    assert_eq!(rt; count.bytes, 200_000);
+    assert!(rt; verdict == Verdict::Whole && count.bytes == 200_000);
     Ok(())
 }

@@ -175,7 +175,7 @@ pub(crate) fn gives<S: Store>(
 }
 
 // How many calls in turn give what they are to give, up to the first that does not.
-fn right_calls<S: Store>(alloc: Global, store: &mut S, calls: &[Call]) -> usize {
+pub(crate) fn right_calls<S: Store>(alloc: Global, store: &mut S, calls: &[Call]) -> usize {
     for (i, call) in calls.iter().enumerate() {
         if gives(alloc, store, *call) != Ok(true) {
             return i;
@@ -279,9 +279,8 @@ pub(crate) fn open_file(rt: &HostRuntime) -> Result<Option<String>, Fail> {
     let folder = path(rt, "")?;
     for entry in fs::read_dir(rt, folder.as_str())? {
         let entry = entry?;
-        let named = OpenName::read(entry.file_name().as_bytes());
-        if named.is_some_and(|name| name.own.is_some()) {
-            let name = entry.file_name();
+        let name = entry.file_name();
+        if OpenName::read(name.as_bytes()).is_some_and(|name| name.own.is_some()) {
             return Ok(Some(format!(in rt.alloc(); "{folder}/{name}")?));
         }
     }
@@ -438,20 +437,34 @@ fn fails_to_read(
     Ok(gone && fails(rt, store, Call::Read(INDEX, 0, 0, 9, b"\x01\x02"), 2))
 }
 
+// Whether no store is opened at a path that is no folder.
+fn is_no_folder(rt: &HostRuntime, path: &str) -> bool {
+    let outcome = FolderStore::open(rt, path, WRITING);
+    matches!(&outcome, Err(StoreError::StoreFault))
+}
+
+// Whether a store whose shares are at this path puts one, and fails to read it then.
+fn puts_and_fails(
+    rt: &HostRuntime,
+    store: &mut FolderStore<HostRuntime>,
+    closed: &str,
+) -> io::Result<bool> {
+    let is_put = right_calls(rt.alloc(), store, &ONE_SHARE) == 2;
+    Ok(is_put && fails_to_read(rt, store, closed)? && is_no_folder(rt, closed))
+}
+
 // A closed file that is gone, one that is too short, a path that is no folder, and a folder that is
 // gone.
 #[test]
 fn folder_fails(rt: HostRuntime) -> Result<(), Fail> {
     remove(&rt)?;
-    let mut store = open(&rt)?;
-    assert_eq!(rt; right_calls(rt.alloc(), &mut store, &ONE_SHARE), 2);
     let closed = file(&rt, ".0.", SEVENS)?;
-    assert!(rt; fails_to_read(&rt, &mut store, closed.as_str())?);
-    let outcome = FolderStore::open(&rt, closed.as_str(), WRITING);
-    assert!(rt; matches!(&outcome, Err(StoreError::StoreFault)));
+    let mut store = open(&rt)?;
+    let reads = puts_and_fails(&rt, &mut store, closed.as_str())?;
     remove(&rt)?;
-    assert!(rt; fails(&rt, &mut store, Call::Write(INDEX, 1, 0, b"\x01"), 3));
-    assert!(rt; fails(&rt, &mut store, Call::Close(INDEX, 1, 7), 4));
+    let writes = fails(&rt, &mut store, Call::Write(INDEX, 1, 0, b"\x01"), 3);
+    let closes = fails(&rt, &mut store, Call::Close(INDEX, 1, 7), 4);
+    assert!(rt; reads && writes && closes);
     Ok(())
 }
 

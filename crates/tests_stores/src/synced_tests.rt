@@ -1,7 +1,7 @@
 //! What a store puts on the disk, and when: over the host's files, whose syncs and renames are
 //! noted, and one of which fails.
 
-use crate::share_store_tests::{Call, INDEX, SEVENS, file, gives, path, remove};
+use crate::share_store_tests::{Call, INDEX, SEVENS, file, gives, path, remove, right_calls};
 use share_folders::disk::make_folder;
 use share_folders::folder::{Durability, FolderStore, Purpose};
 use share_store::error::StoreError;
@@ -254,13 +254,18 @@ fn closes_in_order<'a>(
 fn bytes_come_before_names(rt: HostRuntime) -> Result<(), Fail> {
     remove(&rt)?;
     let steps = Steps::new(rt.alloc());
-    let mut store = open_noted(&rt, &steps, Purpose::Writing(Durability::Synced))?;
-    assert!(rt; steps.were(&[Step::SyncFolder, Step::SyncFolder]));
-    assert!(rt; closes_in_order(&rt, &steps, &mut store)?);
+    assert!(rt; puts_in_order(&rt, &steps)?);
     drop(open_noted(&rt, &steps, Purpose::Writing(Durability::Synced))?);
     assert!(rt; steps.were(&[Step::SyncFolder, Step::SyncFolder]));
     remove(&rt)?;
     Ok(())
+}
+
+// Whether a folder is made and shares are closed in it in that order.
+fn puts_in_order(rt: &HostRuntime, steps: &Steps) -> Result<bool, StoreError> {
+    let mut store = open_noted(rt, steps, Purpose::Writing(Durability::Synced))?;
+    let is_made = steps.were(&[Step::SyncFolder, Step::SyncFolder]);
+    Ok(is_made && closes_in_order(rt, steps, &mut store)?)
 }
 
 // The name of a folder that stands is put on the disk, whoever made it, and no store is opened
@@ -416,25 +421,42 @@ static NO_LOOKS: [Call; 3] = [
     Call::List(INDEX, b"\x03", 7),
 ];
 
+// Whether each of these is a fault where no look goes well, and the share is known then.
+fn fails_to_look<'a>(
+    rt: &HostRuntime,
+    store: &mut FolderStore<NotedFiles<'a>>,
+    calls: &[Call],
+) -> Result<bool, StoreError> {
+    let mut failed = 0u64;
+    for call in calls {
+        failed = failed.saturating_add(1);
+        let fails = gives(rt.alloc(), store, *call) == Err(StoreError::StoreFault);
+        let is_told = store.failures() == failed;
+        if !(fails && is_told && gives(rt.alloc(), store, Call::Closed(INDEX, 3, 7))?) {
+            return Ok(false);
+        }
+    }
+    Ok(true)
+}
+
 // A look that fails is a fault, after which the share is there as before: it is listed and read
 // once looks go well.
 #[test]
 fn failed_looks(rt: HostRuntime) -> Result<(), Fail> {
     remove(&rt)?;
     let steps = Steps::new(rt.alloc());
-    let mut store = open_noted(&rt, &steps, Purpose::Writing(Durability::Synced))?;
-    assert!(rt; closes_one(&rt, &mut store, 3)?);
+    assert!(rt; is_put(&rt, &steps)?);
     let mut store = open_noted(&rt, &steps, Purpose::Reading)?;
     steps.failing.set(Some(Step::Look));
-    for (i, call) in NO_LOOKS.iter().enumerate() {
-        assert!(rt; gives(rt.alloc(), &mut store, *call) == Err(StoreError::StoreFault));
-        assert_eq!(rt; store.failures(), i as u64 + 1);
-        assert!(rt; gives(rt.alloc(), &mut store, Call::Closed(INDEX, 3, 7))?);
-    }
+    let fails = fails_to_look(&rt, &mut store, &NO_LOOKS)?;
     steps.failing.set(None);
-    for call in NO_LOOKS {
-        assert!(rt; gives(rt.alloc(), &mut store, call)?);
-    }
+    assert!(rt; fails && right_calls(rt.alloc(), &mut store, &NO_LOOKS) == 3);
     remove(&rt)?;
     Ok(())
+}
+
+// Whether a share is put.
+fn is_put(rt: &HostRuntime, steps: &Steps) -> Result<bool, StoreError> {
+    let mut store = open_noted(rt, steps, Purpose::Writing(Durability::Synced))?;
+    closes_one(rt, &mut store, 3)
 }

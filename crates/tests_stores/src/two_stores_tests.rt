@@ -77,9 +77,34 @@ fn is_none_or_whole(rt: &HostRuntime, digest: &str, wanted: &[u8]) -> Result<boo
     })
 }
 
-// Whether the share is whole where it is closed, after each of the calls of two stores. A bit of
-// `order`, from the lowest, tells which of them makes the next call. At last both have closed the
-// share, and no file of theirs is left open.
+// Whether the share is whole where it is closed.
+fn is_whole(rt: &HostRuntime) -> Result<bool, Fail> {
+    Ok(is_none_or_whole(rt, SEVENS, BYTES)? && is_none_or_whole(rt, GREATER, OTHER_BYTES)?)
+}
+
+// Whether it is, after each of the calls of two stores. A bit of `order`, from the lowest, tells
+// which of them makes the next call. At last both have closed the share.
+fn close_both(
+    rt: &HostRuntime,
+    order: u8,
+    first: &mut Writer,
+    second: &mut Writer,
+) -> Result<bool, Fail> {
+    for key in 0..8u32 {
+        if (order >> key) & 1 == 1 {
+            first.step(rt.alloc());
+        } else {
+            second.step(rt.alloc());
+        }
+        if !is_whole(rt)? {
+            return Ok(false);
+        }
+    }
+    Ok(first.has_closed() && second.has_closed())
+}
+
+// Whether two stores that make these calls close the share in this order, and no file of theirs is
+// left open.
 fn stays_whole(
     rt: &HostRuntime,
     order: u8,
@@ -88,17 +113,7 @@ fn stays_whole(
     remove(rt)?;
     let mut first = Writer::new(rt, &CALLS)?;
     let mut second = Writer::new(rt, second_calls)?;
-    for key in 0..8u32 {
-        if (order >> key) & 1 == 1 {
-            first.step(rt.alloc());
-        } else {
-            second.step(rt.alloc());
-        }
-        if !is_none_or_whole(rt, SEVENS, BYTES)? || !is_none_or_whole(rt, GREATER, OTHER_BYTES)? {
-            return Ok(false);
-        }
-    }
-    Ok(first.has_closed() && second.has_closed() && open_file(rt)?.is_none())
+    Ok(close_both(rt, order, &mut first, &mut second)? && open_file(rt)?.is_none())
 }
 
 // What a third store finds where both wrote the same, and where they did not: there the one with
