@@ -1,7 +1,7 @@
 //! Which texts are addresses, and which are the machine's own.
 
 use connections::{Address, AddressError};
-use std::alloc::Global;
+use std::alloc::{AllocError, Global};
 use std::test::Fail;
 
 // What a text is read as, and whether only this machine reaches it.
@@ -12,7 +12,7 @@ enum Seen {
     Bad,
 }
 
-const TEXTS: [(&str, Seen); 22] = [
+static TEXTS: [(&str, Seen); 22] = [
     ("unix:/run/grid/3.sock", Seen::Local),
     ("unix:3.sock", Seen::Local),
     ("unix:127.0.0.1:7000", Seen::Local),
@@ -48,26 +48,30 @@ fn read(alloc: Global, text: &str) -> Result<Seen, AddressError> {
 
 #[test]
 fn texts(rt: HostRuntime) -> Result<(), Fail> {
-    for (text, right) in TEXTS {
-        assert!(rt; read(rt.alloc(), text)? == right, "{text}");
+    for (text, right) in &TEXTS {
+        assert!(rt; read(rt.alloc(), text)? == *right, "{text}");
     }
     Ok(())
 }
 
+// Whether an address of this machine is taken where none else may be, and another one refused.
+fn is_local_alone(alloc: Global) -> Result<bool, AddressError> {
+    let is_open = Address::read(alloc, "10.9.0.3:7000")?.check_local();
+    let is_own = Address::read(alloc, "[::1]:7000")?.check_local();
+    Ok(is_open == Err(AddressError::NotLocal) && is_own == Ok(()))
+}
+
+// Whether a refusal has this number and text.
+fn is_told(alloc: Global, error: AddressError, right: &str) -> Result<bool, AllocError> {
+    let text = format!(in alloc; "{} {error}", error.number())?;
+    Ok(text.as_str() == right)
+}
+
 #[test]
 fn refusals(rt: HostRuntime) -> Result<(), Fail> {
-    let alloc = rt.alloc();
-    let open = Address::read(alloc, "10.9.0.3:7000")?;
-    assert!(rt; open.check_local() == Err(AddressError::NotLocal));
-    assert!(rt; Address::read(alloc, "[::1]:7000")?.check_local() == Ok(()));
-    let told = [
-        (AddressError::BadAddress, "103 BadAddress"),
-        (AddressError::NotLocal, "104 NotLocal"),
-        (AddressError::OutOfMemory, "1 OutOfMemory"),
-    ];
-    for (error, right) in told {
-        let text = format!(in alloc; "{} {error}", error.number())?;
-        assert_eq!(rt; text.as_str(), right);
-    }
+    assert!(rt; is_local_alone(rt.alloc())?);
+    assert!(rt; is_told(rt.alloc(), AddressError::BadAddress, "103 BadAddress")?);
+    assert!(rt; is_told(rt.alloc(), AddressError::NotLocal, "104 NotLocal")?);
+    assert!(rt; is_told(rt.alloc(), AddressError::OutOfMemory, "1 OutOfMemory")?);
     Ok(())
 }

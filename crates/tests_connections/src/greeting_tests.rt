@@ -61,16 +61,27 @@ const PAIRS: [(Option<u16>, Option<u16>, bool); 9] = [
     (Some(4), Some(4), true),
 ];
 
+// Whether a client and a server that want and have these marks take so many of each other.
+fn take_each_other(
+    alloc: Global,
+    wanted: Option<u16>,
+    had: Option<u16>,
+    right: bool,
+) -> Result<bool, Fail> {
+    let client = greeting_of(alloc, wanted.map(server_mark))?;
+    let server = greeting_of(alloc, had.map(server_mark))?;
+    let count = if right { 3 } else { 0 };
+    Ok(
+        fits(&client, &server) == right
+            && taken(alloc, Side::Client, &client, &server)? == count
+            && taken(alloc, Side::Server, &server, &client)? == count,
+    )
+}
+
 #[test]
 fn both_ends_agree(rt: HostRuntime) -> Result<(), Fail> {
-    let alloc = rt.alloc();
     for (wanted, had, right) in PAIRS {
-        let client = greeting_of(alloc, wanted.map(server_mark))?;
-        let server = greeting_of(alloc, had.map(server_mark))?;
-        let count = if right { 3 } else { 0 };
-        assert_eq!(rt; fits(&client, &server), right);
-        assert_eq!(rt; taken(alloc, Side::Client, &client, &server)?, count);
-        assert_eq!(rt; taken(alloc, Side::Server, &server, &client)?, count);
+        assert!(rt; take_each_other(rt.alloc(), wanted, had, right)?);
     }
     Ok(())
 }
@@ -84,6 +95,33 @@ fn changed(greeting: &Greeting, position: usize) -> Greeting {
     other
 }
 
+// Whether no end that has a mark takes one whose greeting is another at this byte.
+fn marked_take_none(
+    alloc: Global,
+    marked: &Greeting,
+    other: &Greeting,
+    unmarked: &Greeting,
+) -> Result<bool, Fail> {
+    Ok(
+        taken(alloc, Side::Client, marked, other)? == 0
+            && taken(alloc, Side::Server, marked, other)? == 0
+            && taken(alloc, Side::Server, marked, unmarked)? == 0,
+    )
+}
+
+// Whether who wants no mark takes so many of each.
+fn unmarked_takes(
+    alloc: Global,
+    other: &Greeting,
+    unmarked: &Greeting,
+    count: usize,
+) -> Result<bool, Fail> {
+    Ok(
+        taken(alloc, Side::Client, UNMARKED, other)? == count
+            && taken(alloc, Side::Client, UNMARKED, unmarked)? == count,
+    )
+}
+
 #[test]
 fn one_byte_is_another(rt: HostRuntime) -> Result<(), Fail> {
     let alloc = rt.alloc();
@@ -93,11 +131,14 @@ fn one_byte_is_another(rt: HostRuntime) -> Result<(), Fail> {
         let unmarked = changed(UNMARKED, position);
         // who wants no mark looks at the version alone
         let count = if position < 14 { 0 } else { 3 };
-        assert_eq!(rt; taken(alloc, Side::Client, &marked, &other)?, 0);
-        assert_eq!(rt; taken(alloc, Side::Server, &marked, &other)?, 0);
-        assert_eq!(rt; taken(alloc, Side::Server, &marked, &unmarked)?, 0);
-        assert_eq!(rt; taken(alloc, Side::Client, UNMARKED, &other)?, count);
-        assert_eq!(rt; taken(alloc, Side::Client, UNMARKED, &unmarked)?, count);
+        assert!(rt;
+            marked_take_none(alloc, &marked, &other, &unmarked)?,
+            "{position}"
+        );
+        assert!(rt;
+            unmarked_takes(alloc, &other, &unmarked, count)?,
+            "{position}"
+        );
     }
     Ok(())
 }

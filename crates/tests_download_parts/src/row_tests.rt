@@ -85,25 +85,44 @@ fn hand_out_row(alloc: Global, handout: &mut Handout, first: u8) -> Result<Optio
     Ok(Some(handout.hand_out_row(number, segments)?))
 }
 
+// Whether the first eight are handed out as a row once their hashes are known, and the ninth alone.
+fn hands_out_rows(alloc: Global, rows: &mut Handout) -> Result<bool, AllocError> {
+    let is_unknown = hand_out_row(alloc, rows, 200)? == Some(false);
+    let is_told = rows.take_nodes(&LEAVES, &CIPHERTEXT_LEAVES) == Ok(());
+    let is_other = hand_out_row(alloc, rows, 201)? == Some(false);
+    let is_right = hand_out_row(alloc, rows, 200)? == Some(true);
+    let is_no_row = hand_out_row(alloc, rows, 208)? == None;
+    let is_last = hand_out(alloc, rows, 208)? == Some(true) && rows.is_complete();
+    Ok(is_unknown && is_told && is_other && is_right && is_no_row && is_last)
+}
+
+// Whether the next segment is handed out alone, and its piece is that of the row.
+fn is_same_alone(
+    alloc: Global,
+    rows: &mut Handout,
+    singles: &mut Handout,
+    byte: u8,
+) -> Result<bool, AllocError> {
+    let is_handed = hand_out(alloc, singles, byte)? == Some(true);
+    let (Some(piece), Some(other)) = (rows.take(), singles.take()) else {
+        return Ok(false);
+    };
+    let is_same = piece.bytes.as_slice() == other.bytes.as_slice();
+    Ok(is_handed && is_same && piece.offset == other.offset)
+}
+
 #[test]
 fn eight_segments_are_handed_out(rt: HostRuntime) -> Result<(), Fail> {
     let alloc = rt.alloc();
     let mut rows = handout(alloc)?;
+    assert!(rt; hands_out_rows(alloc, &mut rows)?);
     let mut singles = handout(alloc)?;
-    assert!(rt; hand_out_row(alloc, &mut rows, 200)? == Some(false));
-    assert!(rt; rows.take_nodes(&LEAVES, &CIPHERTEXT_LEAVES) == Ok(()));
     assert!(rt; singles.take_nodes(&LEAVES, &CIPHERTEXT_LEAVES) == Ok(()));
-    assert!(rt; hand_out_row(alloc, &mut rows, 201)? == Some(false));
-    assert!(rt; hand_out_row(alloc, &mut rows, 200)? == Some(true));
-    assert!(rt; hand_out_row(alloc, &mut rows, 208)? == None);
-    assert!(rt; hand_out(alloc, &mut rows, 208)? == Some(true) && rows.is_complete());
     for byte in 200..209u8 {
-        assert!(rt; hand_out(alloc, &mut singles, byte)? == Some(true));
-        let (Some(piece), Some(other)) = (rows.take(), singles.take()) else {
-            panic!(rt; "{byte}");
-        };
-        assert!(rt; piece.offset == other.offset);
-        assert!(rt; piece.bytes.as_slice() == other.bytes.as_slice());
+        assert!(rt;
+            is_same_alone(alloc, &mut rows, &mut singles, byte)?,
+            "{byte}"
+        );
     }
     assert!(rt; rows.take().is_none());
     Ok(())

@@ -6,7 +6,7 @@ use crate::grids::{Grid, fake_grid};
 use crate::server::LONG;
 use local_grid::error::LoopError;
 use local_grid::{Outside, carry_on};
-use std::alloc::Global;
+use std::alloc::{AllocError, Global};
 use std::test::Fail;
 use wire::message::{Body, Message, NodeId, WriteData};
 
@@ -57,51 +57,75 @@ fn waiting(grid: &Grid<FakeWire, FakeNetwork>, number: usize) -> Option<usize> {
     }
 }
 
+// The seconds at which the loop ticks, where it waits for so many, and then skips to the next that
+// counts, up to 60.
+fn ticks_after(alloc: Global, waits: u64) -> Result<Vec<u64>, AllocError> {
+    let mut ticks = Vec::new(alloc);
+    for second in 1..=waits {
+        ticks.push(second)?;
+    }
+    for skipped in 1..=60u64.saturating_sub(waits) / 5 {
+        ticks.push(skipped.saturating_mul(5).saturating_add(waits))?;
+    }
+    Ok(ticks)
+}
+
+// Whether all but the fifth of ten servers answer at once, and that one is waited for so long.
+fn waits_for_one(
+    alloc: Global,
+    grid: &mut Grid<FakeWire, FakeNetwork>,
+    waits: u64,
+) -> Result<bool, Fail> {
+    let asking = ask_ten(alloc, grid, 60)?;
+    let heard = asking.heard.as_slice();
+    let others = heard.len() == 9 && heard.iter().all(|heard| heard.0 != 4 && heard.3 == 0);
+    let has_waited = grid.network().rests == waits && grid.clock() == 60;
+    let right = ticks_after(alloc, waits)?;
+    Ok(others && has_waited && asking.ticks.as_slice() == right.as_slice())
+}
+
+// Whether it is asked in vain from then on, and waited for no more.
+fn waits_no_more(
+    alloc: Global,
+    grid: &mut Grid<FakeWire, FakeNetwork>,
+    waits: u64,
+) -> Result<bool, Fail> {
+    let is_silent = is_silent(grid, 4);
+    let again = ask_ten(alloc, grid, 100)?;
+    let is_left = again.heard.len() == 9 && grid.network().tries(4) == 1;
+    Ok(is_silent && is_left && grid.network().rests == waits)
+}
+
+// Whether a server of this kind, the fifth of ten, holds nobody.
+fn holds_nobody(alloc: Global, kind: Kind, waits: u64) -> Result<bool, Fail> {
+    let mut kinds = [Kind::Honest; 10];
+    kinds[4] = kind;
+    let mut grid = fake_grid(alloc, &kinds, 1000)?;
+    Ok(waits_for_one(alloc, &mut grid, waits)? && waits_no_more(alloc, &mut grid, waits)?)
+}
+
 #[test]
 fn one_that_does_not_answer_holds_nobody(rt: HostRuntime) -> Result<(), Fail> {
-    let alloc = rt.alloc();
-    for (kind, waits) in [(Kind::Silent, 20), (Kind::Mute, 10)] {
-        let mut kinds = [Kind::Honest; 10];
-        kinds[4] = kind;
-        let mut grid = fake_grid(alloc, &kinds, 1000)?;
-        let asking = ask_ten(alloc, &mut grid, 60)?;
-        assert!(rt; asking.heard.len() == 9);
-        assert!(rt;
-            asking
-                .heard
-                .iter()
-                .all(|heard| heard.0 != 4 && heard.3 == 0)
-        );
-        // it is waited for so long, and then the seconds are skipped
-        assert!(rt; grid.network().rests == waits && grid.clock() == 60);
-        let mut right = Vec::new(alloc);
-        for second in 1..=waits {
-            right.push(second)?;
-        }
-        for skipped in 1..=60u64.saturating_sub(waits) / 5 {
-            right.push(skipped.saturating_mul(5).saturating_add(waits))?;
-        }
-        assert!(rt; asking.ticks.as_slice() == right.as_slice());
-        // it is asked in vain from then on
-        assert!(rt; is_silent(&grid, 4));
-        let again = ask_ten(alloc, &mut grid, 100)?;
-        assert!(rt; again.heard.len() == 9 && grid.network().tries(4) == 1);
-        assert!(rt; grid.network().rests == waits);
-    }
+    assert!(rt; holds_nobody(rt.alloc(), Kind::Silent, 20)?);
+    assert!(rt; holds_nobody(rt.alloc(), Kind::Mute, 10)?);
     Ok(())
+}
+
+// Whether a server of this kind, the last of ten, costs nothing.
+fn costs_nothing(alloc: Global, kind: Kind, step: usize) -> Result<bool, Fail> {
+    let mut kinds = [Kind::Honest; 10];
+    kinds[9] = kind;
+    let mut grid = fake_grid(alloc, &kinds, step)?;
+    let asking = ask_ten(alloc, &mut grid, 20)?;
+    let others = asking.heard.len() == 9 && grid.network().rests == 0;
+    Ok(others && asking.ticks.as_slice() == [5, 10, 15, 20].as_slice())
 }
 
 #[test]
 fn those_that_end_cost_nothing(rt: HostRuntime) -> Result<(), Fail> {
-    let alloc = rt.alloc();
     for kind in [Kind::Refuses, Kind::Other, Kind::Garbage, Kind::EndsInFrame] {
         for step in [1, 1000] {
-            let mut kinds = [Kind::Honest; 10];
-            kinds[9] = kind;
-            let mut grid = fake_grid(alloc, &kinds, step)?;
-            let asking = ask_ten(alloc, &mut grid, 20)?;
-            assert!(rt; asking.heard.len() == 9 && grid.network().rests == 0);
-            assert!(rt; asking.ticks.as_slice() == [5, 10, 15, 20].as_slice());
+            assert!(rt; costs_nothing(rt.alloc(), kind, step)?);
         }
     }
     Ok(())
@@ -158,23 +182,38 @@ fn turns_are_limited(rt: HostRuntime) -> Result<(), Fail> {
     Ok(())
 }
 
-#[test]
-fn what_a_server_is_told_is_bounded(rt: HostRuntime) -> Result<(), Fail> {
-    let alloc = rt.alloc();
-    let mut grid = fake_grid(alloc, &[Kind::Silent], 1000)?;
+// A request to write 32,768 bytes.
+fn long_request(alloc: Global) -> Result<Message, Fail> {
     let Some(bytes) = WriteData::from_vec(Vec::from_elem(alloc, 7, 32_768)?) else {
         return Err(Fail::from("too long"));
     };
-    let message = Message {
+    Ok(Message {
         session: 1,
         number: 1,
         body: Body::Write(LONG, 0, bytes),
-    };
+    })
+}
+
+// Whether as many bytes wait for the server as are to, each time that it is told this.
+fn is_bounded(
+    grid: &mut Grid<FakeWire, FakeNetwork>,
+    message: &Message,
+) -> Result<bool, AllocError> {
     for count in 1..=600usize {
-        assert!(rt; grid.hand(0, &message)?.is_none());
+        let is_silent = grid.hand(0, message)?.is_none();
         // the greeting, and frames of 32,815 bytes up to the first above 16 MiB
         let right = count.min(512).saturating_mul(32_815).saturating_add(64);
-        assert!(rt; waiting(&grid, 0) == Some(right));
+        if !is_silent || waiting(grid, 0) != Some(right) {
+            return Ok(false);
+        }
     }
+    Ok(true)
+}
+
+#[test]
+fn what_a_server_is_told_is_bounded(rt: HostRuntime) -> Result<(), Fail> {
+    let message = long_request(rt.alloc())?;
+    let mut grid = fake_grid(rt.alloc(), &[Kind::Silent], 1000)?;
+    assert!(rt; is_bounded(&mut grid, &message)?);
     Ok(())
 }

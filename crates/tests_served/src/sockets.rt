@@ -50,23 +50,34 @@ fn address_of(listener: &Listener, bound: Address) -> io::Result<Address> {
     }
 }
 
+// Starts the server of the next number at an address, and keeps where it is reached.
+fn start_next(
+    rt: &HostRuntime,
+    bound: Address,
+    servers: &mut Vec<Serving<MemoryStore>>,
+    reached: &mut Vec<Option<Address>>,
+) -> Result<(), Fail> {
+    let number = NodeId::try_from(servers.len()).unwrap_or(NodeId::MAX);
+    let own = greeting_of(rt.alloc(), number)?;
+    let serving = Serving::start(rt, server(rt.alloc())?, &own, &bound)?;
+    reached.push(Some(address_of(serving.listener(), bound)?))?;
+    servers.push(serving)?;
+    Ok(())
+}
+
 /// A grid of servers that listen at these addresses, by number.
 pub(crate) fn grid_at(rt: HostRuntime, addresses: Vec<Address>) -> Result<Grid<Over, Both>, Fail> {
     let alloc = rt.alloc();
+    let count = NodeId::try_from(addresses.len()).unwrap_or(NodeId::MAX);
     let mut servers = Vec::new(alloc);
     let mut reached = Vec::new(alloc);
-    let mut number: NodeId = 0;
     for bound in addresses {
-        let own = greeting_of(alloc, number)?;
-        let serving = Serving::start(&rt, server(alloc)?, &own, &bound)?;
-        reached.push(Some(address_of(serving.listener(), bound)?))?;
-        servers.push(serving)?;
-        number = number.saturating_add(1);
+        start_next(&rt, bound, &mut servers, &mut reached)?;
     }
     let both = Both {
         rt,
         sockets: Sockets::new(rt, alloc, reached)?,
         servers,
     };
-    Ok(grid_over(alloc, number, both)?)
+    Ok(grid_over(alloc, count, both)?)
 }

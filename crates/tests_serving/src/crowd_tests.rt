@@ -1,24 +1,27 @@
 //! Many clients, one after the other.
 
-use crate::guest::House;
+use crate::guest::{Guest, House};
+use crate::visits::{Visit, holds};
 use std::fs;
 use std::io::Write;
 use std::test::Fail;
 
-// Connects so many times, and goes. Every third greets first, and every third sends what is none.
+// Connects, and goes. Every third greets first, and every third sends what is none.
+fn come_once(rt: &HostRuntime, house: &House, number: u64) -> Result<(), Fail> {
+    let mut socket = house.socket(rt)?;
+    match number % 3 {
+        0 => {}
+        1 => socket.write_all(&house.own)?,
+        _ => socket.write_all(b"garbage")?,
+    }
+    Ok(())
+}
+
+// So many of them. How many are gone.
 fn come_and_go(rt: &HostRuntime, house: &mut House, count: u64) -> Result<u64, Fail> {
     let mut gone = 0u64;
     for number in 0..count {
-        let mut socket = house.socket(rt)?;
-        let bytes: &[u8] = match number % 3 {
-            0 => b"",
-            1 => &house.own,
-            _ => b"garbage",
-        };
-        if !bytes.is_empty() {
-            socket.write(bytes)?;
-        }
-        drop(socket);
+        come_once(rt, house, number)?;
         house.turns(rt, 1)?;
         gone = gone.saturating_add(house.count_gone() as u64);
     }
@@ -52,14 +55,18 @@ fn leave_nothing(rt: &HostRuntime, house: &mut House, count: u64) -> Result<bool
     Ok(gone == count && more <= 256 && open_files(rt)? == open)
 }
 
-// What the process holds does not grow with those who came, and who stays is served.
+// Whether what the process holds does not grow with those who came, and who stays is served.
+pub(crate) fn stands_many(
+    rt: &HostRuntime,
+    house: &mut House,
+    guest: &mut Guest,
+) -> Result<bool, Fail> {
+    come_and_go(rt, house, 1000)?;
+    Ok(leave_nothing(rt, house, 9000)? && house.serves(rt, guest)?)
+}
+
 #[test]
 fn ten_thousand(rt: HostRuntime) -> Result<(), Fail> {
-    let mut house = House::open(&rt, "crowd")?;
-    let mut guest = house.guest(&rt)?;
-    come_and_go(&rt, &mut house, 1000)?;
-    assert!(rt; leave_nothing(&rt, &mut house, 9000)?);
-    assert!(rt; house.serves(&rt, &mut guest)?);
-    house.shut(&rt)?;
+    assert!(rt; holds(&rt, "crowd", Visit::Many)?);
     Ok(())
 }

@@ -1,6 +1,7 @@
 //! Clients that do what they should not, beside one that does as it should.
 
 use crate::guest::{Guest, House, allocate, id, read};
+use crate::visits::{Visit, holds};
 use connections::Socket;
 use std::alloc::Global;
 use std::io::Write;
@@ -27,7 +28,11 @@ fn ends_later(rt: &HostRuntime, house: &mut House, bytes: &[u8]) -> Result<bool,
 }
 
 // Whether clients that send garbage end, and a client is served beside them.
-fn stands_garbage(rt: &HostRuntime, house: &mut House, guest: &mut Guest) -> Result<bool, Fail> {
+pub(crate) fn stands_garbage(
+    rt: &HostRuntime,
+    house: &mut House,
+    guest: &mut Guest,
+) -> Result<bool, Fail> {
     for byte in [0, 1, b'g', 255] {
         let is_ended = ends(rt, house, &[byte; 100])? && ends_later(rt, house, &[255; 100])?;
         if !(is_ended && house.serves(rt, guest)?) {
@@ -39,10 +44,8 @@ fn stands_garbage(rt: &HostRuntime, house: &mut House, guest: &mut Guest) -> Res
 
 #[test]
 fn garbage(rt: HostRuntime) -> Result<(), Fail> {
-    let mut house = House::open(&rt, "garbage")?;
-    let mut guest = house.guest(&rt)?;
-    assert!(rt; stands_garbage(&rt, &mut house, &mut guest)?);
-    Ok(house.shut(&rt)?)
+    assert!(rt; holds(&rt, "garbage", Visit::Garbage)?);
+    Ok(())
 }
 
 // Whether a client whose request comes in two halves is answered, and another one between them.
@@ -79,7 +82,11 @@ fn request_frame(alloc: Global) -> Result<Vec<u8>, Fail> {
 }
 
 // Whether all is well wherever a frame is cut in two.
-fn stands_halves(rt: &HostRuntime, house: &mut House, guest: &mut Guest) -> Result<bool, Fail> {
+pub(crate) fn stands_halves(
+    rt: &HostRuntime,
+    house: &mut House,
+    guest: &mut Guest,
+) -> Result<bool, Fail> {
     let frame = request_frame(rt.alloc())?;
     for count in 1..frame.len() {
         let (front, rest) = frame.as_slice().split_at(count);
@@ -94,10 +101,8 @@ fn stands_halves(rt: &HostRuntime, house: &mut House, guest: &mut Guest) -> Resu
 
 #[test]
 fn half_frames(rt: HostRuntime) -> Result<(), Fail> {
-    let mut house = House::open(&rt, "half")?;
-    let mut guest = house.guest(&rt)?;
-    assert!(rt; stands_halves(&rt, &mut house, &mut guest)?);
-    Ok(house.shut(&rt)?)
+    assert!(rt; holds(&rt, "half", Visit::Halves)?);
+    Ok(())
 }
 
 // Whether a client that asks and never reads is heard no more at last.
@@ -116,26 +121,33 @@ fn is_stopped(rt: &HostRuntime, house: &mut House, greedy: &mut Guest) -> Result
 }
 
 // Whether a client is served beside one that never reads, for which no more waits than is bounded.
-fn stands_greed(rt: &HostRuntime, house: &mut House, guest: &mut Guest) -> Result<bool, Fail> {
-    let mut greedy = house.guest(rt)?;
-    if !is_stopped(rt, house, &mut greedy)? {
+pub(crate) fn stands_greed(
+    rt: &HostRuntime,
+    house: &mut House,
+    guest: &mut Guest,
+) -> Result<bool, Fail> {
+    if !house.keeps(rt, guest, 0, 32_768)? {
         return Ok(false);
     }
+    let mut greedy = house.guest(rt)?;
+    let is_stopped = is_stopped(rt, house, &mut greedy)?;
+    Ok(is_stopped && serves_on(rt, house, guest)? && house.count_gone() == 0)
+}
+
+// Whether a client is served again and again.
+fn serves_on(rt: &HostRuntime, house: &mut House, guest: &mut Guest) -> Result<bool, Fail> {
     for _ in 0..20 {
         if !house.serves(rt, guest)? {
             return Ok(false);
         }
     }
-    Ok(house.count_gone() == 0)
+    Ok(true)
 }
 
 #[test]
 fn one_that_never_reads(rt: HostRuntime) -> Result<(), Fail> {
-    let mut house = House::open(&rt, "never")?;
-    let mut guest = house.guest(&rt)?;
-    assert!(rt; house.keeps(&rt, &mut guest, 0, 32_768)?);
-    assert!(rt; stands_greed(&rt, &mut house, &mut guest)?);
-    Ok(house.shut(&rt)?)
+    assert!(rt; holds(&rt, "never", Visit::Greed)?);
+    Ok(())
 }
 
 // So many sockets that say nothing.
@@ -156,8 +168,20 @@ fn serves_another(rt: &HostRuntime, house: &mut House) -> Result<bool, Fail> {
 
 // More connect than there are places for, and none of them greets: whether those are served that
 // greeted, or do.
-fn stands_crowd(rt: &HostRuntime, house: &mut House, guest: &mut Guest) -> Result<bool, Fail> {
-    let _strangers = strangers(rt, house, 300)?;
+pub(crate) fn stands_crowd(
+    rt: &HostRuntime,
+    house: &mut House,
+    guest: &mut Guest,
+) -> Result<bool, Fail> {
+    let strangers = strangers(rt, house, 300)?;
+    let stands = stands_strangers(rt, house, guest)?;
+    drop(strangers);
+    house.turns(rt, 5)?;
+    Ok(stands && house.serves(rt, guest)?)
+}
+
+// Whether some of them had to go, and the others are served.
+fn stands_strangers(rt: &HostRuntime, house: &mut House, guest: &mut Guest) -> Result<bool, Fail> {
     let made_room = house.count_gone() > 40;
     let serves = house.serves(rt, guest)? && serves_another(rt, house)?;
     Ok(made_room && serves && !guest.is_ended())
@@ -165,10 +189,6 @@ fn stands_crowd(rt: &HostRuntime, house: &mut House, guest: &mut Guest) -> Resul
 
 #[test]
 fn more_than_places(rt: HostRuntime) -> Result<(), Fail> {
-    let mut house = House::open(&rt, "places")?;
-    let mut guest = house.guest(&rt)?;
-    assert!(rt; stands_crowd(&rt, &mut house, &mut guest)?);
-    house.turns(&rt, 5)?;
-    assert!(rt; house.serves(&rt, &mut guest)?);
-    Ok(house.shut(&rt)?)
+    assert!(rt; holds(&rt, "places", Visit::Crowd)?);
+    Ok(())
 }

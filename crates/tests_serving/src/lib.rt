@@ -20,3 +20,5 @@ mod scene;
 mod serving_tests;
 #[cfg(test)]
 mod still_tests;
+#[cfg(test)]
+mod visits;

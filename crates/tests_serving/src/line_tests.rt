@@ -96,18 +96,30 @@ const WHOLE: Pace = Pace {
     fails_at: u64::MAX,
 };
 
-// Puts a share of these pieces of so many bytes each, and reads them.
-fn put_and_read(alloc: Global, pieces: u64, length: u32) -> Result<Vec<u8>, Fail> {
-    let mut asks = Vec::new(alloc);
-    asks.push(allocate(0, pieces.saturating_mul(u64::from(length)))?)?;
+// Asks to write these pieces of so many bytes each.
+fn ask_writes(alloc: Global, asks: &mut Vec<Body>, pieces: u64, length: u32) -> Result<(), Fail> {
     for piece in 0..pieces {
         let offset = piece.saturating_mul(u64::from(length));
         asks.push(write(alloc, 0, offset, (piece % 8) as u8, length as usize)?)?;
     }
-    asks.push(Body::Close(id(0)))?;
+    Ok(())
+}
+
+// Asks to read them.
+fn ask_reads(asks: &mut Vec<Body>, pieces: u64, length: u32) -> Result<(), Fail> {
     for piece in 0..pieces {
         asks.push(read(0, piece.saturating_mul(u64::from(length)), length)?)?;
     }
+    Ok(())
+}
+
+// Puts a share of these pieces, and reads them.
+fn put_and_read(alloc: Global, pieces: u64, length: u32) -> Result<Vec<u8>, Fail> {
+    let mut asks = Vec::new(alloc);
+    asks.push(allocate(0, pieces.saturating_mul(u64::from(length)))?)?;
+    ask_writes(alloc, &mut asks, pieces, length)?;
+    asks.push(Body::Close(id(0)))?;
+    ask_reads(&mut asks, pieces, length)?;
     asks.push(allocate(1, 10)?)?;
     bytes_of(alloc, asks)
 }
@@ -145,62 +157,79 @@ fn is_same(alloc: Global, says: &[u8], right: &[u8], step: usize) -> Result<bool
     Ok(true)
 }
 
+// What a client is told to whom all comes at once.
+fn told_at_once(alloc: Global, says: &[u8]) -> Result<Vec<u8>, Fail> {
+    let (told, _) = told(alloc, says, WHOLE)?;
+    Ok(told)
+}
+
+// Whether frames of this length are answered rightly, and in pieces of each of these sizes too.
+fn are_same(alloc: Global, length: u32, steps: &[usize]) -> Result<bool, Fail> {
+    let says = put_and_read(alloc, 2, length)?;
+    let right = told_at_once(alloc, says.as_slice())?;
+    let mut all = is_right(alloc, right.as_slice(), 2, length as usize)?;
+    for step in steps {
+        all = all && is_same(alloc, says.as_slice(), right.as_slice(), *step)?;
+    }
+    Ok(all)
+}
+
 #[test]
 fn short_frames_in_pieces(rt: HostRuntime) -> Result<(), Fail> {
-    let alloc = rt.alloc();
-    let says = put_and_read(alloc, 2, 10)?;
-    let (right, _) = told(alloc, says.as_slice(), WHOLE)?;
-    assert!(rt; is_right(alloc, right.as_slice(), 2, 10)?);
-    for step in [1, 2, 63, 64, 65, 1000] {
-        assert!(rt;
-            is_same(alloc, says.as_slice(), right.as_slice(), step)?,
-            "{step}"
-        );
-    }
+    assert!(rt; are_same(rt.alloc(), 10, &[1, 2, 63, 64, 65, 1000])?);
     Ok(())
 }
 
 // Frames of the greatest length.
 #[test]
 fn long_frames_in_pieces(rt: HostRuntime) -> Result<(), Fail> {
-    let alloc = rt.alloc();
-    let says = put_and_read(alloc, 2, 32_768)?;
-    let (right, _) = told(alloc, says.as_slice(), WHOLE)?;
-    assert!(rt; is_right(alloc, right.as_slice(), 2, 32_768)?);
-    for step in [1000, 32_815, 65_536] {
-        assert!(rt;
-            is_same(alloc, says.as_slice(), right.as_slice(), step)?,
-            "{step}"
-        );
-    }
+    assert!(rt; are_same(rt.alloc(), 32_768, &[1000, 32_815, 65_536])?);
     Ok(())
 }
 
-// A connection that fails at any of its calls ends: what was told is a beginning, and another
-// client may write what this one was writing.
+// Whether a connection that fails at a call ends: what was told is a beginning, and another client
+// may write what this one was writing. `None`, where it does not fail: so many calls are not made.
+fn ends_well(alloc: Global, says: &[u8], right: &[u8], pace: Pace) -> Result<Option<bool>, Fail> {
+    let (told, mut played) = told(alloc, says, pace)?;
+    if !right.starts_with(told.as_slice()) {
+        return Ok(Some(false));
+    }
+    if played.why.is_none() {
+        return Ok(None);
+    }
+    let is_ended = played.why == Some(Why::Ended(ConnectionFault::Ended));
+    Ok(Some(is_ended && is_free(&mut played.server)?))
+}
+
+// At how many calls it fails, where it ends well at each. `None`, where it does not.
+fn count_ends(alloc: Global, says: &[u8], right: &[u8], step: usize) -> Result<Option<u64>, Fail> {
+    for fails_at in 1..200u64 {
+        let pace = Pace {
+            step,
+            fails_at,
+            ..WHOLE
+        };
+        match ends_well(alloc, says, right, pace)? {
+            Some(true) => {}
+            Some(false) => return Ok(None),
+            None => return Ok(Some(fails_at.saturating_sub(1))),
+        }
+    }
+    Ok(Some(199))
+}
+
+// A connection may fail at any of its calls.
 #[test]
 fn an_end_that_fails(rt: HostRuntime) -> Result<(), Fail> {
     let alloc = rt.alloc();
     let says = put_and_read(alloc, 2, 10)?;
-    let (right, _) = told(alloc, says.as_slice(), WHOLE)?;
+    let right = told_at_once(alloc, says.as_slice())?;
     for step in [40, 1_000_000] {
-        let mut failed = 0u64;
-        for fails_at in 1..200 {
-            let pace = Pace {
-                step,
-                fails_at,
-                ..WHOLE
-            };
-            let (told, mut played) = told(alloc, says.as_slice(), pace)?;
-            assert!(rt; right.as_slice().starts_with(told.as_slice()));
-            if played.why.is_none() {
-                break;
-            }
-            failed = fails_at;
-            assert!(rt; played.why == Some(Why::Ended(ConnectionFault::Ended)));
-            assert!(rt; is_free(&mut played.server)?, "call {fails_at}");
-        }
-        assert!(rt; failed > 3 && failed < 150, "{failed} calls");
+        let failed = count_ends(alloc, says.as_slice(), right.as_slice(), step)?;
+        assert!(rt;
+            failed.is_some_and(|failed| failed > 3 && failed < 150),
+            "{step}"
+        );
     }
     Ok(())
 }

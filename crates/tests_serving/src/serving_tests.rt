@@ -1,6 +1,7 @@
 //! Clients that do as they should.
 
 use crate::guest::{Guest, House, read};
+use crate::visits::{Visit, holds};
 use std::test::Fail;
 use wire::message::Body;
 
@@ -33,18 +34,29 @@ fn are_two(
     Ok(house.grants(rt, first, 2, 10)? && house.is_busy(rt, second, 2)? && house.count_gone() == 0)
 }
 
+// The two, of which one is there.
+pub(crate) fn serves_two(
+    rt: &HostRuntime,
+    house: &mut House,
+    first: &mut Guest,
+) -> Result<bool, Fail> {
+    let mut second = house.guest(rt)?;
+    let both = both_put(rt, house, first, &mut second)?;
+    Ok(both && are_two(rt, house, first, &mut second)?)
+}
+
 #[test]
 fn two_clients(rt: HostRuntime) -> Result<(), Fail> {
-    let mut house = House::open(&rt, "two")?;
-    let mut first = house.guest(&rt)?;
-    let mut second = house.guest(&rt)?;
-    assert!(rt; both_put(&rt, &mut house, &mut first, &mut second)?);
-    assert!(rt; are_two(&rt, &mut house, &mut first, &mut second)?);
-    Ok(house.shut(&rt)?)
+    assert!(rt; holds(&rt, "two", Visit::Two)?);
+    Ok(())
 }
 
 // Whether a share that a client was writing is written by another one once the first is gone.
-fn takes_over(rt: &HostRuntime, house: &mut House, second: &mut Guest) -> Result<bool, Fail> {
+pub(crate) fn takes_over(
+    rt: &HostRuntime,
+    house: &mut House,
+    second: &mut Guest,
+) -> Result<bool, Fail> {
     let mut first = house.guest(rt)?;
     let is_begun = house.grants(rt, &mut first, 0, 10)? && house.is_busy(rt, second, 0)?;
     drop(first);
@@ -54,30 +66,50 @@ fn takes_over(rt: &HostRuntime, house: &mut House, second: &mut Guest) -> Result
 
 #[test]
 fn a_client_that_goes(rt: HostRuntime) -> Result<(), Fail> {
-    let mut house = House::open(&rt, "goes")?;
-    let mut second = house.guest(&rt)?;
-    assert!(rt; takes_over(&rt, &mut house, &mut second)?);
-    Ok(house.shut(&rt)?)
+    assert!(rt; holds(&rt, "goes", Visit::Leaving)?);
+    Ok(())
+}
+
+// Asks so often for 32,768 bytes.
+fn ask(guest: &mut Guest, asked: u64) -> Result<(), Fail> {
+    for number in 0..asked {
+        guest.queue(number, read(0, 0, 32_768)?)?;
+    }
+    Ok(())
+}
+
+// The number behind that of the last answer which is there, where so many were heard before.
+fn hear_all(guest: &mut Guest, mut heard: u64) -> Result<u64, Fail> {
+    for _ in 0..100 {
+        match guest.hear()? {
+            Some(answer) if answer.number == heard => heard = heard.saturating_add(1),
+            Some(_) => return Err(Fail::from("another answer")),
+            None => break,
+        }
+    }
+    Ok(heard)
 }
 
 // How many answers come to requests of which each asks for 32,768 bytes, and which are all sent
 // before one answer is read.
 fn count_answers(rt: &HostRuntime, house: &mut House, asked: u64) -> Result<u64, Fail> {
     let mut guest = house.guest(rt)?;
-    for number in 0..asked {
-        guest.queue(number, read(0, 0, 32_768)?)?;
-    }
+    ask(&mut guest, asked)?;
+    hear_answers(rt, house, &mut guest, asked)
+}
+
+// How many come.
+fn hear_answers(
+    rt: &HostRuntime,
+    house: &mut House,
+    guest: &mut Guest,
+    asked: u64,
+) -> Result<u64, Fail> {
     let mut heard = 0u64;
     for _ in 0..2000 {
         guest.send()?;
         house.turns(rt, 1)?;
-        for _ in 0..100 {
-            match guest.hear()? {
-                Some(answer) if answer.number == heard => heard = heard.saturating_add(1),
-                Some(_) => return Err(Fail::from("another answer")),
-                None => break,
-            }
-        }
+        heard = hear_all(guest, heard)?;
         if heard == asked {
             return Ok(heard);
         }
@@ -86,7 +118,14 @@ fn count_answers(rt: &HostRuntime, house: &mut House, asked: u64) -> Result<u64,
 }
 
 // Whether as many answers come as are asked for.
-fn all_come(rt: &HostRuntime, house: &mut House) -> Result<bool, Fail> {
+pub(crate) fn all_come(
+    rt: &HostRuntime,
+    house: &mut House,
+    first: &mut Guest,
+) -> Result<bool, Fail> {
+    if !house.keeps(rt, first, 0, 32_768)? {
+        return Ok(false);
+    }
     for asked in [1, 2, 3, 4, 5, 6, 31, 32, 33, 100, 500] {
         if count_answers(rt, house, asked)? != asked {
             return Ok(false);
@@ -97,9 +136,6 @@ fn all_come(rt: &HostRuntime, house: &mut House) -> Result<bool, Fail> {
 
 #[test]
 fn many_answers_wait(rt: HostRuntime) -> Result<(), Fail> {
-    let mut house = House::open(&rt, "many")?;
-    let mut first = house.guest(&rt)?;
-    assert!(rt; house.keeps(&rt, &mut first, 0, 32_768)?);
-    assert!(rt; all_come(&rt, &mut house)?);
-    Ok(house.shut(&rt)?)
+    assert!(rt; holds(&rt, "many", Visit::ManyAnswers)?);
+    Ok(())
 }

@@ -135,23 +135,40 @@ fn is_made_again(
     Ok(true)
 }
 
+// Numbers of a file of 301 bytes, and lengths of pieces.
+static MIDDLE: [((u64, u64, u64), usize); 7] = [
+    ((1, 2, 100), 32),
+    ((3, 10, 100), 1),
+    ((3, 10, 100), 45),
+    ((3, 10, 3), 64),
+    ((3, 10, 100), 1000),
+    ((2, 17, 50), 20),
+    ((256, 256, 131_072), 100),
+];
+
+// Whether a file of so many bytes is made again.
+fn counted_is_made(
+    alloc: Global,
+    size: usize,
+    numbers: (u64, u64, u64),
+    length: usize,
+) -> Result<bool, AllocError> {
+    let file = counted(alloc, size)?;
+    is_made_again(alloc, &file, numbers, length)
+}
+
 // One segment and many, blocks that are shorter than a piece and longer ones, one share and 256.
 #[test]
 fn pieces_are_those_of_the_shares(rt: HostRuntime) -> Result<(), Fail> {
-    let alloc = rt.alloc();
-    let long = counted(alloc, 131_074)?;
-    let middle = counted(alloc, 301)?;
-    let short = counted(alloc, 56)?;
-    assert!(rt; is_made_again(alloc, &[0; 56], (1, 1, 131_072), 7)?);
-    assert!(rt; is_made_again(alloc, &short, (3, 10, 131_072), 13)?);
-    assert!(rt; is_made_again(alloc, &middle, (1, 2, 100), 32)?);
-    assert!(rt; is_made_again(alloc, &middle, (3, 10, 100), 1)?);
-    assert!(rt; is_made_again(alloc, &middle, (3, 10, 100), 45)?);
-    assert!(rt; is_made_again(alloc, &middle, (3, 10, 3), 64)?);
-    assert!(rt; is_made_again(alloc, &middle, (3, 10, 100), 1000)?);
-    assert!(rt; is_made_again(alloc, &middle, (2, 17, 50), 20)?);
-    assert!(rt; is_made_again(alloc, &middle, (256, 256, 131_072), 100)?);
-    assert!(rt; is_made_again(alloc, &long, (3, 10, 131_072), 32_768)?);
+    assert!(rt; is_made_again(rt.alloc(), &[0; 56], (1, 1, 131_072), 7)?);
+    assert!(rt; counted_is_made(rt.alloc(), 56, (3, 10, 131_072), 13)?);
+    for (numbers, length) in MIDDLE {
+        assert!(rt;
+            counted_is_made(rt.alloc(), 301, numbers, length)?,
+            "{length}"
+        );
+    }
+    assert!(rt; counted_is_made(rt.alloc(), 131_074, (3, 10, 131_072), 32_768)?);
     Ok(())
 }
 
