@@ -5,18 +5,25 @@ ghost use Rattle.std.specs.List.{slice_split};
 ghost use Rattle.grid_lists.specs.Names.{names_in};
 
 use grid_faults::Fault;
-use grid_words::ListWords;
+use grid_words::{ListWords, STANDARD_INPUT};
 use std::alloc::{AllocError, Global};
-use std::io;
+use std::fs::{self, File, OpenFile};
+use std::io::{self, Read};
 use std::random::RandomSource;
 use std::rt::Files;
-use user_files::{Input, open_input};
+use user_files::{Input, at_path, open_input};
 
 /// The greatest list, and the greatest catalogue, in bytes.
 const MOST_LIST: u64 = 64 << 20;
 
 /// How many names it may have: each takes 16 bytes more as they are told apart.
 const MOST_NAMES: usize = 2 << 20;
+
+// The room for one that is read from a pipe: a byte more than it may have, and one to see its end.
+const ROOM: usize = (64 << 20) + 2;
+
+// How standard input is told.
+const INPUT_NAME: &str = "standard input";
 
 pub(crate) const LINE_FEED: u8 = b'\n';
 
@@ -38,16 +45,37 @@ where
 }
 
 /// The text of a list or of a catalogue, which is held. A fault of its file where that cannot be
-/// read, and `TooLarge` where it has more than 64 MiB.
+/// read, and `TooLarge` where it has more than 64 MiB, of which no more is read: a pipe may have no
+/// end.
 pub fn read_text<R>(rt: &R, path: &str, temporary: &str) -> Result<Vec<u8>, Fault>
 where
     R: Files + io::Input + RandomSource + AllocGlobal,
     ensures few { IfOk result (λ text. length text.items ≤ 64 * 2 ^ 20) }
 {
+    if path == STANDARD_INPUT {
+        return read_once(rt.alloc(), &mut rt.reader(), INPUT_NAME);
+    }
+    if !at_path(rt.alloc(), fs::metadata(rt, path), path)?.is_file() {
+        let mut pipe = at_path(rt.alloc(), File::open(rt, path), path)?;
+        return read_once(rt.alloc(), &mut pipe, path);
+    }
     match open_input(rt, path, temporary, MOST_LIST)? {
         Input::Held(text) => Ok(text),
         Input::Opened(_, _) => Err(Fault::TooLarge),
     }
+}
+
+// All that a reader has, which is read once.
+fn read_once<S: Read>(alloc: Global, reader: &mut S, name: &str) -> Result<Vec<u8>, Fault>
+    ensures few { IfOk result (λ text. length text.items ≤ 64 * 2 ^ 20) }
+{
+    let mut text = Vec::with_capacity(alloc, ROOM)?;
+    let read = reader.take(MOST_LIST + 1).read_to_end(&mut text);
+    at_path(alloc, read, name)?;
+    if text.len() as u64 > MOST_LIST {
+        return Err(Fault::TooLarge);
+    }
+    Ok(text)
 }
 
 /// The text of a list whose names, or of a catalogue whose lines, end with this byte, where they
