@@ -4,3 +4,4 @@ pub mod TriedLemmas
 pub mod WordLemmas
 pub mod GotLemmas
 pub mod FileLemmas
+pub mod PartLemmas

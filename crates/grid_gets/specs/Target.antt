@@ -1,6 +1,6 @@
 -- Where the bytes of a `get` are written, by what stands at the path that the user named.
 use Rattle.std.specs.Prelude.{◌≡◌, ◌==◌, ◌++◌, ℕ, List, Option, None, Some, codes, decimal}
-use Rattle.std.specs.Prelude.{if◌then◌else◌, length, nat_lt}
+use Rattle.std.specs.Prelude.{if◌then◌else◌, length, nat_le, nat_lt}
 use Rattle.std.specs.Fs.{IsDir, IsFile, file_type}
 use Rattle.std.specs.Path.{path_parent}
 use Rattle.std.specs.declared.fs.attrs.Metadata.{Metadata}
@@ -37,7 +37,16 @@ folder_or_here (Some folder) = if length folder == 0 then codes "." else folder
 abbrev pub folder_of : List ℕ → List ℕ
 folder_of path = folder_or_here (path_parent path)
 
--- the name of the file beside a path that is tried first, second and so on, from 1
+-- File systems take names of at most 255 bytes. One of no more than this has room for what a file
+-- beside it has behind its name, `.part.99` at most.
+abbrev pub most_own : ℕ
+most_own = 247
+
+-- what the name of a file beside one of this name begins with
+abbrev pub stem : List ℕ → List ℕ
+stem name = if nat_le (length name) most_own then name else codes "grid-get"
+
+-- the name of the file beside one of a name that is tried first, second and so on, from 1
 abbrev pub part_name : List ℕ → ℕ → List ℕ
-part_name path turn = if nat_lt turn 2 then path ++ codes ".part"
-    else path ++ codes ".part." ++ decimal turn
+part_name name turn = if nat_lt turn 2 then stem name ++ codes ".part"
+    else stem name ++ codes ".part." ++ decimal turn

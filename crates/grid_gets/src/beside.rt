@@ -10,7 +10,7 @@ use disks::moving::Unmoved;
 use disks::system::{SystemDisk, SystemFile};
 use disks::written;
 use grid_faults::Fault;
-use std::alloc::Global;
+use std::alloc::{AllocError, Global};
 use std::io;
 use std::io::Write;
 use std::rt::Files;
@@ -41,10 +41,11 @@ impl Names {
     // Those of the file beside a path that is tried so far behind the first.
     fn new(alloc: Global, whole: &str, turn: u8) -> Result<Names, Fault> {
         let last = last_name(whole);
+        let own = part_name(alloc, last, turn)?;
         Ok(Names {
-            own: part_name(alloc, last, turn)?,
+            path: path_beside(alloc, whole, last, own.as_str())?,
+            own,
             last: String::from_str(alloc, last)?,
-            path: part_name(alloc, whole, turn)?,
             whole: String::from_str(alloc, whole)?,
         })
     }
@@ -69,6 +70,12 @@ impl Names {
             Err(error) => at_path(alloc, Err(error.reason()), self.path.as_str()),
         }
     }
+}
+
+// The path of a name in the folder of a path whose last name this is.
+fn path_beside(alloc: Global, whole: &str, last: &str, own: &str) -> Result<String, AllocError> {
+    let front = whole.strip_suffix(last).unwrap_or("");
+    format!(in alloc; "{front}{own}")
 }
 
 impl<R: Files + AllocGlobal + Clone + Drop> Beside<R> {

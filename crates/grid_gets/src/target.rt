@@ -2,7 +2,7 @@
 
 ghost use Rattle.std.specs.Prelude.{◌≡◌, ◌++◌, IfOk, codes, decimal};
 ghost use Rattle.std.specs.String.{string_bytes};
-ghost use Rattle.grid_gets.specs.Target.{IsFound, folder_of, part_name, target_of};
+ghost use Rattle.grid_gets.specs.Target.{IsFound, folder_of, part_name, stem, target_of};
 
 use std::alloc::{AllocError, Global};
 use std::fs::Metadata;
@@ -14,6 +14,12 @@ pub(crate) const MOST_LINKS: u8 = 40;
 
 /// How many names are tried for the file beside a path.
 pub(crate) const MOST_PARTS: u8 = 99;
+
+// How many bytes a name may have that leaves room for `.part.99` behind it: file systems take 255.
+const MOST_OWN: usize = 247;
+
+// What stands for a longer name.
+const STEM: &str = "grid-get";
 
 /// What stands at a path, where links are followed.
 #[derive(Clone, Copy, PartialEq, Eq)]
@@ -74,20 +80,29 @@ pub(crate) fn folder_of(path: &str) -> &str
     }
 }
 
-/// The name of a file beside a path, of which that for 1 is tried first, and that for 2 next.
-pub(crate) fn part_name(alloc: Global, path: &str, turn: u8) -> Result<String, AllocError>
-    ensures { IfOk result (λ name. string_bytes name ≡ part_name path.now turn) }
+/// The name of a new file beside the one of a name, of which that for 1 is tried first, and that
+/// for 2 next. Where the name leaves no room for more it begins with `grid-get` in its place.
+pub(crate) fn part_name(alloc: Global, name: &str, turn: u8) -> Result<String, AllocError>
+    ensures { IfOk result (λ own. string_bytes own ≡ part_name name.now turn) }
 {
+    let stem = stem(name);
     if turn < 2 {
-        return format!(in alloc; "{path}.part");
+        return format!(in alloc; "{stem}.part");
     }
-    later_name(alloc, path, turn)
+    later_name(alloc, stem, turn)
 }
 
 // The name of one that is not the first.
-fn later_name(alloc: Global, path: &str, turn: u8) -> Result<String, AllocError>
+fn later_name(alloc: Global, stem: &str, turn: u8) -> Result<String, AllocError>
     ensures { IfOk result
-        (λ name. string_bytes name ≡ path.now ++ codes ".part." ++ decimal turn) }
+        (λ own. string_bytes own ≡ stem.now ++ codes ".part." ++ decimal turn) }
 {
-    format!(in alloc; "{path}.part.{turn}")
+    format!(in alloc; "{stem}.part.{turn}")
+}
+
+// What the name of a file beside one of this name begins with.
+fn stem(name: &str) -> &str
+    ensures { result.now ≡ stem name.now }
+{
+    if name.len() <= MOST_OWN { name } else { STEM }
 }
