@@ -16,7 +16,7 @@ use Rattle.grid_rules.specs.Ending.{world_status}
 use Rattle.grid_lists.specs.Gets.{IsGetFiles}
 use Rattle.grid_surveys.specs.Looks.{IsLookDone, IsLookUndone, checking, repairing}
 use Rattle.grid_surveys.specs.Verifies.{IsVerifyDone}
-use Rattle.grid_lists.specs.Puts.{IsPutByWays, IsPutUndone, is_one}
+use Rattle.grid_lists.specs.Puts.{IsPutByWays, IsPutUndone}
 use Rattle.grid_shares.specs.declared.Outcome.{Outcome}
 use Rattle.grid_stores.specs.Scrubs.{IsScrub}
 use Rattle.grid_stores.specs.Status.{IsStatusBy}
@@ -151,7 +151,7 @@ same_contents contents None old new kept = tt
 same_contents contents (Some path) old new kept = ap contents kept
 
 module _ {F S : Type 0} (gives : Opened F → ℕ → List ℕ → Opened F → Type 0) (calls : GridCalls S) (request : Request) (r : Result ℕ Failure) (before after : Option (List ℕ)) (old new : Option (List FileAct)) where
-  by_request : (other : Request) → request ≡ other → IfOk r (λ status. IsDone gives calls other status before after) → IfErr r (λ failure. IsUndone calls other failure before after)
+  by_request : (other : Request) → request ≡ other → IfOk r (λ status. IsDone gives calls other status before after) → IfErr r (λ failure. IsUndone gives calls other failure before after)
       → AreFiled calls other r old new → IsRunBy gives calls request r before after old new
   by_request other is done undone filed = subst (λ (q : Request). IsRunBy gives calls q r before after old new) (sym is) (record { done = done; undone = undone; filed = filed })
 
@@ -181,7 +181,7 @@ module _ {F S : Type 0} (gives : Opened F → ℕ → List ℕ → Opened F → 
     init_run words came is of done undone = by_request (Init words) is (lines_written (IsInitBy words) came r before after of done) undone same
 
     pub put_run : (words : PutWords) → request ≡ Put words → IfOk r (λ status. IsPutByWays gives calls words status before after)
-        → IfErr r (λ failure. IsPutUndone (is_one words) failure before after) → IsRunBy gives calls request r before after old new
+        → IfErr r (λ failure. IsPutUndone gives calls words failure before after) → IsRunBy gives calls request r before after old new
     put_run words is done undone = by_request (Put words) is done undone same
 
     pub check_run : (words : CheckWords) (came : Result Outcome Fault) → request ≡ Check words → IfOk came (IsCheckFor calls words)

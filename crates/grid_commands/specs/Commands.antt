@@ -15,7 +15,7 @@ use Rattle.grid_gets.specs.Gets.{IsBegunBy, IsGotBy, UnlessWriter}
 use Rattle.grid_lists.specs.Gets.{IsGetFiles}
 use Rattle.grid_surveys.specs.Looks.{IsLookDone, IsLookUndone, checking, repairing}
 use Rattle.grid_surveys.specs.Verifies.{IsVerifyBy, IsVerifyDone}
-use Rattle.grid_lists.specs.Puts.{IsPutByWays, IsPutUndone, is_one}
+use Rattle.grid_lists.specs.Puts.{IsPutByWays, IsPutUndone}
 use Rattle.grid_repairs.specs.Checks.{IsCheckBy}
 use Rattle.grid_repairs.specs.Repairs.{IsRepairBy}
 use Rattle.grid_rules.specs.CapLines.{cap_lines}
@@ -185,18 +185,19 @@ IsUnwritten (failures.Fault fault) before after = after ≡ before
 -- A request was left undone. A get writes as it reads; a put, a check, a verify and a repair of
 -- many tell of one file after another, and so does a scrub. How serving ends is all told by its
 -- status.
-abbrev pub IsUndone : {S : Type 0} → GridCalls S → Request → Failure → Option (List ℕ)
-    → Option (List ℕ) → Type 0
-IsUndone calls (Get words) failure before after = IsGetLeft calls words failure before after
-IsUndone calls (GetFiles words) failure before after = after ≡ before
-IsUndone calls (CheckFiles words) failure before after = IsLookUndone failure before after
-IsUndone calls (VerifyFiles words) failure before after = IsLookUndone failure before after
-IsUndone calls (RepairFiles words) failure before after = IsLookUndone failure before after
-IsUndone calls (Put words) failure before after =
-    IsPutUndone (is_one words) failure before after
-IsUndone calls (Scrub words) failure before after = ⊤
-IsUndone calls (Serve words) failure before after = ⊥
-IsUndone calls request failure before after = IsUnwritten failure before after
+abbrev pub IsUndone : {F S : Type 0} → (Opened F → ℕ → List ℕ → Opened F → Type 0) → GridCalls S
+    → Request → Failure → Option (List ℕ) → Option (List ℕ) → Type 0
+IsUndone gives calls (Get words) failure before after =
+    IsGetLeft calls words failure before after
+IsUndone gives calls (GetFiles words) failure before after = after ≡ before
+IsUndone gives calls (CheckFiles words) failure before after = IsLookUndone failure before after
+IsUndone gives calls (VerifyFiles words) failure before after = IsLookUndone failure before after
+IsUndone gives calls (RepairFiles words) failure before after = IsLookUndone failure before after
+IsUndone gives calls (Put words) failure before after =
+    IsPutUndone gives calls words failure before after
+IsUndone gives calls (Scrub words) failure before after = ⊤
+IsUndone gives calls (Serve words) failure before after = ⊥
+IsUndone gives calls request failure before after = IsUnwritten failure before after
 
 -- Files of a name are what gets are asked for alone.
 abbrev pub AreFiled : {S : Type 0} → GridCalls S → Request → Result ℕ Failure
@@ -210,7 +211,7 @@ pub record IsRunBy {F S : Type 0} (gives : Opened F → ℕ → List ℕ → Ope
     (calls : GridCalls S) (request : Request) (ended : Result ℕ Failure)
     (before after : Option (List ℕ)) (old new : Option (List FileAct)) : Type 0 where
   pub done : IfOk ended (λ status. IsDone gives calls request status before after)
-  pub undone : IfErr ended (λ failure. IsUndone calls request failure before after)
+  pub undone : IfErr ended (λ failure. IsUndone gives calls request failure before after)
   pub filed : AreFiled calls request ended old new
 
 -- A request ended somehow, and this is the exit status.

@@ -1,6 +1,6 @@
 -- What a put of one file or of many writes.
-use Rattle.std.specs.Prelude.{◌≡◌, ◌==◌, ◌&&◌, ℕ, List, [], ◌∷◌, ◌++◌, Bool, Option, true, false}
-use Rattle.std.specs.Prelude.{Some, fold, if◌then◌else◌, is_some, length, map, not, ⊤}
+use Rattle.std.specs.Prelude.{◌≡◌, ◌⊎◌, ◌==◌, ◌&&◌, ℕ, List, [], ◌∷◌, ◌++◌, Bool, Option, true}
+use Rattle.std.specs.Prelude.{Some, false, fold, is_some, length, map, not, ⊤}
 use Rattle.std.specs.Io.KnownBytes.{Appends}
 use Rattle.std.specs.List.{AllByRecursion, flat_map}
 use Rattle.sources.specs.Opened.{Opened}
@@ -13,6 +13,7 @@ use Rattle.catalogues.specs.declared.head.Numbers.{Numbers}
 use Rattle.catalogues.specs.declared.known.Known.{Known}
 use Rattle.grid_faults.specs.Fault.{fault_status}
 use Rattle.grid_faults.specs.declared.fault.Fault.{Fault}
+use Rattle.grid_faults.specs.declared.fault.Fault.TheVariants as faults
 use Rattle.grid_lists.specs.Since.{IsKeptSince, IsSince}
 use Rattle.grid_lists.specs.Statuses.{status_after, unread_status}
 use Rattle.grid_shares.specs.KeptWays.{IsAskedBy}
@@ -104,28 +105,45 @@ fate_entries name (refused fault) = []
 abbrev pub listed_entries : Listed → List Entry
 listed_entries l = fate_entries l.name l.fate
 
--- Files were put one after the other, all under one secret: those that are named by words, and then
--- those that a list names. What was written is the catalogue of those that were stored, or whose
--- lines were kept, of which the first line tells the numbers and the secret. Which names a list
--- has, which text the catalogue that words name, and which secret a grid keeps, is what the system
--- says.
-pub record IsPutList {F S : Type 0} (gives : Opened F → ℕ → List ℕ → Opened F → Type 0)
-    (calls : GridCalls S) (words : PutWords) (status : ℕ) (before after : Option (List ℕ))
-    : Type 0 where
+-- Files were put one after the other, all under one secret. What was written is the catalogue of
+-- those that were stored, or whose lines were kept, of which the first line tells the numbers and
+-- the secret. Which text the catalogue has that words name, and which secret a grid keeps, is what
+-- the system says.
+pub record ArePut {F S : Type 0} (gives : Opened F → ℕ → List ℕ → Opened F → Type 0)
+    (calls : GridCalls S) (words : PutWords) (listed : List Listed)
+    (before after : Option (List ℕ)) : Type 0 where
   pub secret : List ℕ
   pub head : Head
   pub is_head : IsHeadBy words secret head
   pub since : Option Known
   pub is_since : IsSince words since
-  pub names : List (List ℕ)
-  pub listed : List Listed
-  pub names_are : map (λ l. l.name) listed ≡ map (λ f. f.now) words.files.items ++ names
   pub fates : AllByRecursion
       (λ l. IsFate gives calls words (Some secret) since head l.name l.fate) listed
-  pub status_is : status ≡ fold listed_status 0 listed
   pub text : List ℕ
   pub catalogue : IsCatalogue text head (flat_map listed_entries listed)
   pub written : Appends before after text
+
+-- These are the files that are named by words, and then those that a list names. Which names a list
+-- has is what the system says.
+pub record IsPutList {F S : Type 0} (gives : Opened F → ℕ → List ℕ → Opened F → Type 0)
+    (calls : GridCalls S) (words : PutWords) (status : ℕ) (before after : Option (List ℕ))
+    : Type 0 where
+  pub names : List (List ℕ)
+  pub listed : List Listed
+  pub names_are : map (λ l. l.name) listed ≡ map (λ f. f.now) words.files.items ++ names
+  pub put : ArePut gives calls words listed before after
+  pub status_is : status ≡ fold listed_status 0 listed
+
+-- They are those before one of these files.
+pub record IsPutBefore {F S : Type 0} (gives : Opened F → ℕ → List ℕ → Opened F → Type 0)
+    (calls : GridCalls S) (words : PutWords) (before after : Option (List ℕ)) : Type 0 where
+  pub names : List (List ℕ)
+  pub listed : List Listed
+  pub next : List ℕ
+  pub left : List (List ℕ)
+  pub names_are : map (λ l. l.name) listed ++ next ∷ left
+      ≡ map (λ f. f.now) words.files.items ++ names
+  pub put : ArePut gives calls words listed before after
 
 -- Files are put so, or nothing is written, where the text that is to be the catalogue of words is
 -- none.
@@ -174,9 +192,21 @@ pub record IsPutByWays {F S : Type 0} (gives : Opened F → ℕ → List ℕ →
   pub is : IsAskedBy words asked
   pub done : IsPutDone gives calls asked status before after
 
--- Where it has no result, nothing was written of one file, unless it was `out` that failed; of many
--- their catalogue may have been begun.
-abbrev pub IsPutUndone : Bool → Failure → Option (List ℕ) → Option (List ℕ) → Type 0
-IsPutUndone false failure before after = ⊤
-IsPutUndone true failures.Writer before after = ⊤
-IsPutUndone true (failures.Fault fault) before after = after ≡ before
+-- ---- a put that comes to no end
+
+-- It was `out` that failed, of which nothing is known then, or nothing was written; or memory was
+-- refused at one of many files, and those before it were put.
+abbrev pub IsPutCutOff : {F S : Type 0} → (Opened F → ℕ → List ℕ → Opened F → Type 0) → GridCalls S
+    → PutWords → Failure → Option (List ℕ) → Option (List ℕ) → Type 0
+IsPutCutOff gives calls words failure before after = (failure ≡ failures.Writer)
+    ⊎ (after ≡ before)
+    ⊎ ((is_one words ≡ false) × (failure ≡ failures.Fault faults.OutOfMemory)
+    × IsPutBefore gives calls words before after)
+
+-- The same of a put that takes the ways of its grid.
+pub record IsPutUndone {F S : Type 0} (gives : Opened F → ℕ → List ℕ → Opened F → Type 0)
+    (calls : GridCalls S) (words : PutWords) (failure : Failure)
+    (before after : Option (List ℕ)) : Type 0 where
+  pub asked : PutWords
+  pub is : IsAskedBy words asked
+  pub cut : IsPutCutOff gives calls asked failure before after

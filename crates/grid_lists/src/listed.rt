@@ -1,10 +1,11 @@
 //! A file of a list: its name, its path, its line, and what is told where it is refused.
 
-ghost use Rattle.std.specs.Prelude.{IfOk};
+ghost use Rattle.std.specs.Prelude.{◌≡◌, IfErr, IfOk, OnOk};
 ghost use Rattle.std.specs.Io.KnownBytes.{Appends};
 ghost use Rattle.catalogues.specs.Catalogues.{IsEntry};
 ghost use Rattle.catalogues.specs.Lines.{line_text};
 ghost use Rattle.catalogues.specs.Names.{IsName};
+ghost use Rattle.grid_lists.specs.Ends.{IsCutShort};
 
 use cap_text::Cap;
 use catalogues::{CatalogueError, is_name, line_of};
@@ -76,7 +77,18 @@ fn told_name(alloc: Global, name: &[u8]) -> Result<String, AllocError> {
     told_path(alloc, text.as_str())
 }
 
-/// Writes the line of a file that has this cap.
+/// Writes bytes of a catalogue. What is written of bytes at which the writer fails is not known.
+pub(crate) fn write_text<O: Write>(out: &mut O, text: &[u8]) -> Result<(), Failure>
+    ensures written { OnOk result (Appends (O.contents out.old) (O.contents out.new) text.now) }
+    ensures undone { IfErr result (λ failure. failure ≡ Failure.Writer) }
+{
+    match print(out, text) {
+        Ok(()) => Ok(()),
+        Err(_) => Err(Failure::Writer),
+    }
+}
+
+/// Writes the line of a file that has this cap. Nothing is written where memory is refused.
 pub(crate) fn write_line<O: Write>(
     alloc: Global,
     cap: &Cap,
@@ -87,10 +99,12 @@ pub(crate) fn write_line<O: Write>(
     ensures entry { IfOk result (λ _. IsEntry (record { cap = cap.now; name = name.now })) }
     ensures written { IfOk result (λ _. Appends (O.contents out.old) (O.contents out.new)
         (line_text cap.now name.now)) }
+    ensures undone { IfErr result
+        (λ failure. IsCutShort failure (O.contents out.new ≡ O.contents out.old)) }
 {
     match line_of(alloc, cap, name) {
         Ok(line) => {
-            print(out, &line)?;
+            write_text(out, &line)?;
             Ok(())
         }
         // It is a name, so no more is refused than memory.

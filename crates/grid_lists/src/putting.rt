@@ -1,6 +1,6 @@
 //! `grid put` of one file or of many.
 
-ghost use Rattle.std.specs.Prelude.{◌≡◌, ◌++◌, ℕ, Bool, List, IfErr, IfOk, IfSome, Some};
+ghost use Rattle.std.specs.Prelude.{◌≡◌, ◌⊎◌, ◌++◌, ℕ, Bool, List, IfErr, IfOk, IfSome, Some};
 ghost use Rattle.std.specs.Prelude.{is_some, map, true};
 ghost use Rattle.std.specs.Io.KnownBytes.{Appends};
 ghost use Rattle.catalogues.specs.Catalogues.{IsEntry};
@@ -11,13 +11,13 @@ ghost use Rattle.sources.specs.Opened.{GivesOpened};
 ghost use Rattle.grid_servers.specs.Grids.{grid_calls};
 ghost use Rattle.grid_shares.specs.Puts.{AreChoicesBy, IsPutBy, put_status, said_by};
 ghost use Rattle.grid_shares.specs.Standing.{WereOpened};
-ghost use Rattle.grid_lists.specs.Ends.{IsListed};
+ghost use Rattle.grid_lists.specs.Ends.{AreListedBefore, IsCutShort, IsListed, IsManyCutOff};
 ghost use Rattle.grid_lists.specs.Puts.{AreListed, IsHeadBy, IsPutDone, IsPutMany, IsPutOne};
-ghost use Rattle.grid_lists.specs.Puts.{IsPutByWays, IsPutUndone, is_one, is_unsaid};
+ghost use Rattle.grid_lists.specs.Puts.{IsPutByWays, IsPutCutOff, IsPutUndone, is_one, is_unsaid};
 ghost use Rattle.grid_lists.specs.Since.{IsSince};
 
 use crate::beginning::{Begun, begin_list, input_twice};
-use crate::listed::{may_be_listed, path_of, tell_refused, tell_unread, write_line};
+use crate::listed::{may_be_listed, path_of, tell_refused, tell_unread, write_line, write_text};
 use crate::names::{end_of, names_in, read_list};
 use crate::since::{Earlier, kept_cap, read_since, tell_since};
 use crate::statuses::{DONE, UNREAD, status_after};
@@ -54,6 +54,10 @@ struct Storing<'a> {
 ///
 /// Numbers that the words do not write are those of the grid's ways, or else the usual ones. A
 /// fault of these ways (`grid_ways`) comes before all others.
+///
+/// Where it ends with a fault nothing was written; or memory was refused at one of several files,
+/// and the catalogue of those before it was. Where the writer fails, nothing is known of what it
+/// has.
 pub fn put<R, O, E>(
     rt: &R,
     words: &PutWords<'_>,
@@ -68,8 +72,9 @@ where
     ensures done { IfOk result (λ status. IsPutByWays (GivesOpened R.File.stream_position
         R.File.stream_bytes R.File.remaining) (grid_calls R.Stream.contents R.Stream.remaining)
         words.now status (O.contents out.old) (O.contents out.new)) }
-    ensures undone { IfErr result (λ failure. IsPutUndone (is_one words.now) failure
-        (O.contents out.old) (O.contents out.new)) }
+    ensures undone { IfErr result (λ failure. IsPutUndone (GivesOpened R.File.stream_position
+        R.File.stream_bytes R.File.remaining) (grid_calls R.Stream.contents R.Stream.remaining)
+        words.now failure (O.contents out.old) (O.contents out.new)) }
 {
     match words_by_ways(rt, words) {
         Ok(asked) => put_asked(rt, &asked, environment, out, progress),
@@ -92,8 +97,9 @@ where
     ensures done { IfOk result (λ status. IsPutDone (GivesOpened R.File.stream_position
         R.File.stream_bytes R.File.remaining) (grid_calls R.Stream.contents R.Stream.remaining)
         words.now status (O.contents out.old) (O.contents out.new)) }
-    ensures undone { IfErr result (λ failure. IsPutUndone (is_one words.now) failure
-        (O.contents out.old) (O.contents out.new)) }
+    ensures undone { IfErr result (λ failure. IsPutCutOff (GivesOpened R.File.stream_position
+        R.File.stream_bytes R.File.remaining) (grid_calls R.Stream.contents R.Stream.remaining)
+        words.now failure (O.contents out.old) (O.contents out.new)) }
 {
     match only_file(words) {
         Some(path) => put_one(rt, words, path, environment, out, progress),
@@ -135,8 +141,8 @@ where
     ensures done { IfOk result (λ status. IsPutOne (GivesOpened R.File.stream_position
         R.File.stream_bytes R.File.remaining) (grid_calls R.Stream.contents R.Stream.remaining)
         words.now status (O.contents out.old) (O.contents out.new)) }
-    ensures undone { IfErr result
-        (λ failure. IsPutUndone true failure (O.contents out.old) (O.contents out.new)) }
+    ensures undone { IfErr result (λ failure. (failure ≡ Failure.Writer)
+        ⊎ (O.contents out.new ≡ O.contents out.old)) }
 {
     let outcome = grid_shares::put(rt, words, path, environment, progress)?;
     match print(out, &outcome.text) {
@@ -158,9 +164,12 @@ where
     R: Files + io::Input + Net + Clock + RandomSource + Locks + AllocGlobal + Clone + Drop,
     O: Write,
     E: Write + IsTerminal,
-    ensures { IfOk result (λ status. IsPutMany (GivesOpened R.File.stream_position
+    ensures done { IfOk result (λ status. IsPutMany (GivesOpened R.File.stream_position
         R.File.stream_bytes R.File.remaining) (grid_calls R.Stream.contents R.Stream.remaining)
         words.now status (O.contents out.old) (O.contents out.new)) }
+    ensures undone { IfErr result (λ failure. IsManyCutOff (GivesOpened R.File.stream_position
+        R.File.stream_bytes R.File.remaining) (grid_calls R.Stream.contents R.Stream.remaining)
+        words.now failure (O.contents out.old) (O.contents out.new)) }
 {
     let choices = read_choices(rt, words, environment, progress)?;
     if let Some(told) = input_twice(words) {
@@ -189,9 +198,12 @@ where
     requires line { (secret : List ℕ) × (said_by begun.now.choices ≡ Some secret)
         × IsHeadBy words.now secret begun.now.head
         × (begun.now.line.items ≡ first_text begun.now.head) }
-    ensures { IfOk result (λ status. IsPutMany (GivesOpened R.File.stream_position
+    ensures done { IfOk result (λ status. IsPutMany (GivesOpened R.File.stream_position
         R.File.stream_bytes R.File.remaining) (grid_calls R.Stream.contents R.Stream.remaining)
         words.now status (O.contents out.old) (O.contents out.new)) }
+    ensures undone { IfErr result (λ failure. IsManyCutOff (GivesOpened R.File.stream_position
+        R.File.stream_bytes R.File.remaining) (grid_calls R.Stream.contents R.Stream.remaining)
+        words.now failure (O.contents out.old) (O.contents out.new)) }
 {
     let list = read_list(rt, &words.list, environment.temporary)?;
     match read_since(rt, words, environment.temporary)? {
@@ -225,9 +237,12 @@ where
         × IsHeadBy words.now secret begun.now.head
         × (begun.now.line.items ≡ first_text begun.now.head) }
     requires since { IsSince words.now since.now }
-    ensures { IfOk result (λ status. IsPutMany (GivesOpened R.File.stream_position
+    ensures done { IfOk result (λ status. IsPutMany (GivesOpened R.File.stream_position
         R.File.stream_bytes R.File.remaining) (grid_calls R.Stream.contents R.Stream.remaining)
         words.now status (O.contents out.old) (O.contents out.new)) }
+    ensures undone { IfErr result (λ failure. IsManyCutOff (GivesOpened R.File.stream_position
+        R.File.stream_bytes R.File.remaining) (grid_calls R.Stream.contents R.Stream.remaining)
+        words.now failure (O.contents out.old) (O.contents out.new)) }
 {
     tell_since(rt.alloc(), since, &begun.head, progress)?;
     let storing = Storing {
@@ -258,14 +273,17 @@ where
         × IsHeadBy storing.now.words.now secret storing.now.head.now
         × (line.now ≡ first_text storing.now.head.now) }
     requires since { IsSince storing.now.words.now storing.now.since.now }
-    ensures { IfOk result (λ status. IsPutMany (GivesOpened R.File.stream_position
+    ensures done { IfOk result (λ status. IsPutMany (GivesOpened R.File.stream_position
         R.File.stream_bytes R.File.remaining) (grid_calls R.Stream.contents R.Stream.remaining)
         storing.now.words.now status (O.contents out.old) (O.contents out.new)) }
+    ensures undone { IfErr result (λ failure. IsManyCutOff (GivesOpened R.File.stream_position
+        R.File.stream_bytes R.File.remaining) (grid_calls R.Stream.contents R.Stream.remaining)
+        storing.now.words.now failure (O.contents out.old) (O.contents out.new)) }
 {
     let words = storing.words;
     let files = bytes_of(rt.alloc(), words.files.as_slice())?;
     let names = names_in(rt.alloc(), text, end_of(&words.list))?;
-    print(out, line)?;
+    write_text(out, line)?;
     put_both(
         rt,
         storing,
@@ -290,11 +308,17 @@ where
     O: Write,
     E: Write + IsTerminal,
     requires { AreChoicesBy storing.now.words.now storing.now.choices.now }
-    ensures { IfOk result (λ status. AreListed (GivesOpened R.File.stream_position
+    ensures listed { IfOk result (λ status. AreListed (GivesOpened R.File.stream_position
         R.File.stream_bytes R.File.remaining) (grid_calls R.Stream.contents R.Stream.remaining)
         storing.now.words.now (said_by storing.now.choices.now) storing.now.since.now
         storing.now.head.now (map (λ f. f.now) files.now ++ map (λ n. n.now) names.now) 0 status
         (O.contents out.old) (O.contents out.new)) }
+    ensures undone { IfErr result (λ failure. IsCutShort failure (AreListedBefore (GivesOpened
+        R.File.stream_position R.File.stream_bytes R.File.remaining)
+        (grid_calls R.Stream.contents R.Stream.remaining) storing.now.words.now
+        (said_by storing.now.choices.now) storing.now.since.now storing.now.head.now
+        (map (λ f. f.now) files.now ++ map (λ n. n.now) names.now) (O.contents out.old)
+        (O.contents out.new))) }
 {
     let mut kept = None;
     progress.begin_files((files.len() as u64).saturating_add(names.len() as u64));
@@ -326,6 +350,11 @@ where
         storing.now.words.now (said_by storing.now.choices.now) storing.now.since.now
         storing.now.head.now (map (λ n. n.now) names.now) first status (O.contents out.old)
         (O.contents out.new)) }
+    ensures undone { IfErr result (λ failure. IsCutShort failure (AreListedBefore (GivesOpened
+        R.File.stream_position R.File.stream_bytes R.File.remaining)
+        (grid_calls R.Stream.contents R.Stream.remaining) storing.now.words.now
+        (said_by storing.now.choices.now) storing.now.since.now storing.now.head.now
+        (map (λ n. n.now) names.now) (O.contents out.old) (O.contents out.new))) }
     ensures kept { IfSome kept.new (λ g. WereOpened
         (grid_calls R.Stream.contents R.Stream.remaining) storing.now.words.now.grid.now g.grid) }
 {
@@ -360,6 +389,8 @@ where
         R.File.stream_bytes R.File.remaining) (grid_calls R.Stream.contents R.Stream.remaining)
         storing.now.words.now (said_by storing.now.choices.now) storing.now.since.now
         storing.now.head.now name.now status (O.contents out.old) (O.contents out.new)) }
+    ensures undone { IfErr result
+        (λ failure. IsCutShort failure (O.contents out.new ≡ O.contents out.old)) }
     ensures kept { IfSome kept.new (λ g. WereOpened
         (grid_calls R.Stream.contents R.Stream.remaining) storing.now.words.now.grid.now g.grid) }
 {
@@ -376,6 +407,8 @@ fn write_kept<O: Write>(alloc: Global, cap: &Cap, name: &[u8], out: &mut O) -> R
     ensures status { IfOk result (λ status. status ≡ 0) }
     ensures written { IfOk result (λ _. Appends (O.contents out.old) (O.contents out.new)
         (line_text cap.now name.now)) }
+    ensures undone { IfErr result
+        (λ failure. IsCutShort failure (O.contents out.new ≡ O.contents out.old)) }
 {
     write_line(alloc, cap, name, out)?;
     Ok(DONE)
@@ -394,6 +427,8 @@ fn write_stored<O: Write>(
     ensures status { IfOk result (λ status. status ≡ put_status file.now) }
     ensures written { IfOk result (λ _. Appends (O.contents out.old) (O.contents out.new)
         (line_text file.now.cap name.now)) }
+    ensures undone { IfErr result
+        (λ failure. IsCutShort failure (O.contents out.new ≡ O.contents out.old)) }
 {
     write_line(alloc, &file.cap, name, out)?;
     Ok(file.status())
@@ -420,6 +455,8 @@ where
         R.File.stream_bytes R.File.remaining) (grid_calls R.Stream.contents R.Stream.remaining)
         storing.now.words.now (said_by storing.now.choices.now) storing.now.since.now
         storing.now.head.now name.now status (O.contents out.old) (O.contents out.new)) }
+    ensures undone { IfErr result
+        (λ failure. IsCutShort failure (O.contents out.new ≡ O.contents out.old)) }
     ensures kept { IfSome kept.new (λ g. WereOpened
         (grid_calls R.Stream.contents R.Stream.remaining) storing.now.words.now.grid.now g.grid) }
 {
