@@ -1,7 +1,6 @@
 //! The host's file system, in which one call on a file or folder fails, or at which a share
 //! changes.
 
-use crate::runs::path;
 use grid_commands::Locks;
 use std::alloc::{Allocator, Global};
 use std::cell::Cell;
@@ -12,6 +11,7 @@ use std::random::RandomSource;
 use std::rt::{Clock, Files};
 use std::time::Duration;
 use std::{fs, io};
+use test_folders::path;
 
 // The most bytes that one call reads or writes: a file of 56 bytes is read by two calls and its end
 // by a third.

@@ -8,7 +8,7 @@
 use crate::failing_files::{Calls, FailingFiles};
 use crate::runs::{
     CAP_56, CLOSED, HERE, ONES, ZEROS_CAP, ZEROS_PUT, begins_with_56, begins_with_zeros, cap_line,
-    counted, has_share, makes_file, path, put_line, puts_zeros, removes_all, words_of, zeros_come,
+    has_share, makes_file, put_line, puts_zeros, words_of, zeros_come,
 };
 use grid_commands::{DiskFiles, Locks, grid};
 use std::net::Net;
@@ -16,6 +16,7 @@ use std::random::RandomSource;
 use std::rt::{Clock, Files};
 use std::test::Fail;
 use std::{fs, io, str};
+use test_folders::{counted, path, removes_all};
 use test_writers::Told;
 
 // How a run of a command ended.

@@ -5,10 +5,11 @@
 
 use crate::failing_files::{CHANGED, Calls, FailingFiles};
 use crate::failing_files_tests::{is_file_fault, status_of};
-use crate::runs::{CAP_56, begins_with_56, cap_line, path, removes_all, words_of};
+use crate::runs::{CAP_56, begins_with_56, cap_line, words_of};
 use std::alloc::AllocError;
-use std::fs;
 use std::test::Fail;
+use std::{fs, io};
+use test_folders::{holds, path, removes_all, writes};
 use test_writers::Told;
 
 // The folder of the last server, and its share, which is missing.
@@ -75,52 +76,99 @@ fn lose_share(rt: &HostRuntime) -> Result<(), Fail> {
 // More calls than such a repair makes, over 11.
 const ELEVENTHS: u64 = 200;
 
+// What the share that is missing and the one that changes had.
+#[derive(Drop)]
+struct Shares {
+    lost: Vec<u8>,
+    good: Vec<u8>,
+}
+
+impl Shares {
+    fn read(rt: &HostRuntime) -> Result<Shares, Fail> {
+        let lost = fs::read(rt, path(rt, MISSING)?.as_str())?;
+        let good = fs::read(rt, path(rt, CHANGED)?.as_str())?;
+        Ok(Shares { lost, good })
+    }
+
+    // Whether the missing one has what it had.
+    fn is_made(&self, rt: &HostRuntime) -> io::Result<bool> {
+        holds(rt, MISSING, self.lost.as_slice())
+    }
+
+    // Whether the other one has.
+    fn is_good(&self, rt: &HostRuntime) -> io::Result<bool> {
+        holds(rt, CHANGED, self.good.as_slice())
+    }
+
+    // Whether a repair in which the other one changes makes the missing one as it was.
+    fn is_made_by_others(&self, rt: &HostRuntime, calls: &Calls, left: u64) -> Result<bool, Fail> {
+        lose_share(rt)?;
+        writes(rt, CHANGED, self.good.as_slice())?;
+        let repaired = repair(rt, calls, left)?;
+        Ok(is_whole(&repaired) && self.is_made(rt)?)
+    }
+
+    // How a repair ends in which a call fails.
+    fn ending(&self, rt: &HostRuntime, calls: &Calls, left: u64) -> Result<Ending, Fail> {
+        lose_share(rt)?;
+        let ending = ending_of(&repair(rt, calls, left)?);
+        if ending == Ending::Whole && !self.is_made(rt)? {
+            return Ok(Ending::Other);
+        }
+        Ok(ending)
+    }
+}
+
 // A share that was good changes: the missing one is made as it was, of others.
 #[test]
 fn a_share_that_changes_is_read_no_more(rt: HostRuntime) -> Result<(), Fail> {
     assert!(rt; begins_with_56(&rt));
-    let (missing, changed) = (path(&rt, MISSING)?, path(&rt, CHANGED)?);
-    let lost = fs::read(&rt, missing.as_str())?;
-    let good = fs::read(&rt, changed.as_str())?;
+    let shares = Shares::read(&rt)?;
     let calls = Calls::changing(rt);
     for turn in 0..ELEVENTHS {
-        lose_share(&rt)?;
-        fs::write(&rt, changed.as_str(), good.as_slice())?;
-        let repaired = repair(&rt, &calls, 11 * turn)?;
-        assert!(rt; is_whole(&repaired), "{turn} {}", repaired.status);
-        let made = fs::read(&rt, missing.as_str())?;
-        assert!(rt; made.as_slice() == lost.as_slice(), "{turn}");
+        assert!(rt; shares.is_made_by_others(&rt, &calls, 11 * turn)?, "{turn}");
     }
-    let last = fs::read(&rt, changed.as_str())?;
-    assert!(rt; last.as_slice() == good.as_slice() && calls.left.get() < 11 * ELEVENTHS);
+    assert!(rt; shares.is_good(&rt)? && calls.left.get() < 11 * ELEVENTHS);
     assert!(rt; removes_all(&rt));
     Ok(())
+}
+
+// How a repair ended.
+#[derive(Clone, Copy, PartialEq, Eq)]
+enum Ending {
+    Whole,
+    // A server was left out, which may be told.
+    NearlyWhole,
+    Fault,
+    Other,
+}
+
+fn ending_of(repaired: &Repaired) -> Ending {
+    if is_whole(repaired) {
+        Ending::Whole
+    } else if is_nearly_whole(repaired) || leaves_one_out(repaired) {
+        Ending::NearlyWhole
+    } else if has_fault(repaired) {
+        Ending::Fault
+    } else {
+        Ending::Other
+    }
 }
 
 // A call that fails costs one server at most, but for one on the grid's folder.
 #[test]
 fn a_repair_goes_on_without_a_failed_server(rt: HostRuntime) -> Result<(), Fail> {
     assert!(rt; begins_with_56(&rt));
-    let missing = path(&rt, MISSING)?;
-    let lost = fs::read(&rt, missing.as_str())?;
-    let (calls, mut is_whole_at_last, mut faults) = (Calls::new(), false, 0u64);
+    let shares = Shares::read(&rt)?;
+    let (calls, mut last, mut faults) = (Calls::new(), Ending::Other, 0u64);
     for turn in 0..ELEVENTHS {
-        lose_share(&rt)?;
-        let repaired = repair(&rt, &calls, 11 * turn)?;
-        is_whole_at_last = is_whole(&repaired);
-        let is_fault = has_fault(&repaired);
-        let is_nearly_whole = is_nearly_whole(&repaired) || leaves_one_out(&repaired);
-        let is_known = is_whole_at_last || is_nearly_whole || is_fault;
-        assert!(rt; is_known, "{turn} {}", repaired.status);
-        if is_fault {
+        last = shares.ending(&rt, &calls, 11 * turn)?;
+        assert!(rt; last != Ending::Other, "{turn}");
+        if last == Ending::Fault {
             faults = faults.saturating_add(1);
         }
-        if is_whole_at_last {
-            let made = fs::read(&rt, missing.as_str())?;
-            assert!(rt; made.as_slice() == lost.as_slice(), "{turn}");
-        }
     }
-    assert!(rt; is_whole_at_last && calls.left.get() < 11 * ELEVENTHS);
+    assert!(rt; last == Ending::Whole && calls.left.get() < 11 * ELEVENTHS);
     assert!(rt; 0 < faults && faults < ELEVENTHS / 10, "{faults}");
     assert!(rt; removes_all(&rt));
     Ok(())

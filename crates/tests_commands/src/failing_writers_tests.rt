@@ -1,9 +1,10 @@
 // The commands where a writer fails: the status tells it, and of standard output a line.
 
-use crate::runs::{CAP_131074, HERE, begins_with_131074, cap_line, counted, removes_all, words_of};
+use crate::runs::{CAP_131074, HERE, begins_with_131074, cap_line, words_of};
 use grid_commands::{DiskFiles, grid, refuse_words};
 use std::alloc::AllocError;
 use std::io;
+use test_folders::{counted, removes_all};
 use test_writers::Told;
 
 // A writer that takes so many bytes, and then fails. It fails too where it is flushed with no room

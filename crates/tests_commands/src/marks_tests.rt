@@ -35,33 +35,84 @@ fn has_names(rt: &HostRuntime, folder: &str, wanted: &[&str]) -> io::Result<bool
     Ok(count == wanted.len())
 }
 
+// Whether a grid that has no mark is refused where one is needed.
+fn needs_a_mark(rt: &HostRuntime, grid: &str) -> bool {
+    fault_of(known_grid(rt, grid)) == 101
+        && fault_of(replace_server(rt, grid, 0)) == 101
+        && fault_of(add_servers(rt, grid, 1, &[])) == 101
+}
+
+// Whether it is marked once.
+fn is_marked_once(rt: &HostRuntime, grid: &str) -> io::Result<bool> {
+    let is_marked = mark_grid(rt, grid, 2, &[]).is_ok();
+    let is_refused = fault_of(can_be_marked(rt, grid)) == 95;
+    let names = ["grid-mark", "server-000", "server-001"];
+    Ok(is_marked && is_refused && has_names(rt, grid, &names)?)
+}
+
+// Whether it grows by a server.
+fn grows(rt: &HostRuntime, grid: &str) -> bool {
+    matches!(add_servers(rt, grid, 1, &[]), Ok(3))
+        && fault_of(add_servers(rt, grid, 254, &[])) == 2
+        && matches!(grid_servers_count(rt, grid), Ok(Some(3)))
+}
+
+// Whether the disk of server 2 is not replaced by one that holds a file.
+fn needs_an_empty_one(rt: &HostRuntime, grid: &str, folder: &str) -> io::Result<bool> {
+    let file = format!(in rt.alloc(); "{folder}/file")?;
+    fs::write(rt, file.as_str(), "something")?;
+    let is_refused = fault_of(replace_server(rt, grid, 2)) == 102;
+    let has_none = try_mark(rt, grid, 2).is_err();
+    fs::remove_file(rt, file.as_str())?;
+    Ok(is_refused && has_none)
+}
+
+// Whether a lost disk of server 2 is replaced by an empty one, and by none else.
+fn gets_a_new_disk(rt: &HostRuntime, grid: &str, folder: &str) -> io::Result<bool> {
+    let stands = has_names(rt, folder, &["grid-mark"])? && try_mark(rt, grid, 2).is_ok();
+    fs::remove_dir_all(rt, folder)?;
+    let is_missed = fault_of(replace_server(rt, grid, 2)) == 90;
+    let is_none = fault_of(replace_server(rt, grid, 3)) == 2;
+    fs::create_dir(rt, folder)?;
+    let is_told = stands && is_missed && is_none && needs_an_empty_one(rt, grid, folder)?;
+    Ok(is_told && replace_server(rt, grid, 2).is_ok() && try_mark(rt, grid, 2).is_ok())
+}
+
 // A grid is marked once, grows, and a lost disk of it is replaced by an empty one.
 #[test]
 fn grids_grow_and_get_new_disks(rt: HostRuntime) -> Result<(), Fail> {
     let grid = grid(&rt, "growing")?;
     let grid = grid.as_str();
-    assert!(rt; fault_of(known_grid(&rt, grid)) == 101);
-    assert!(rt; fault_of(replace_server(&rt, grid, 0)) == 101);
-    assert!(rt; fault_of(add_servers(&rt, grid, 1, &[])) == 101);
-    assert!(rt; mark_grid(&rt, grid, 2, &[]).is_ok() && fault_of(can_be_marked(&rt, grid)) == 95);
-    assert!(rt; has_names(&rt, grid, &["grid-mark", "server-000", "server-001"])?);
-    assert!(rt; matches!(add_servers(&rt, grid, 1, &[]), Ok(3)));
-    assert!(rt; fault_of(add_servers(&rt, grid, 254, &[])) == 2);
-    assert!(rt; matches!(grid_servers_count(&rt, grid), Ok(Some(3))));
+    assert!(rt; needs_a_mark(&rt, grid) && is_marked_once(&rt, grid)? && grows(&rt, grid));
     let folder = server_folder(rt.alloc(), grid, 2)?;
-    let folder = folder.as_str();
-    assert!(rt; has_names(&rt, folder, &["grid-mark"])? && try_mark(&rt, grid, 2).is_ok());
-    fs::remove_dir_all(&rt, folder)?;
-    assert!(rt; fault_of(replace_server(&rt, grid, 2)) == 90);
-    assert!(rt; fault_of(replace_server(&rt, grid, 3)) == 2);
-    fs::create_dir(&rt, folder)?;
-    let file = format!(in rt.alloc(); "{folder}/file")?;
-    fs::write(&rt, file.as_str(), "something")?;
-    assert!(rt; fault_of(replace_server(&rt, grid, 2)) == 102 && try_mark(&rt, grid, 2).is_err());
-    fs::remove_file(&rt, file.as_str())?;
-    assert!(rt; replace_server(&rt, grid, 2).is_ok() && try_mark(&rt, grid, 2).is_ok());
+    assert!(rt; gets_a_new_disk(&rt, grid, folder.as_str())?);
     fs::remove_dir_all(&rt, grid)?;
     Ok(())
+}
+
+// Whether a grid is adopted neither before it is marked nor then.
+fn needs_a_lost_mark(rt: &HostRuntime, grid: &str) -> bool {
+    fault_of(adopt_grid(rt, grid, None)) == 101
+        && mark_grid(rt, grid, 3, &[]).is_ok()
+        && fault_of(adopt_grid(rt, grid, None)) == 95
+}
+
+// Whether a mark that was lost comes back as it was.
+fn comes_back(rt: &HostRuntime, grid: &str, mark: &str) -> io::Result<bool> {
+    let text = fs::read(rt, mark)?;
+    fs::remove_file(rt, mark)?;
+    let is_refused = fault_of(adopt_grid(rt, grid, Some(2))) == 2;
+    let is_adopted = matches!(adopt_grid(rt, grid, None), Ok(3));
+    Ok(is_refused && is_adopted && fs::read(rt, mark)?.as_slice() == text.as_slice())
+}
+
+// Whether a grid that was begun with goes on, with the same number of servers alone.
+fn goes_on(rt: &HostRuntime, grid: &str, mark: &str, part: &str) -> io::Result<bool> {
+    let text = fs::read(rt, mark)?;
+    fs::rename(rt, mark, part)?;
+    let is_refused = fault_of(mark_grid(rt, grid, 4, &[])) == 95;
+    let is_marked = mark_grid(rt, grid, 3, &[]).is_ok() && !fs::exists(rt, part)?;
+    Ok(is_refused && is_marked && fs::read(rt, mark)?.as_slice() == text.as_slice())
 }
 
 // A grid whose mark was lost gets it back, and one that was begun with goes on.
@@ -69,21 +120,11 @@ fn grids_grow_and_get_new_disks(rt: HostRuntime) -> Result<(), Fail> {
 fn grids_are_adopted_and_begun_again(rt: HostRuntime) -> Result<(), Fail> {
     let grid = grid(&rt, "adopted")?;
     let grid = grid.as_str();
-    assert!(rt; fault_of(adopt_grid(&rt, grid, None)) == 101);
-    assert!(rt;
-        mark_grid(&rt, grid, 3, &[]).is_ok() && fault_of(adopt_grid(&rt, grid, None)) == 95
-    );
+    assert!(rt; needs_a_lost_mark(&rt, grid));
     let mark = format!(in rt.alloc(); "{grid}/grid-mark")?;
-    let part = format!(in rt.alloc(); "{grid}/grid-mark.part")?;
-    let text = fs::read(&rt, mark.as_str())?;
-    fs::remove_file(&rt, mark.as_str())?;
-    assert!(rt; fault_of(adopt_grid(&rt, grid, Some(2))) == 2);
-    assert!(rt; matches!(adopt_grid(&rt, grid, None), Ok(3)));
-    assert!(rt; fs::read(&rt, mark.as_str())? == text);
-    fs::rename(&rt, mark.as_str(), part.as_str())?;
-    assert!(rt; fault_of(mark_grid(&rt, grid, 4, &[])) == 95);
-    assert!(rt; mark_grid(&rt, grid, 3, &[]).is_ok() && fs::read(&rt, mark.as_str())? == text);
-    assert!(rt; !fs::exists(&rt, part.as_str())?);
+    assert!(rt; comes_back(&rt, grid, mark.as_str())?);
+    let part = format!(in rt.alloc(); "{mark}.part")?;
+    assert!(rt; goes_on(&rt, grid, mark.as_str(), part.as_str())?);
     fs::remove_dir_all(&rt, grid)?;
     Ok(())
 }
@@ -107,21 +148,30 @@ fn has_secret(rt: &HostRuntime, grid: &str, wanted: &[u8]) -> bool {
     }
 }
 
+// Whether a grid takes a secret of two lines, and none that is too long.
+fn takes_one(rt: &HostRuntime, grid: &str) -> bool {
+    has_no_secret(rt, grid)
+        && fault_of(keep_secret(rt, grid, &[1; 65])) == 2
+        && keep_secret(rt, grid, b"two lines\n").is_ok()
+        && has_secret(rt, grid, b"two lines\n")
+}
+
+// Whether one is drawn where none is kept.
+fn draws_one(rt: &HostRuntime, grid: &str) -> io::Result<bool> {
+    let is_refused = fault_of(draw_secret(rt, grid)) == 90;
+    let path = format!(in rt.alloc(); "{grid}/grid-secret")?;
+    fs::remove_file(rt, path.as_str())?;
+    let is_drawn = draw_secret(rt, grid).is_ok();
+    Ok(is_refused && is_drawn && fs::read(rt, path.as_str())?.len() == 53)
+}
+
 // A grid keeps one secret.
 #[test]
 fn secrets_are_kept(rt: HostRuntime) -> Result<(), Fail> {
     let grid = grid(&rt, "secret")?;
     let grid = grid.as_str();
     fs::create_dir(&rt, grid)?;
-    assert!(rt; has_no_secret(&rt, grid));
-    assert!(rt; fault_of(keep_secret(&rt, grid, &[1; 65])) == 2);
-    assert!(rt; keep_secret(&rt, grid, b"two lines\n").is_ok());
-    assert!(rt; has_secret(&rt, grid, b"two lines\n"));
-    assert!(rt; fault_of(draw_secret(&rt, grid)) == 90);
-    let path = format!(in rt.alloc(); "{grid}/grid-secret")?;
-    fs::remove_file(&rt, path.as_str())?;
-    assert!(rt; draw_secret(&rt, grid).is_ok());
-    assert!(rt; fs::read(&rt, path.as_str())?.len() == 53);
+    assert!(rt; takes_one(&rt, grid) && draws_one(&rt, grid)?);
     fs::remove_dir_all(&rt, grid)?;
     Ok(())
 }
@@ -136,20 +186,28 @@ fn file(server: u16, address: &str) -> AddressFile<'_> {
     AddressFile { server, address }
 }
 
+// Whether a grid is made with a server elsewhere of its own, and none that it has not.
+fn is_made_with(rt: &HostRuntime, grid: &str) -> io::Result<bool> {
+    let is_none = fault_of(mark_grid(rt, grid, 2, &[file(2, "unix:a")])) == 2;
+    let is_made = mark_grid(rt, grid, 2, &[file(1, "unix:a")]).is_ok();
+    let is_old = fault_of(add_servers(rt, grid, 1, &[file(1, "unix:a")])) == 2;
+    Ok(is_none && is_made && is_old && has_text(rt, grid, 1, "unix:a\n")?)
+}
+
+// Whether it grows by one that has its file already, with the same address alone.
+fn grows_by(rt: &HostRuntime, grid: &str) -> io::Result<bool> {
+    fs::write(rt, server_folder(rt.alloc(), grid, 2)?.as_str(), "unix:b")?;
+    let is_other = fault_of(add_servers(rt, grid, 1, &[file(2, "unix:c")])) == 90;
+    let is_same = matches!(add_servers(rt, grid, 1, &[file(2, "unix:b")]), Ok(3));
+    Ok(is_other && is_same && has_text(rt, grid, 2, "unix:b")?)
+}
+
 // Servers elsewhere have files of one line, which are made with a grid and as it grows.
 #[test]
 fn servers_elsewhere_have_files(rt: HostRuntime) -> Result<(), Fail> {
     let grid = grid(&rt, "elsewhere")?;
     let grid = grid.as_str();
-    assert!(rt; fault_of(mark_grid(&rt, grid, 2, &[file(2, "unix:a")])) == 2);
-    assert!(rt; mark_grid(&rt, grid, 2, &[file(1, "unix:a")]).is_ok());
-    assert!(rt; has_text(&rt, grid, 1, "unix:a\n")?);
-    assert!(rt; fault_of(add_servers(&rt, grid, 1, &[file(1, "unix:a")])) == 2);
-    let path = server_folder(rt.alloc(), grid, 2)?;
-    fs::write(&rt, path.as_str(), "unix:b")?;
-    assert!(rt; fault_of(add_servers(&rt, grid, 1, &[file(2, "unix:c")])) == 90);
-    assert!(rt; matches!(add_servers(&rt, grid, 1, &[file(2, "unix:b")]), Ok(3)));
-    assert!(rt; has_text(&rt, grid, 2, "unix:b")?);
+    assert!(rt; is_made_with(&rt, grid)? && grows_by(&rt, grid)?);
     fs::remove_dir_all(&rt, grid)?;
     Ok(())
 }

@@ -1,14 +1,13 @@
 // `get -o FILE` over what may stand at FILE: the file comes whole or stays as it was, and what
 // stands beside it stays.
 
-use crate::runs::{
-    CLOSED, HERE, ZEROS_CAP, begins_with_zeros, cap_line, path, removes_all, words_of,
-};
+use crate::runs::{CLOSED, HERE, ZEROS_CAP, begins_with_zeros, cap_line, words_of};
 use grid_commands::{DiskFiles, grid};
 use std::alloc::AllocError;
 use std::fs;
 use std::os::unix::fs::symlink;
 use std::test::Fail;
+use test_folders::{path, removes_all};
 use test_writers::Told;
 
 // The status of a `get` of 56 zero bytes to this path, and what it tells.
@@ -47,17 +46,26 @@ fn is_there(rt: &HostRuntime, path: &str) -> bool {
     fs::symlink_metadata(rt, path).is_ok()
 }
 
+// Whether a file comes where none stands, and leaves none beside it.
+fn comes_alone(rt: &HostRuntime, out: &str, part: &str) -> Result<bool, AllocError> {
+    Ok(comes(rt, out, out)? && !is_there(rt, part))
+}
+
+// Whether it comes in the place of an old one, and one of the user's own stays beside it.
+fn comes_beside(rt: &HostRuntime, out: &str, part: &str) -> Result<bool, Fail> {
+    fs::write(rt, out, "an old one")?;
+    fs::write(rt, part, "of the user's own")?;
+    Ok(comes(rt, out, out)? && holds(rt, part, b"of the user's own"))
+}
+
 // A file is written beside its place, under a name that is not taken, and replaces what stood
 // there.
 #[test]
 fn a_file_comes_whole(rt: HostRuntime) -> Result<(), Fail> {
     assert!(rt; begins_with_zeros(&rt));
     let (out, part) = (path(&rt, "/out")?, path(&rt, "/out.part")?);
-    let (out, part) = (out.as_str(), part.as_str());
-    assert!(rt; comes(&rt, out, out)? && !is_there(&rt, part));
-    fs::write(&rt, out, "an old one")?;
-    fs::write(&rt, part, "of the user's own")?;
-    assert!(rt; comes(&rt, out, out)? && holds(&rt, part, b"of the user's own"));
+    assert!(rt; comes_alone(&rt, out.as_str(), part.as_str())?);
+    assert!(rt; comes_beside(&rt, out.as_str(), part.as_str())?);
     let next = path(&rt, "/out.part.2")?;
     assert!(rt; !is_there(&rt, next.as_str()) && removes_all(&rt));
     Ok(())
@@ -76,48 +84,80 @@ fn folders_and_devices(rt: HostRuntime) -> Result<(), Fail> {
     Ok(())
 }
 
+// Whether the file at the end of a link comes, and the link stays.
+fn comes_behind(rt: &HostRuntime, link: &str, far: &str) -> Result<bool, Fail> {
+    Ok(comes(rt, link, far)? && fs::symlink_metadata(rt, link)?.is_symlink())
+}
+
+// Whether it does where a file stands there.
+fn is_replaced_behind(rt: &HostRuntime) -> Result<bool, Fail> {
+    let (far, link) = (path(rt, "/far")?, path(rt, "/link")?);
+    fs::write(rt, far.as_str(), "an old one")?;
+    symlink(rt, "far", link.as_str())?;
+    comes_behind(rt, link.as_str(), far.as_str())
+}
+
+// Whether it does where none stands.
+fn is_made_behind(rt: &HostRuntime) -> Result<bool, Fail> {
+    let (new, loose) = (path(rt, "/new")?, path(rt, "/loose")?);
+    symlink(rt, new.as_str(), loose.as_str())?;
+    comes_behind(rt, loose.as_str(), new.as_str())
+}
+
 // A link stays, and the file at its end is replaced or made.
 #[test]
 fn links_stay(rt: HostRuntime) -> Result<(), Fail> {
     assert!(rt; begins_with_zeros(&rt));
-    let (far, link) = (path(&rt, "/far")?, path(&rt, "/link")?);
-    let (new, loose) = (path(&rt, "/new")?, path(&rt, "/loose")?);
-    fs::write(&rt, far.as_str(), "an old one")?;
-    symlink(&rt, "far", link.as_str())?;
-    symlink(&rt, new.as_str(), loose.as_str())?;
-    for (from, to) in [(&link, &far), (&loose, &new)] {
-        assert!(rt; comes(&rt, from.as_str(), to.as_str())?);
-        let found = fs::symlink_metadata(&rt, from.as_str())?;
-        assert!(rt; found.is_symlink());
-    }
+    assert!(rt; is_replaced_behind(&rt)? && is_made_behind(&rt)?);
     assert!(rt; removes_all(&rt));
     Ok(())
+}
+
+// Whether a link that leads to itself is refused.
+fn refuses_a_ring(rt: &HostRuntime) -> Result<bool, Fail> {
+    let ring = path(rt, "/ring")?;
+    symlink(rt, "ring", ring.as_str())?;
+    Ok(is_refused(rt, ring.as_str(), ring.as_str())?)
+}
+
+// Whether a link to a device stays, and what comes is written to that.
+fn writes_to_a_device(rt: &HostRuntime) -> Result<bool, Fail> {
+    let null = path(rt, "/null")?;
+    symlink(rt, "/dev/null", null.as_str())?;
+    let is_got = got(rt, null.as_str())?.0 == 0;
+    Ok(is_got && fs::symlink_metadata(rt, null.as_str())?.is_symlink())
 }
 
 // Links in a ring are refused, and one to a device is written straight.
 #[test]
 fn links_that_lead_to_no_file(rt: HostRuntime) -> Result<(), Fail> {
     assert!(rt; begins_with_zeros(&rt));
-    let (ring, null) = (path(&rt, "/ring")?, path(&rt, "/null")?);
-    symlink(&rt, "ring", ring.as_str())?;
-    symlink(&rt, "/dev/null", null.as_str())?;
-    assert!(rt; is_refused(&rt, ring.as_str(), ring.as_str())?);
-    assert!(rt; got(&rt, null.as_str())?.0 == 0);
-    let found = fs::symlink_metadata(&rt, null.as_str())?;
-    assert!(rt; found.is_symlink() && removes_all(&rt));
+    assert!(rt; refuses_a_ring(&rt)? && writes_to_a_device(&rt)?);
+    assert!(rt; removes_all(&rt));
     Ok(())
+}
+
+// Takes the only share away.
+fn remove_share(rt: &HostRuntime) -> Result<(), Fail> {
+    let share = format!(in rt.alloc(); "/grid/server-000/{CLOSED}")?;
+    fs::remove_file(rt, path(rt, share.as_str())?.as_str())?;
+    Ok(())
+}
+
+// Whether a `get` to this path tells that there are too few.
+fn lacks_shares(rt: &HostRuntime, out: &str) -> Result<bool, AllocError> {
+    let (status, told) = got(rt, out)?;
+    Ok(status == 5 && told.as_str() == "grid: 71 NotEnoughShares\n")
 }
 
 // Where shares are missing the file stays as it was, and no empty file is left beside it.
 #[test]
 fn a_file_that_does_not_come(rt: HostRuntime) -> Result<(), Fail> {
     assert!(rt; begins_with_zeros(&rt));
+    remove_share(&rt)?;
     let (out, part) = (path(&rt, "/out")?, path(&rt, "/out.part")?);
-    let share = format!(in rt.alloc(); "/grid/server-000/{CLOSED}")?;
     fs::write(&rt, out.as_str(), "an old one")?;
-    fs::remove_file(&rt, path(&rt, share.as_str())?.as_str())?;
-    let (status, told) = got(&rt, out.as_str())?;
-    assert!(rt; status == 5 && told.as_str() == "grid: 71 NotEnoughShares\n");
+    assert!(rt; lacks_shares(&rt, out.as_str())?);
     assert!(rt; holds(&rt, out.as_str(), b"an old one") && !is_there(&rt, part.as_str()));
     assert!(rt; removes_all(&rt));
     Ok(())

@@ -3,10 +3,10 @@
 // written a beginning of the file by then.
 
 use crate::runs::{
-    HERE, ONES, ZEROS_CAP, ZEROS_PUT, begins_with_zeros, cap_line, makes_file, put_line,
-    removes_all, words_of,
+    HERE, ONES, ZEROS_CAP, ZEROS_PUT, begins_with_zeros, cap_line, makes_file, put_line, words_of,
 };
 use grid_commands::{DiskFiles, grid};
+use test_folders::removes_all;
 use test_writers::Told;
 
 // Whether the words of a line end well and write this, or tell that memory was refused and write

@@ -1,10 +1,10 @@
-//! Runs of commands in a folder that is this process's own.
+//! Runs of commands in the tests' folder.
 //!
 //! The helpers answer no where memory is out or the system refuses a file.
 
 use grid_commands::{DiskFiles, Environment, grid};
 use std::alloc::AllocError;
-use std::fs;
+use test_folders::{begins, counted, path, stands, writes};
 use test_writers::Told;
 
 // The cap of 56 zero bytes, at one share of one, and what a put of them prints. These and the share
@@ -41,50 +41,15 @@ pub(crate) const HERE: Environment<'static> = Environment {
     secret_file: None,
 };
 
-// A path in a folder that is this process's own.
-pub(crate) fn path(rt: &HostRuntime, rest: &str) -> Result<String, AllocError> {
-    let process = std::process::id(rt.process());
-    format!(in rt.alloc(); "/tmp/grid-tests-{process}{rest}")
-}
-
-// The bytes i modulo 251.
-pub(crate) fn counted(rt: &HostRuntime, size: usize) -> Result<Vec<u8>, AllocError> {
-    let mut bytes = Vec::with_capacity(rt.alloc(), size)?;
-    for i in 0..size {
-        bytes.push((i % 251) as u8)?;
-    }
-    Ok(bytes)
-}
-
-// Removes this process's folder with all that it holds, where it is there.
-pub(crate) fn removes_all(rt: &HostRuntime) -> bool {
-    let Ok(root) = path(rt, "") else {
-        return false;
-    };
-    match fs::exists(rt, root.as_str()) {
-        Ok(true) => fs::remove_dir_all(rt, root.as_str()).is_ok(),
-        Ok(false) => true,
-        Err(_) => false,
-    }
-}
-
-// Makes this process's folder anew, with these bytes in the file in it.
+// Makes the tests' folder anew, with these bytes in the file in it.
 pub(crate) fn makes_file(rt: &HostRuntime, bytes: &[u8]) -> bool {
-    let (Ok(root), Ok(file)) = (path(rt, ""), path(rt, "/file")) else {
-        return false;
-    };
-    removes_all(rt)
-        && fs::create_dir_all(rt, root.as_str()).is_ok()
-        && fs::write(rt, file.as_str(), bytes).is_ok()
+    begins(rt) && writes(rt, "/file", bytes).is_ok()
 }
 
 // Whether a share is there, or is not, in the first server's folder.
 pub(crate) fn has_share(rt: &HostRuntime, name: &str, wanted: bool) -> bool {
-    match format!(in rt.alloc(); "/grid/server-000/{name}").and_then(|rest| path(
-        rt,
-        rest.as_str(),
-    )) {
-        Ok(file) => matches!(fs::exists(rt, file.as_str()), Ok(found) if found == wanted),
+    match format!(in rt.alloc(); "/grid/server-000/{name}") {
+        Ok(rest) => matches!(stands(rt, rest.as_str()), Ok(found) if found == wanted),
         Err(_) => false,
     }
 }
@@ -93,7 +58,7 @@ pub(crate) fn words_of<'a>(rt: &HostRuntime, line: &'a str) -> Result<Vec<&'a st
     line.split(' ').collect(rt.alloc())
 }
 
-// `put` of the file of this process's folder into its grid, with these options.
+// `put` of the file of the tests' folder into its grid, with these options.
 pub(crate) fn put_line(rt: &HostRuntime, options: &str) -> Result<String, AllocError> {
     let root = path(rt, "")?;
     let gap = if options.is_empty() { "" } else { " " };
@@ -138,12 +103,12 @@ pub(crate) fn puts_zeros(rt: &HostRuntime) -> bool {
     puts(rt, ONES, ZEROS_PUT)
 }
 
-// Makes this process's folder anew, and puts 56 zero bytes into its grid.
+// Makes the tests' folder anew, and puts 56 zero bytes into its grid.
 pub(crate) fn begins_with_zeros(rt: &HostRuntime) -> bool {
     makes_file(rt, &[0; 56]) && puts_zeros(rt)
 }
 
-// Makes this process's folder anew, and puts a file whose byte i is i modulo 251 into its grid.
+// Makes the tests' folder anew, and puts a file whose byte i is i modulo 251 into its grid.
 fn begins_with(rt: &HostRuntime, size: usize, out: &str) -> bool {
     match counted(rt, size) {
         Ok(file) => makes_file(rt, &file) && puts(rt, "", out),

@@ -1,11 +1,12 @@
 //! `grid status`: what a grid's folders hold, by the names of their files, and which servers do not
 //! stand.
 
-use crate::runs::{CLOSED, HERE, begins_with_zeros, path, removes_all, words_of};
+use crate::runs::{CLOSED, HERE, begins_with_zeros, words_of};
 use grid_commands::{DiskFiles, grid};
 use std::alloc::AllocError;
 use std::fs;
 use std::test::Fail;
+use test_folders::{path, removes_all};
 use test_writers::Told;
 
 // What a command wrote, and its status.
@@ -57,42 +58,41 @@ fn writes(rt: &HostRuntime, name: &str, bytes: &str) -> Result<bool, AllocError>
     Ok(fs::write(rt, file.as_str(), bytes).is_ok())
 }
 
-// Writes files with the names of shares: two closed ones, one that is on its way to be set aside,
-// one that was set aside, two open ones, and one of no share. Together the closed ones and the one
-// on its way have 15 bytes.
+// The names of files, as those of shares, and their texts: two closed ones, one that is on its way
+// to be set aside, one that was set aside, two open ones, and one of no share. Together the closed
+// ones and the one on its way have 15 bytes.
+static FILES: [(&str, &str); 7] = [
+    (CLOSED, "four"),
+    (
+        "w3hm5rcm33g237wuaijiuuup7q.1.aaaaaaaaaaaaaaaaaaaaaaaaaaaaaaaaaaaaaaaaaaaaaaaaaaaa",
+        "fives",
+    ),
+    (
+        "w3hm5rcm33g237wuaijiuuup7q.0.jtekwrxuxx27zctnem7ska6zjwudmdyta5yamq5667dqfdotpzra\
+        .aaaaaaaaaaaaaaaaaaaaaaaaaa.aside",
+        "sixsix",
+    ),
+    (
+        "w3hm5rcm33g237wuaijiuuup7q.0.jtekwrxuxx27zctnem7ska6zjwudmdyta5yamq5667dqfdotpzra\
+        .damaged",
+        "seven",
+    ),
+    (
+        "w3hm5rcm33g237wuaijiuuup7q.2.aaaaaaaaaaaaaaaaaaaaaaaaaa.open",
+        "",
+    ),
+    ("w3hm5rcm33g237wuaijiuuup7q.3.open", "more"),
+    ("notes", "of the user's own"),
+];
+
+// Writes those files.
 fn fills(rt: &HostRuntime) -> Result<bool, AllocError> {
-    let index = "w3hm5rcm33g237wuaijiuuup7q";
-    let own = "aaaaaaaaaaaaaaaaaaaaaaaaaa";
-    let other = "aaaaaaaaaaaaaaaaaaaaaaaaaaaaaaaaaaaaaaaaaaaaaaaaaaaa";
-    Ok(
-        writes(rt, CLOSED, "four")?
-            && writes(
-                rt,
-                format!(in rt.alloc(); "{index}.1.{other}")?.as_str(),
-                "fives",
-            )?
-            && writes(
-                rt,
-                format!(in rt.alloc(); "{CLOSED}.{own}.aside")?.as_str(),
-                "sixsix",
-            )?
-            && writes(
-                rt,
-                format!(in rt.alloc(); "{CLOSED}.damaged")?.as_str(),
-                "seven",
-            )?
-            && writes(
-                rt,
-                format!(in rt.alloc(); "{index}.2.{own}.open")?.as_str(),
-                "",
-            )?
-            && writes(
-                rt,
-                format!(in rt.alloc(); "{index}.3.open")?.as_str(),
-                "more",
-            )?
-            && writes(rt, "notes", "of the user's own")?,
-    )
+    for (name, text) in FILES {
+        if !writes(rt, name, text)? {
+            return Ok(false);
+        }
+    }
+    Ok(true)
 }
 
 // Takes the mark of the third server away.

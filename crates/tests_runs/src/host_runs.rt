@@ -1,9 +1,10 @@
-//! Runs of commands in a folder that is this process's own.
+//! Runs of commands in the tests' folder, over such a host.
 
 use crate::host::{OddHost, Plan};
 use grid_commands::{DiskFiles, Environment, grid};
 use std::alloc::AllocError;
 use std::{fs, io};
+use test_folders::{counted, makes_folder, path, stands, writes};
 use test_writers::Told;
 
 // The cap of the file of 131,074 bytes whose byte i is i modulo 251, at 3 of 10, by a program that
@@ -19,37 +20,19 @@ pub(crate) const HERE: Environment<'static> = Environment {
     secret_file: None,
 };
 
-// A path in that folder.
-pub(crate) fn path(rt: &HostRuntime, rest: &str) -> Result<String, AllocError> {
-    let process = std::process::id(rt.process());
-    format!(in rt.alloc(); "/tmp/grid-net-tests-{process}{rest}")
-}
-
 // Removes the folder, where it is there.
 pub(crate) fn remove(rt: &HostRuntime) -> io::Result<()> {
-    let root = path(rt, "")?;
-    if fs::exists(rt, root.as_str())? {
-        fs::remove_dir_all(rt, root.as_str())?;
+    if stands(rt, "")? {
+        fs::remove_dir_all(rt, path(rt, "")?.as_str())?;
     }
     Ok(())
-}
-
-// The bytes i modulo 251.
-pub(crate) fn counted(rt: &HostRuntime, size: usize) -> Result<Vec<u8>, AllocError> {
-    let mut bytes = Vec::with_capacity(rt.alloc(), size)?;
-    for i in 0..size {
-        bytes.push((i % 251) as u8)?;
-    }
-    Ok(bytes)
 }
 
 // Makes the folder anew, with these bytes as its file.
 pub(crate) fn begin(rt: &HostRuntime, size: usize) -> io::Result<()> {
     remove(rt)?;
-    let root = path(rt, "")?;
-    fs::create_dir_all(rt, root.as_str())?;
-    let file = path(rt, "/file")?;
-    fs::write(rt, file.as_str(), counted(rt, size)?.as_slice())
+    makes_folder(rt, "")?;
+    writes(rt, "/file", counted(rt, size)?.as_slice())
 }
 
 // What the words of a line write to standard output and to standard error, and their status.

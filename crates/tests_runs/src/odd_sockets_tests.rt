@@ -2,9 +2,10 @@
 //! server is silent from then on, and the others go on.
 
 use crate::host::{Odd, Plan};
-use crate::host_runs::{CAP_131074, begin, counted, of_cap, put, remove};
+use crate::host_runs::{CAP_131074, Ended, begin, of_cap, put, remove};
 use std::alloc::AllocError;
 use std::io;
+use test_folders::counted;
 
 // What is odd, and how happy an upload is then.
 static ODDS: [(Odd, u16); 8] = [
@@ -18,27 +19,32 @@ static ODDS: [(Odd, u16); 8] = [
     (Odd::Ends(0), 9),
 ];
 
-// The lines of a file that was put with this happiness.
-fn put_lines(rt: &HostRuntime, happiness: u16) -> Result<String, AllocError> {
-    format!(in rt.alloc(); "{CAP_131074}\nhappiness {happiness}\n")
+// Whether a `put` told that the file was put with this happiness.
+fn tells_put(rt: &HostRuntime, told: &Ended, happiness: u16) -> Result<bool, AllocError> {
+    let lines = format!(in rt.alloc(); "{CAP_131074}\nhappiness {happiness}\n")?;
+    Ok(told.is(0, lines.as_bytes(), ""))
+}
+
+// Whether a `get` over such sockets gives the file.
+fn is_got(rt: &HostRuntime, odd: Odd) -> Result<bool, AllocError> {
+    let got = of_cap(rt, &Plan::new(odd), ("get", CAP_131074, " --net"))?;
+    Ok(got.is(0, counted(rt, 131_074)?.as_slice(), ""))
+}
+
+// Whether a `check` over them tells this happiness.
+fn is_checked(rt: &HostRuntime, odd: Odd, happiness: u16) -> Result<bool, AllocError> {
+    let checked = of_cap(rt, &Plan::new(odd), ("check", CAP_131074, " --net"))?;
+    let last = format!(in rt.alloc(); " recoverable yes happiness {happiness}\n")?;
+    let is_told = checked.out.as_slice().ends_with(last.as_bytes());
+    Ok(checked.status == 0 && is_told && checked.err.as_slice().is_empty())
 }
 
 // Whether a `put` over such sockets has this happiness, and a `get` and a `check` then end well.
 fn is_happy(rt: &HostRuntime, odd: Odd, happiness: u16) -> io::Result<bool> {
     begin(rt, 131_074)?;
     let told = put(rt, &Plan::new(odd), " --happy 7 --net")?;
-    let lines = put_lines(rt, happiness)?;
-    let got = of_cap(rt, &Plan::new(odd), ("get", CAP_131074, " --net"))?;
-    let file = counted(rt, 131_074)?;
-    let checked = of_cap(rt, &Plan::new(odd), ("check", CAP_131074, " --net"))?;
-    let last = format!(in rt.alloc(); " recoverable yes happiness {happiness}\n")?;
-    Ok(
-        told.is(0, lines.as_bytes(), "")
-            && got.is(0, file.as_slice(), "")
-            && checked.status == 0
-            && checked.out.as_slice().ends_with(last.as_bytes())
-            && checked.err.as_slice().is_empty(),
-    )
+    let is_put = tells_put(rt, &told, happiness)?;
+    Ok(is_put && is_got(rt, odd)? && is_checked(rt, odd, happiness)?)
 }
 
 #[test]
@@ -60,9 +66,8 @@ fn outlives_a_close(rt: &HostRuntime, odd: Odd, left: u64) -> io::Result<bool> {
     begin(rt, 131_074)?;
     let plan = Plan::new(odd);
     let told = put(rt, &plan, " --happy 7 --net")?;
-    let (nine, ten) = (put_lines(rt, 9)?, put_lines(rt, 10)?);
     let is_whole = plan.calls.get() <= left;
-    Ok(told.is(0, nine.as_bytes(), "") || is_whole && told.is(0, ten.as_bytes(), ""))
+    Ok(tells_put(rt, &told, 9)? || is_whole && tells_put(rt, &told, 10)?)
 }
 
 // A socket that is closed in mid-upload.
@@ -103,27 +108,19 @@ fn a_share_is_lost(rt: HostRuntime) {
 
 const SOCKET_FAULT: &str = "127.0.0.1: address in use\ngrid: 91 SocketFault\n";
 
-// Whether each command tells that no listener can be made.
+// Whether a command on the file's cap tells that no listener can be made.
+fn lacks_a_listener(rt: &HostRuntime, command: &str) -> Result<bool, AllocError> {
+    let plan = Plan::new(Odd::NoListener);
+    Ok(of_cap(rt, &plan, (command, CAP_131074, " --net"))?.is(7, b"", SOCKET_FAULT))
+}
+
+// Whether each command does.
 fn tells_no_listener(rt: &HostRuntime) -> io::Result<bool> {
     begin(rt, 131_074)?;
-    let refused = put(rt, &Plan::new(Odd::NoListener), " --net")?;
+    let plan = Plan::new(Odd::NoListener);
+    let is_refused = put(rt, &plan, " --net")?.is(7, b"", SOCKET_FAULT);
     let is_put = put(rt, &Plan::new(Odd::Nothing), "")?.status == 0;
-    let got = of_cap(
-        rt,
-        &Plan::new(Odd::NoListener),
-        ("get", CAP_131074, " --net"),
-    )?;
-    let checked = of_cap(
-        rt,
-        &Plan::new(Odd::NoListener),
-        ("check", CAP_131074, " --net"),
-    )?;
-    Ok(
-        is_put
-            && refused.is(7, b"", SOCKET_FAULT)
-            && got.is(7, b"", SOCKET_FAULT)
-            && checked.is(7, b"", SOCKET_FAULT),
-    )
+    Ok(is_refused && is_put && lacks_a_listener(rt, "get")? && lacks_a_listener(rt, "check")?)
 }
 
 #[test]

@@ -1,10 +1,11 @@
 //! The line on standard error that tells how far a command is.
 
 use crate::host::{Odd, OddHost, Plan};
-use crate::host_runs::{CAP_131074, Ended, HERE, begin, counted, path, remove, run};
+use crate::host_runs::{CAP_131074, Ended, HERE, begin, remove, run};
 use grid_commands::{DiskFiles, grid};
 use std::alloc::AllocError;
 use std::io::{self, IsTerminal, Write};
+use test_folders::{counted, path};
 
 // Back to the line's beginning, and the line is cleared.
 const CLEAR: &str = "\r\x1b[K";
@@ -196,31 +197,33 @@ impl IsTerminal for DeadTerminal {
     }
 }
 
-// Whether a `get` that takes long gives the file where its lines cannot be written.
-fn gets_without_lines(rt: &HostRuntime) -> io::Result<bool> {
-    begin(rt, 131_074)?;
-    let is_put = run_slowly(rt, put_line(rt)?.as_str(), 0, false)?.status == 0;
+// The status of a command over such a terminal, where each look at the clock takes a second.
+fn status_of(rt: &HostRuntime, words: &[&str], out: &mut Vec<u8>) -> u8 {
     let mut plan = Plan::new(Odd::Nothing);
     plan.step = 1000;
     let host = OddHost {
         rt: *rt,
         plan: &plan,
     };
+    let mut files = DiskFiles::new(&host);
+    let mut err = DeadTerminal;
+    grid(&host, words, &HERE, &mut files, out, &mut err)
+}
+
+// Whether a `get` over it gives the file.
+fn is_got(rt: &HostRuntime) -> Result<bool, AllocError> {
     let line = cap_line(rt, "get", CAP_131074)?;
     let words: Vec<&str> = line.split(' ').collect(rt.alloc())?;
     let mut out = Vec::new(rt.alloc());
-    let mut files = DiskFiles::new(&host);
-    let mut err = DeadTerminal;
-    let status = grid(
-        &host,
-        words.as_slice(),
-        &HERE,
-        &mut files,
-        &mut out,
-        &mut err,
-    );
-    let file = counted(rt, 131_074)?;
-    Ok(is_put && status == 0 && out.as_slice() == file.as_slice())
+    let status = status_of(rt, words.as_slice(), &mut out);
+    Ok(status == 0 && out.as_slice() == counted(rt, 131_074)?.as_slice())
+}
+
+// Whether a `get` that takes long gives the file where its lines cannot be written.
+fn gets_without_lines(rt: &HostRuntime) -> io::Result<bool> {
+    begin(rt, 131_074)?;
+    let is_put = run_slowly(rt, put_line(rt)?.as_str(), 0, false)?.status == 0;
+    Ok(is_put && is_got(rt)?)
 }
 
 #[test]

@@ -2,13 +2,13 @@
 
 use crate::host::{Odd, OddHost, Plan};
 use crate::host_runs::{Ended, run};
-use crate::list_runs::{begins, path, removes_all};
 use std::alloc::AllocError;
 use std::fs::{self, File};
 use std::os::unix::fs::symlink;
 use std::rt::Clock;
 use std::test::Fail;
 use std::time::{Duration, SystemTime};
+use test_folders::{begins, path, placed, removes_all, stands, writes};
 
 // The caps of the words `one` and `two`, which hold them in base32, and of a longer one; the cap of
 // 56 zero bytes at 3 of 10, by programs that share no code with these crates, and a verify cap.
@@ -91,6 +91,22 @@ fn gives_cap(rt: &HostRuntime, cap: &str) -> Result<bool, Fail> {
     gives(rt, (one.as_str(), ""), lines.as_str(), "")
 }
 
+// The lines of the files `one` and `o\n e` with the cap of another word, and a further one of the
+// first with its own cap before them.
+fn write_others(rt: &HostRuntime, lines: &str) -> Result<(), Fail> {
+    let other = format!(in rt.alloc(); "{}{lines}", line(rt, ONE_CAP)?)?;
+    list(rt, now(rt)?.saturating_add(600), USUAL, other.as_str())
+}
+
+// Whether both files keep those lines.
+fn keeps_both(rt: &HostRuntime, one: &str, odd: &str) -> Result<bool, Fail> {
+    let told = path(rt, "/o\\\\n\\ne")?;
+    let lines = format!(in rt.alloc(); "{TWO_CAP}  {one}\n\\{TWO_CAP}  {told}\n")?;
+    write_others(rt, lines.as_str())?;
+    let files = format!(in rt.alloc(); "{one} {odd}")?;
+    gives(rt, (files.as_str(), ""), lines.as_str(), "")
+}
+
 // Files that have not changed keep their lines, whatever is in them: words and those of lists, with
 // one word alone too, and under odd names. The last line of a name counts.
 #[test]
@@ -99,13 +115,9 @@ fn lines_are_kept(rt: HostRuntime) -> Result<(), Fail> {
     let (one, odd) = (path(&rt, "/one")?, path(&rt, "/o\\n\ne")?);
     fs::write(&rt, one.as_str(), "one")?;
     fs::write(&rt, odd.as_str(), "one")?;
-    let told = path(&rt, "/o\\\\n\\ne")?;
-    let lines = format!(in rt.alloc(); "{TWO_CAP}  {one}\n\\{TWO_CAP}  {told}\n")?;
-    let other = format!(in rt.alloc(); "{ONE_CAP}  {one}\n{lines}")?;
-    list(&rt, now(&rt)?.saturating_add(600), USUAL, other.as_str())?;
-    let files = format!(in rt.alloc(); "{one} {odd}")?;
-    let both = gives(&rt, (files.as_str(), ""), lines.as_str(), "")?;
-    assert!(rt; both && gives_cap(&rt, TWO_CAP)? && keeps_listed(&rt, one.as_str(), odd.as_str())?);
+    let both = keeps_both(&rt, one.as_str(), odd.as_str())?;
+    let one_alone = gives_cap(&rt, TWO_CAP)?;
+    assert!(rt; both && one_alone && keeps_listed(&rt, one.as_str(), odd.as_str())?);
     assert!(rt; removes_all(&rt));
     Ok(())
 }
@@ -171,19 +183,30 @@ fn other_numbers_are_read(rt: HostRuntime) -> Result<(), Fail> {
     Ok(())
 }
 
+// Whether the last of a name's lines counts, which keeps none.
+fn last_counts(rt: &HostRuntime, begun: u64) -> Result<bool, Fail> {
+    let lines = format!(in rt.alloc(); "{}{}", line(rt, TWO_CAP)?, line(rt, SEVEN_CAP)?)?;
+    list(rt, begun, USUAL, lines.as_str())?;
+    gives_cap(rt, ONE_CAP)
+}
+
+// Puts a link to it in the place of the file `one`.
+fn link_one(rt: &HostRuntime) -> Result<(), Fail> {
+    let (one, two) = (path(rt, "/one")?, path(rt, "/two")?);
+    fs::rename(rt, one.as_str(), two.as_str())?;
+    symlink(rt, two.as_str(), one.as_str())?;
+    Ok(())
+}
+
 // The last of a name's lines counts, also where it keeps none; and a file behind a link is read
 // anew.
 #[test]
 fn links_are_read(rt: HostRuntime) -> Result<(), Fail> {
     assert!(rt; begins(&rt));
-    let (one, two) = (path(&rt, "/one")?, path(&rt, "/two")?);
-    fs::write(&rt, one.as_str(), "one")?;
+    writes(&rt, "/one", b"one")?;
     let later = now(&rt)?.saturating_add(600);
-    let lines = format!(in rt.alloc(); "{TWO_CAP}  {one}\n{SEVEN_CAP}  {one}\n")?;
-    list(&rt, later, USUAL, lines.as_str())?;
-    assert!(rt; gives_cap(&rt, ONE_CAP)?);
-    fs::rename(&rt, one.as_str(), two.as_str())?;
-    symlink(&rt, two.as_str(), one.as_str())?;
+    assert!(rt; last_counts(&rt, later)?);
+    link_one(&rt)?;
     assert!(rt; turns(&rt, (later, USUAL), (TWO_CAP, ONE_CAP), "")?);
     assert!(rt; removes_all(&rt));
     Ok(())
@@ -214,29 +237,33 @@ fn young_files_are_read(rt: HostRuntime) -> Result<(), Fail> {
     Ok(())
 }
 
+// Whether the lines of a put are kept that lost its last byte, and the last of its lines is read
+// anew, which is told.
+fn goes_on(rt: &HostRuntime, files: &str, out: &[u8]) -> Result<bool, Fail> {
+    let kept = out.len().saturating_sub(1);
+    writes(rt, "/caps", out.get(..kept).unwrap_or(&[]))?;
+    let told = "line 3 of the catalogue is none, and what follows it is not looked at\n";
+    gives(rt, (files, ""), lines_of(out), told)
+}
+
+// Whether it does once a put of all is done, and no share is made then.
+fn goes_on_behind_all(rt: &HostRuntime, files: &str) -> Result<bool, Fail> {
+    let first = put(rt, files, "")?;
+    let is_well = first.status == 0 && first.err.rest().is_empty();
+    fs::remove_dir_all(rt, path(rt, "/grid")?.as_str())?;
+    Ok(is_well && goes_on(rt, files, first.out.as_slice())? && !stands(rt, "/grid")?)
+}
+
 // What a put wrote that was killed goes on: its whole lines are kept, and the rest is read anew,
 // which is told. No share is made of a file whose line is kept.
 #[test]
 fn cut_catalogues_go_on(rt: HostRuntime) -> Result<(), Fail> {
     assert!(rt; begins(&rt));
-    let (one, two, grid) = (path(&rt, "/one")?, path(&rt, "/two")?, path(&rt, "/grid")?);
-    fs::write(&rt, one.as_str(), [0; 56])?;
-    fs::write(&rt, two.as_str(), "two")?;
-    let files = format!(in rt.alloc(); "{one} {two}")?;
+    writes(&rt, "/one", &[0; 56])?;
+    writes(&rt, "/two", b"two")?;
     list(&rt, now(&rt)?, USUAL, "")?;
-    let first = put(&rt, files.as_str(), "")?;
-    assert!(rt; first.status == 0 && first.err.rest().is_empty());
-    fs::remove_dir_all(&rt, grid.as_str())?;
-    let out = first.out.as_slice();
-    let kept = out.len().saturating_sub(1);
-    fs::write(
-        &rt,
-        path(&rt, "/caps")?.as_str(),
-        out.get(..kept).unwrap_or(&[]),
-    )?;
-    let told = "line 3 of the catalogue is none, and what follows it is not looked at\n";
-    assert!(rt; gives(&rt, (files.as_str(), ""), lines_of(out), told)?);
-    assert!(rt; !fs::exists(&rt, grid.as_str())? && removes_all(&rt));
+    let files = placed(&rt, "@/one @/two")?;
+    assert!(rt; goes_on_behind_all(&rt, files.as_str())? && removes_all(&rt));
     Ok(())
 }
 
@@ -269,14 +296,11 @@ fn no_catalogue_to_go_on_from(rt: HostRuntime) -> Result<(), Fail> {
 fn is_refused(rt: &HostRuntime, words: &str, told: &str) -> Result<bool, Fail> {
     let plan = Plan::new(Odd::Nothing);
     let line = format!(in rt.alloc(); "grid put --grid {} {words}", path(rt, "/grid")?)?;
-    let ended = run(
-        &OddHost {
-            rt: *rt,
-            plan: &plan,
-        },
-        line.as_str(),
-        false,
-    )?;
+    let host = OddHost {
+        rt: *rt,
+        plan: &plan,
+    };
+    let ended = run(&host, line.as_str(), false)?;
     let tells = ended.err.rest().starts_with(told.as_bytes());
     Ok(ended.status == 3 && ended.out.is_empty() && tells)
 }

@@ -1,11 +1,10 @@
 // Files that are compared with their caps, and with those of catalogues.
 
 use crate::host::{Odd, OddHost, Plan};
-use crate::host_runs::{Ended, counted, run};
-use crate::list_runs::{begins, path, removes_all};
+use crate::host_runs::{Ended, run};
 use std::alloc::AllocError;
-use std::fs;
 use std::test::Fail;
+use test_folders::{begins, counted, makes_folder, placed, removes_all, writes};
 
 // The caps of the files of 56 and of 131,074 bytes whose byte i is i modulo 251, at 3 of 10, the
 // verify cap of the first, and the cap of that of 300 bytes at 2 of 5 in segments of 20 bytes under
@@ -33,30 +32,38 @@ const SAME: (u8, &str) = (0, "same\n");
 
 const DIFFERS: (u8, &str) = (5, "differs\n");
 
-// A verify with these words.
+// A verify with these words, in which each `@` is the folder.
 fn verify(rt: &HostRuntime, words: &str) -> Result<Ended, AllocError> {
     let plan = Plan::new(Odd::Nothing);
-    let line = format!(in rt.alloc(); "grid verify {words}")?;
-    run(
-        &OddHost {
-            rt: *rt,
-            plan: &plan,
-        },
-        line.as_str(),
-        false,
-    )
+    let line = format!(in rt.alloc(); "grid verify {}", placed(rt, words)?)?;
+    let host = OddHost {
+        rt: *rt,
+        plan: &plan,
+    };
+    run(&host, line.as_str(), false)
 }
 
 // Whether a verify of the file `file` with these words behind it comes to this, and tells nothing.
 fn finds(rt: &HostRuntime, words: &str, (status, out): (u8, &str)) -> Result<bool, Fail> {
-    let line = format!(in rt.alloc(); "{} {words}", path(rt, "/file")?)?;
+    let line = format!(in rt.alloc(); "@/file {words}")?;
     Ok(verify(rt, line.as_str())?.is(status, out.as_bytes(), ""))
+}
+
+// The same of this cap with these words behind it.
+fn finds_with(rt: &HostRuntime, cap: &str, words: &str, found: (u8, &str)) -> Result<bool, Fail> {
+    let line = format!(in rt.alloc(); "{cap} {words}")?;
+    finds(rt, line.as_str(), found)
 }
 
 // Writes the file `file`.
 fn write(rt: &HostRuntime, bytes: &[u8]) -> Result<(), Fail> {
-    fs::write(rt, path(rt, "/file")?.as_str(), bytes)?;
-    Ok(())
+    Ok(writes(rt, "/file", bytes)?)
+}
+
+// Whether a file of 56 bytes is compared so with its cap, and with its verify cap.
+fn finds_counted(rt: &HostRuntime, bytes: &[u8], found: (u8, &str)) -> Result<bool, Fail> {
+    write(rt, bytes)?;
+    Ok(finds(rt, COUNTED_CAP, found)? && finds(rt, VERIFY_CAP, found)?)
 }
 
 // A file is the one of its cap, and of its verify cap, and a file that is one byte another is not.
@@ -64,14 +71,12 @@ fn write(rt: &HostRuntime, bytes: &[u8]) -> Result<(), Fail> {
 fn one_byte_differs(rt: HostRuntime) -> Result<(), Fail> {
     assert!(rt; begins(&rt));
     let mut bytes = counted(&rt, 56)?;
-    write(&rt, &bytes)?;
-    assert!(rt; finds(&rt, COUNTED_CAP, SAME)? && finds(&rt, VERIFY_CAP, SAME)?);
+    assert!(rt; finds_counted(&rt, &bytes, SAME)?);
     assert!(rt; finds(&rt, LONG_CAP, DIFFERS)? && finds(&rt, ONE_CAP, DIFFERS)?);
     if let Some(last) = bytes.last_mut() {
         *last = 0;
     }
-    write(&rt, &bytes)?;
-    assert!(rt; finds(&rt, COUNTED_CAP, DIFFERS)? && finds(&rt, VERIFY_CAP, DIFFERS)?);
+    assert!(rt; finds_counted(&rt, &bytes, DIFFERS)?);
     assert!(rt; removes_all(&rt));
     Ok(())
 }
@@ -82,8 +87,7 @@ fn segments(rt: HostRuntime) -> Result<(), Fail> {
     assert!(rt; begins(&rt));
     write(&rt, &counted(&rt, 131_074)?)?;
     assert!(rt; finds(&rt, LONG_CAP, SAME)?);
-    let words = format!(in rt.alloc(); "{LONG_CAP} --segment 65536")?;
-    assert!(rt; finds(&rt, words.as_str(), DIFFERS)?);
+    assert!(rt; finds_with(&rt, LONG_CAP, "--segment 65536", DIFFERS)?);
     write(&rt, &counted(&rt, 131_075)?)?;
     assert!(rt; finds(&rt, LONG_CAP, DIFFERS)?);
     assert!(rt; removes_all(&rt));
@@ -110,65 +114,86 @@ fn literal_caps(rt: HostRuntime) -> Result<(), Fail> {
 fn secrets(rt: HostRuntime) -> Result<(), Fail> {
     assert!(rt; begins(&rt));
     write(&rt, &counted(&rt, 300)?)?;
-    let (grid, secret) = (path(&rt, "/grid")?, path(&rt, "/grid/grid-secret")?);
-    fs::create_dir_all(&rt, grid.as_str())?;
-    let words = format!(in rt.alloc(); "{OTHER_CAP} --segment 20")?;
-    let kept = format!(in rt.alloc(); "{words} --grid {grid}")?;
-    assert!(rt; finds(&rt, words.as_str(), DIFFERS)? && finds(&rt, kept.as_str(), DIFFERS)?);
-    fs::write(&rt, secret.as_str(), "abc\n")?;
-    assert!(rt; finds(&rt, kept.as_str(), SAME)?);
-    let said = format!(in rt.alloc(); "{words} --secret abc")?;
-    let read = format!(in rt.alloc(); "{words} --secret-file {secret}")?;
-    assert!(rt; finds(&rt, said.as_str(), SAME)? && finds(&rt, read.as_str(), SAME)?);
-    let other = format!(in rt.alloc(); "{kept} --secret abd")?;
-    assert!(rt; finds(&rt, other.as_str(), DIFFERS)?);
+    makes_folder(&rt, "/grid")?;
+    let (bare, kept) = ("--segment 20", "--segment 20 --grid @/grid");
+    assert!(rt; finds_with(&rt, OTHER_CAP, bare, DIFFERS)?);
+    assert!(rt; finds_with(&rt, OTHER_CAP, kept, DIFFERS)?);
+    writes(&rt, "/grid/grid-secret", b"abc\n")?;
+    assert!(rt; finds_with(&rt, OTHER_CAP, kept, SAME)?);
+    assert!(rt; finds_with(&rt, OTHER_CAP, "--segment 20 --secret abc", SAME)?);
+    let read = "--segment 20 --secret-file @/grid/grid-secret";
+    assert!(rt; finds_with(&rt, OTHER_CAP, read, SAME)?);
+    let other = "--segment 20 --grid @/grid --secret abd";
+    assert!(rt; finds_with(&rt, OTHER_CAP, other, DIFFERS)?);
     assert!(rt; removes_all(&rt));
     Ok(())
 }
 
-// Whether a verify with these words is refused with this status, and tells this.
-fn is_refused(rt: &HostRuntime, words: &str, status: u8, told: &str) -> Result<bool, AllocError> {
-    Ok(verify(rt, words)?.is(status, b"", told))
+// The status of a verify with these words that writes nothing, and what it tells is this, where
+// that is said.
+fn is_refused(
+    rt: &HostRuntime,
+    words: &str,
+    status: u8,
+    told: Option<&str>,
+) -> Result<bool, AllocError> {
+    let ended = verify(rt, words)?;
+    let is_told = match told {
+        Some(told) => ended.err.rest() == told.as_bytes(),
+        None => true,
+    };
+    Ok(ended.status == status && ended.out.is_empty() && is_told)
 }
+
+// Words, the status with which they are refused, and what is told then, where that is looked at.
+static REFUSALS: [(&str, u8, Option<&str>); 9] = [
+    (
+        "- --cap-file -",
+        3,
+        Some("standard input is the file, and cannot have the cap too\ngrid: 2 BadParameters\n"),
+    ),
+    (
+        "/dev/null URI:LIT:n5xgk --segment 0",
+        3,
+        Some("--segment is 0, and may be 1 to 1048576\ngrid: 2 BadParameters\n"),
+    ),
+    ("/none URI:LIT:n5xgk", 7, None),
+    ("/dev/null URI:LIT:1", 3, None),
+    ("/dev/null URI:LIT:n5xgk --grid @/grid", 7, None),
+    ("/dev/null", 2, None),
+    ("", 2, None),
+    ("--caps caps --segment 20", 2, None),
+    ("/dev/null URI:LIT: --into here", 2, None),
+];
 
 // What is refused, and what is told then.
 #[test]
 fn refusals(rt: HostRuntime) -> Result<(), Fail> {
     assert!(rt; begins(&rt));
-    let told = "standard input is the file, and cannot have the cap too\ngrid: 2 BadParameters\n";
-    assert!(rt; is_refused(&rt, "- --cap-file -", 3, told)?);
-    let told = "--segment is 0, and may be 1 to 1048576\ngrid: 2 BadParameters\n";
-    let words = format!(in rt.alloc(); "/dev/null {ONE_CAP} --segment 0")?;
-    assert!(rt; is_refused(&rt, words.as_str(), 3, told)?);
-    let gone = verify(&rt, format!(in rt.alloc(); "/none {ONE_CAP}")?.as_str())?;
-    assert!(rt; gone.status == 7 && gone.out.is_empty());
-    let no_cap = verify(&rt, "/dev/null URI:LIT:1")?;
-    assert!(rt; no_cap.status == 3 && no_cap.out.is_empty());
-    let no_grid = format!(in rt.alloc(); "/dev/null {ONE_CAP} --grid {}", path(&rt, "/grid")?)?;
-    assert!(rt; verify(&rt, no_grid.as_str())?.status == 7);
-    assert!(rt; verify(&rt, "/dev/null")?.status == 2 && verify(&rt, "")?.status == 2);
-    assert!(rt; verify(&rt, "--caps caps --segment 20")?.status == 2);
-    assert!(rt; verify(&rt, "/dev/null URI:LIT: --into here")?.status == 2);
+    for (words, status, told) in REFUSALS {
+        assert!(rt; is_refused(&rt, words, status, told)?, "{words}");
+    }
     assert!(rt; removes_all(&rt));
     Ok(())
+}
+
+// Whether a verify of these bytes by the cap in a file tells that they differ, and this.
+fn tells_why(rt: &HostRuntime, bytes: &[u8], told: &str) -> Result<bool, Fail> {
+    write(rt, bytes)?;
+    let ended = verify(rt, "@/file -v --cap-file @/cap")?;
+    Ok(ended.is(5, b"differs\n", placed(rt, told)?.as_str()))
 }
 
 // With -v it is told why a file differs; and a cap may stand in a file.
 #[test]
 fn reasons(rt: HostRuntime) -> Result<(), Fail> {
     assert!(rt; begins(&rt));
-    let (file, cap) = (path(&rt, "/file")?, path(&rt, "/cap")?);
-    write(&rt, &[0; 56])?;
-    fs::write(&rt, cap.as_str(), COUNTED_CAP)?;
-    let words = format!(in rt.alloc(); "{file} -v --cap-file {cap}")?;
-    let told = format!(in rt.alloc();
-        "the file has the size of its cap, but other bytes, or another secret or segment size \
-        ({file})\n"
-    )?;
-    assert!(rt; verify(&rt, words.as_str())?.is(5, b"differs\n", told.as_str()));
-    write(&rt, b"one")?;
-    let told = format!(in rt.alloc(); "the file has not the size of its cap ({file})\n")?;
-    assert!(rt; verify(&rt, words.as_str())?.is(5, b"differs\n", told.as_str()));
+    writes(&rt, "/cap", COUNTED_CAP.as_bytes())?;
+    let told = "the file has the size of its cap, but other bytes, or another secret or segment \
+        size (@/file)\n";
+    assert!(rt; tells_why(&rt, &[0; 56], told)?);
+    let told = "the file has not the size of its cap (@/file)\n";
+    assert!(rt; tells_why(&rt, b"one", told)?);
     assert!(rt; removes_all(&rt));
     Ok(())
 }
@@ -178,25 +203,27 @@ fn list(rt: &HostRuntime, head: &str) -> Result<(), Fail> {
     let text = format!(in rt.alloc();
         "{head}{COUNTED_CAP}  /a/file\n\\{ONE_CAP}  b\\\\\\n\n{VERIFY_CAP}  c\n{ONE_CAP}  gone\n"
     )?;
-    fs::write(rt, path(rt, "/caps")?.as_str(), text.as_str())?;
-    fs::create_dir_all(rt, path(rt, "/into/a")?.as_str())?;
-    fs::write(
-        rt,
-        path(rt, "/into/a/file")?.as_str(),
-        counted(rt, 56)?.as_slice(),
-    )?;
-    fs::write(rt, path(rt, "/into/b\\\n")?.as_str(), "one")?;
-    fs::write(rt, path(rt, "/into/c")?.as_str(), [0; 56])?;
+    writes(rt, "/caps", text.as_bytes())?;
+    makes_folder(rt, "/into/a")?;
+    writes(rt, "/into/a/file", counted(rt, 56)?.as_slice())?;
+    writes(rt, "/into/b\\\n", b"one")?;
+    writes(rt, "/into/c", &[0; 56])?;
     Ok(())
 }
 
 // A verify of this process's catalogue below its folder, with these words.
 fn over(rt: &HostRuntime, words: &str) -> Result<Ended, AllocError> {
-    let (caps, into) = (path(rt, "/caps")?, path(rt, "/into")?);
-    verify(
-        rt,
-        format!(in rt.alloc(); "--caps {caps} --into {into}{words}")?.as_str(),
-    )
+    let line = format!(in rt.alloc(); "--caps @/caps --into @/into{words}")?;
+    verify(rt, line.as_str())
+}
+
+// Whether each file has its line, and the one that is refused is told.
+fn tells_all(rt: &HostRuntime) -> Result<bool, AllocError> {
+    let lines = "same  /a/file\n\\same  b\\\\\\n\ndiffers  c\nfiles 4 same 2 differ 1 refused 1\n";
+    let all = over(rt, "")?;
+    let gone = placed(rt, "grid: 90 FileFault @/into/gone (gone)\n")?;
+    let is_told = all.err.rest().ends_with(gone.as_bytes());
+    Ok(all.status == 7 && all.out.as_slice() == lines.as_bytes() && is_told)
 }
 
 // Each file has its line in the order of the catalogue; one that is refused is told, and does not
@@ -205,16 +232,11 @@ fn over(rt: &HostRuntime, words: &str) -> Result<Ended, AllocError> {
 fn each_file_has_its_line(rt: HostRuntime) -> Result<(), Fail> {
     assert!(rt; begins(&rt));
     list(&rt, HEAD)?;
-    let lines = "same  /a/file\n\\same  b\\\\\\n\ndiffers  c\nfiles 4 same 2 differ 1 refused 1\n";
-    let all = over(&rt, "")?;
-    let gone = format!(in rt.alloc(); "grid: 90 FileFault {} (gone)\n", path(&rt, "/into/gone")?)?;
-    assert!(rt; all.status == 7 && all.out.as_slice() == lines.as_bytes());
-    assert!(rt; all.err.rest().ends_with(gone.as_bytes()));
-    let some = over(&rt, " a c")?;
+    assert!(rt; tells_all(&rt)?);
     let lines = "same  /a/file\ndiffers  c\nfiles 2 same 1 differ 1 refused 0\n";
-    assert!(rt; some.is(5, lines.as_bytes(), ""));
-    let one = over(&rt, " a")?;
-    assert!(rt; one.is(0, b"same  /a/file\nfiles 1 same 1 differ 0 refused 0\n", ""));
+    assert!(rt; over(&rt, " a c")?.is(5, lines.as_bytes(), ""));
+    let lines = "same  /a/file\nfiles 1 same 1 differ 0 refused 0\n";
+    assert!(rt; over(&rt, " a")?.is(0, lines.as_bytes(), ""));
     let told = "no file of the catalogue has such a name\ngrid: 112 BadName\n";
     assert!(rt; over(&rt, " x")?.is(3, b"files 0 same 0 differ 0 refused 0\n", told));
     assert!(rt; removes_all(&rt));
@@ -229,7 +251,7 @@ fn other_secrets(rt: HostRuntime) -> Result<(), Fail> {
     let told = "the files of the catalogue were put under another secret\ngrid: 2 BadParameters\n";
     assert!(rt; over(&rt, " --secret abc")?.is(3, b"", told));
     assert!(rt; over(&rt, " a --secret")?.status == 2);
-    fs::write(&rt, path(&rt, "/caps")?.as_str(), "URI:LIT:n5xgk  one\n")?;
+    writes(&rt, "/caps", b"URI:LIT:n5xgk  one\n")?;
     assert!(rt; over(&rt, "")?.is(3, b"", "grid: 110 NotACatalogue\n"));
     assert!(rt; removes_all(&rt));
     Ok(())
@@ -240,7 +262,7 @@ fn other_secrets(rt: HostRuntime) -> Result<(), Fail> {
 fn odd_lines(rt: HostRuntime) -> Result<(), Fail> {
     assert!(rt; begins(&rt));
     let text = format!(in rt.alloc(); "{HEAD}{ONE_CAP}  ../file\n{ONE_CAP}  b")?;
-    fs::write(&rt, path(&rt, "/caps")?.as_str(), text.as_str())?;
+    writes(&rt, "/caps", text.as_bytes())?;
     let told = "grid: 112 BadName (../file)\ngrid: 111 NotALine 3\n";
     assert!(rt; over(&rt, "")?.is(3, b"files 1 same 0 differ 0 refused 1\n", told));
     assert!(rt; removes_all(&rt));

@@ -1,13 +1,12 @@
-//! Runs of commands over files of a folder that is this process's own.
+//! Runs of commands over files of the tests' folder.
 
 use grid_commands::{DiskFiles, Environment, grid};
 use std::alloc::AllocError;
-use std::fs;
 use std::io::Write;
 use test_writers::Told;
 
-// The environment of these commands: no variable is set.
-const HERE: Environment<'static> = Environment {
+/// The environment of these commands: no variable is set.
+pub(crate) const HERE: Environment<'static> = Environment {
     known: false,
     temporary: "/tmp",
     grid: None,
@@ -50,37 +49,21 @@ impl Came {
         out.get(end.saturating_sub(26)..end).unwrap_or(&[])
     }
 
+    /// Whether it ended so, and wrote nothing.
+    pub(crate) fn is_silent(&self, status: u8) -> bool {
+        self.status == status && self.out.is_empty()
+    }
+
+    /// Whether it ended so, and wrote this.
+    pub(crate) fn wrote(&self, status: u8, out: &str) -> bool {
+        self.status == status && self.out.as_slice() == out.as_bytes()
+    }
+
     /// Whether a line with this text was told.
     pub(crate) fn tells(&self, line: &[u8]) -> bool {
         self.told
             .split(|byte| *byte == b'\n')
             .any(|told| told == line)
-    }
-}
-
-/// A path in a folder that is this process's own.
-pub(crate) fn path(rt: &HostRuntime, rest: &str) -> Result<String, AllocError> {
-    let process = std::process::id(rt.process());
-    format!(in rt.alloc(); "/tmp/grid-lists-{process}{rest}")
-}
-
-/// Makes that folder anew, with nothing in it.
-pub(crate) fn begins(rt: &HostRuntime) -> bool {
-    match path(rt, "") {
-        Ok(root) => removes_all(rt) && fs::create_dir_all(rt, root.as_str()).is_ok(),
-        Err(_) => false,
-    }
-}
-
-/// Removes it with all that it holds, where it is there.
-pub(crate) fn removes_all(rt: &HostRuntime) -> bool {
-    let Ok(root) = path(rt, "") else {
-        return false;
-    };
-    match fs::exists(rt, root.as_str()) {
-        Ok(true) => fs::remove_dir_all(rt, root.as_str()).is_ok(),
-        Ok(false) => true,
-        Err(_) => false,
     }
 }
 
@@ -138,6 +121,18 @@ pub(crate) fn run_into<O: Write>(
         out: Vec::new(rt.alloc()),
         told,
     }
+}
+
+/// Two words, and more behind them.
+pub(crate) fn joined<'a>(
+    rt: &HostRuntime,
+    first: &'a str,
+    second: &'a str,
+    more: &[&'a str],
+) -> Result<Vec<&'a str>, AllocError> {
+    let mut words = Vec::from_slice(rt.alloc(), &[first, second])?;
+    words.extend_from_slice(more)?;
+    Ok(words)
 }
 
 // The words of a command line.
