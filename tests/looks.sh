@@ -1,5 +1,6 @@
 # What the scripts have in common that look at `./grid` beside servers. They read it where `$here`
-# is the root of the project and `$grid` the program.
+# is the root of the project and `$grid` the program. `looks-at-many.sh` reads it for `sees` and
+# `counts`.
 
 differed=0
 seen=0
