@@ -3,7 +3,8 @@
 
 Puts and gets a file over ten folders, and over ten folders that `grid serve` serves, by turns. Each
 line has the processor time of a put and of a get over folders, then that of both sides together
-where the folders are served, and the ratios; the last line has the ratios of the best times.
+where the folders are served, and then the times by the clock of all four; the last two lines have
+the ratios of the best of both.
 """
 
 import os
@@ -21,11 +22,12 @@ TICKS = os.sysconf("SC_CLK_TCK")
 
 
 def ran(words, out=subprocess.PIPE):
-    """Runs a command, and returns its processor time and the first line that it printed."""
+    """Returns the processor time of a command, that by the clock, and the first line it printed."""
+    begun = time.time()
     with subprocess.Popen(words, stdout=out, stderr=subprocess.DEVNULL) as made:
         text = made.stdout.read() if made.stdout else b""
         _, _, usage = os.wait4(made.pid, 0)
-    return usage.ru_utime + usage.ru_stime, text.decode().split("\n")[0]
+    return usage.ru_utime + usage.ru_stime, time.time() - begun, text.decode().split("\n")[0]
 
 
 def time_of(servers):
@@ -54,22 +56,25 @@ def serving(room):
 
 
 def turn(room):
-    """Returns the times of a put and a get over folders, and of both where they are served."""
+    """Returns the times of a put and a get over folders, and of both where they are served: four of
+    the processor, and four by the clock."""
     shutil.rmtree("folders", ignore_errors=True)
-    put, cap = ran([GRID, "put", "file", "--grid", "folders", "--no-sync"])
+    put, put_wall, cap = ran([GRID, "put", "file", "--grid", "folders", "--no-sync"])
     with open("got", "wb") as got:
-        get, _ = ran([GRID, "get", cap, "--grid", "folders"], got)
+        get, get_wall, _ = ran([GRID, "get", cap, "--grid", "folders"], got)
     servers = serving(room)
     before = time_of(servers)
-    far_put, cap = ran([GRID, "put", "file", "--grid", "served", "--no-sync"])
+    far_put, far_put_wall, cap = ran([GRID, "put", "file", "--grid", "served", "--no-sync"])
     between = time_of(servers)
     with open("got", "wb") as got:
-        far_get, _ = ran([GRID, "get", cap, "--grid", "served"], got)
+        far_get, far_get_wall, _ = ran([GRID, "get", cap, "--grid", "served"], got)
     after = time_of(servers)
     for server in servers:
         server.kill()
         server.wait()
-    return put, get, far_put + between - before, far_get + after - between
+    far_put += between - before
+    far_get += after - between
+    return put, get, far_put, far_get, put_wall, get_wall, far_put_wall, far_get_wall
 
 
 def main():
@@ -79,12 +84,14 @@ def main():
         os.chdir(room)
         with open("file", "wb") as it:
             it.write(os.urandom(mib << 20))
-        best = [9e9] * 4
+        best = [9e9] * 8
         for _ in range(rounds):
             times = turn(room)
             best = [min(pair) for pair in zip(best, times)]
-            print("put {:.3f} get {:.3f} served {:.3f} {:.3f}".format(*times))
-        print(f"put {best[2] / best[0]:.2f} get {best[3] / best[1]:.2f}")
+            print("put {:.3f} get {:.3f} served {:.3f} {:.3f} clock {:.3f} {:.3f} {:.3f} {:.3f}"
+                  .format(*times))
+        print(f"processor put {best[2] / best[0]:.2f} get {best[3] / best[1]:.2f}")
+        print(f"clock put {best[6] / best[4]:.2f} get {best[7] / best[5]:.2f}")
 
 
 main()
